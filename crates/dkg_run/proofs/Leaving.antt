@@ -64,7 +64,7 @@ use Rattle.dkg_run.proofs.Following.{item_at, rest_at}
 use Rattle.dkg_run.proofs.Former.{IsMessage, form_at, lacks_nobody, step_taken, through_at}
 use Rattle.dkg_run.proofs.LivesStand.{before_suc}
 use Rattle.dkg_run.proofs.Ordered.{opened_in, opening_added, step_is_quiet, tells_fault, went_opened}
-use Rattle.dkg_run.proofs.Requested.{IsHeld, read_here, sent_new, stands_as}
+use Rattle.dkg_run.proofs.Requested.{IsHeld, read_here, sent_new, stands_as, untold}
 use Rattle.dkg_run.proofs.Standing.{AddsOpening, AddsQuiet, TellsFault}
 use Rattle.dkg_run.proofs.Steps.{Opening}
 use Rattle.dkg_run.proofs.Tracking.{AreTracked, InOrder, made_once, order_first, step_tracked}
@@ -315,10 +315,10 @@ module _ (g : Lived) (here : IsLifeInForm g) where
           (node_apart the_step bare st (known.held).apart sent.message (λ mail mail_sent. sent_new g here i its is st known.held sent the_step bare mail mail_sent)) lines)
 
       -- its lines say so of requests
-      says : AllByRecursion (IsSaidAt g.script g.number g.life (suc i)) lines.lines
+      says : AllByRecursion (IsSaidAt untold g.script g.number g.life (suc i)) lines.lines
       says =
           let all = step_lines g here i its is reached st known.stood known.held (went end) out now (subst (λ (k : Course U NodeStop (Live U)). Said (on_devices k) (went end) out now) (sym (sent.course (suc i) st)) lines) in
-          subst (AllByRecursion (IsSaidAt g.script g.number g.life (suc i))) (append_cancel_left out all.0 lines.lines (sym all.1 ∙ lines.added)) all.2
+          subst (AllByRecursion (IsSaidAt untold g.script g.number g.life (suc i))) (append_cancel_left out all.0 lines.lines (sym all.1 ∙ lines.added)) all.2
 
       next_tracked : AreTracked g (suc i) end ((said ++ entry.Step i ∷ []) ++ lines.lines)
       next_tracked = step_tracked g here i its is sent st (its_live g here i its is reached st known.stood) ((known.stood).at).stands known.held end node ((next.stood).at).stands (next.stood).tip said tracked bare out now lines says

@@ -17,7 +17,7 @@ use Rattle.dkg_script.specs.Promise.{Adds, AnswersDealings, KeepsDealings, RunsA
 use Rattle.dkg_script.specs.AsCut.{setting_as_cut}
 use Rattle.dkg_script.specs.SameOffers.{OffersTheSame}
 use Rattle.dkg_script.specs.Setting.{Setting, setting_of}
-use Rattle.dkg_run.specs.Answers.{AnswersSo}
+use Rattle.dkg_run.specs.Answers.{AnswersSo, AnswersThePath}
 use Rattle.dkg_run.specs.Blamed.{BlamesSo}
 use Rattle.dkg_run.specs.Causes.{HasCause}
 use Rattle.dkg_run.specs.Complete.{IsSoundRun, IsValidAsCut}
@@ -33,7 +33,7 @@ use Rattle.dkg_run.specs.Promised.{DoesRun, Promised}
 use Rattle.dkg_run.specs.Refusals.{BlamesOnlySkips}
 use Rattle.dkg_run.specs.SharesStand.{CommitsFit, Fits}
 use Rattle.dkg_run.specs.Ways.{by_lines, trace}
-use Rattle.dkg_run.proofs.Begun.{begun_answers, begun_commits, begun_keeps, begun_offers, begun_plans, begun_valid, begun_valid_uncut, begun_whole, cut_form, cut_runs, cut_script}
+use Rattle.dkg_run.proofs.Begun.{begun_answers, begun_commits, begun_keeps, begun_offers, begun_paths, begun_plans, begun_valid, begun_valid_uncut, begun_whole, cut_form, cut_runs, cut_script}
 use Rattle.dkg_run.proofs.Blaming.{run_answers, run_blames}
 use Rattle.dkg_run.proofs.Completing.{unblamed}
 use Rattle.dkg_run.proofs.Finishing.{completes}
@@ -45,7 +45,7 @@ use Rattle.dkg_run.proofs.Ordered.{run_all_lives, run_in_order}
 use Rattle.dkg_run.proofs.Places.{all_of_both}
 use Rattle.dkg_run.proofs.Skipping.{run_skips}
 use Rattle.dkg_run.proofs.Telling.{run_ends}
-use Rattle.dkg_run.proofs.Unbegun.{ToldNone, Unmoved, none_answered, none_answers, none_commits, none_completes, none_ends, none_keeps, none_left, none_offers, none_plans, none_shows, none_skips, none_valid, none_whole}
+use Rattle.dkg_run.proofs.Unbegun.{ToldNone, Unmoved, none_answered, none_answers, none_commits, none_completes, none_ends, none_keeps, none_left, none_offers, none_paths, none_plans, none_shows, none_skips, none_valid, none_whole}
 
 -- WHAT IS KNOWN OF WHAT ENDED THE LIVES is known where it is told
 pub known_told : (F : Fault → Type 0) (its answered : Fault) (mid new : List Entry) (picks : List ℕ) → F NoMemory → TellsEnd by_lines (Err its) (Err answered) (trace mid picks) (trace new picks) → F its → F answered
@@ -122,6 +122,7 @@ module _ (script : Script) (form : IsFormOfInclusion script) (o : Over) (disk_of
     pub offers : o.tells → Stands o.before.files o.before.image → OffersTheSame script o.before.files o.before.held added
     pub requests : AnswersSo script added
     pub leaves : LeavesSo script added
+    pub paths : o.tells → Stands o.before.files o.before.image → AnswersThePath script o.before.files o.before.held added
     pub shares : o.tells → Stands o.before.files o.before.image → CommitsFit script o.before.files o.before.held added
     pub complete : IfErr answered (λ its. IsSoundRun o (IsValidAsCut script added) → its ≡ NoMemory)
     pub gives_back : o.tells → GivesBack script answered o.before o.now added
@@ -152,6 +153,7 @@ module _ (script : Script) (form : IsFormOfInclusion script) (o : Over) (disk_of
         offers = λ told here form consistent. none_offers script o answered old new added is none;
         requests = none_answered script o answered old new added is none;
         leaves = none_left script o answered old new added is none;
+        paths = λ told here form history devices. none_paths script o answered old new added is none (setting_as_cut script o.before.files o.before.held added);
         shares = λ told here form consistent fit. none_commits script o answered old new added is none (Fits (setting_as_cut script o.before.files o.before.held added));
         complete = none_completes script o answered old new added is none;
         gives_back = λ told. record {
@@ -209,6 +211,8 @@ module _ (script : Script) (form : IsFormOfInclusion script) (o : Over) (disk_of
       offers = begun_offers script form checked bytes o disk_of answered old new added is runs itself left;
       requests = added_so old new added (AnswersSo script) is (run_answers script checked (lives_over script form checked) AnyFiles (trace old []) (trace new picks) answered run);
       leaves = added_so old new added (LeavesSo script) is (run_leaves script checked (lives_over script form checked) AnyFiles (trace old []) (trace new picks) answered run);
+      paths = begun_paths script form checked bytes o disk_of answered old new added is runs itself left
+          (added_so old new added (RunsInOrder its_script) is (run_in_order its_script AnyFiles (trace old []) (trace new picks) answered as_it_was) o.before.files o.before.held);
       shares = begun_commits script form checked bytes o disk_of answered old new added is runs itself left;
       complete = completed answered all_completed;
       gives_back = λ told. record {
@@ -241,6 +245,7 @@ module _ (script : Script) (form : IsFormOfInclusion script) (o : Over) (disk_of
     offers = its.offers;
     answers = its.requests;
     leaves = its.leaves;
+    paths = its.paths;
     shares = its.shares;
     complete = its.complete;
     gives_back = its.gives_back;

@@ -50,7 +50,7 @@ use Rattle.dkg_run.specs.Epochs.{IsLifeInForm, StandsInScript, any_shares, await
 use Rattle.dkg_run.specs.Given.{Lived, at_step}
 use Rattle.dkg_run.specs.Leaves.{IsOldest, IsOpen, IsSaidBy, IsVerified, Verifies}
 use Rattle.dkg_run.proofs.Accounting.{Before, IsAnsweredIn, IsKept, IsWaiting, among_both, among_last, among_left, at_first, cancelled_apart, kept_as, last_kept, none_in, step_kept}
-use Rattle.dkg_run.proofs.Answered.{IsSaidAt}
+use Rattle.dkg_run.proofs.Answered.{IsSaidAt, answered_so}
 use Rattle.dkg_run.proofs.Apart.{IsApart, IsNewOne, LacksNumber, Reads, idle_work, queued_apart}
 use Rattle.dkg_run.proofs.Asking.{dealt_same, goes, heard_same, observed_same, same_epoch}
 use Rattle.dkg_run.proofs.Delivered.{epochs_rise}
@@ -58,7 +58,7 @@ use Rattle.dkg_run.proofs.FedRequests.{asked_anew, stands_more}
 use Rattle.dkg_run.proofs.Former.{Brings, BringsBlock, BringsMail, IsMessage, brings_so, life_in, step_taken, through_at}
 use Rattle.dkg_run.proofs.HeightsRise.{awaited_rise}
 use Rattle.dkg_run.proofs.NextLives.{GoesOn, TakesOver, has_round}
-use Rattle.dkg_run.proofs.Requested.{AreHeld, AreReady, IsHeld, dealt_said, included_said, less_one, mail_said, sends_info, sent_new, stands_as, were_asked}
+use Rattle.dkg_run.proofs.Requested.{AreHeld, AreReady, IsHeld, dealt_said, included_said, less_one, mail_said, sends_info, sent_new, stands_as, untold, were_asked}
 use Rattle.dkg_run.proofs.Unanswered.{IsUnanswered, block_lines}
 
 abbrev U : Type 0
@@ -287,7 +287,7 @@ made_once g here at other n there too = by_order (cases at other)
 -- A STEP
 
 module _ (g : Lived) (here : IsLifeInForm g) (i : ℕ) (its : Event) (is : slice_get g.life.events i ≡ Some its) (m : IsMessage g its) (st : Live U) (live : IsLiveThrough (at_step g (suc i)) any_shares st) (stands : StandsInScript g i st)
-    (held : AreHeld g i st) (end : Live U) (node : IsNodeThrough (at_step g (suc i)) any_shares st m.message None end None) (behind : StandsInScript g (suc i) end) (tip : end.tip ≡ tip_in g.script g.life (suc i)) where
+    (held : AreHeld g untold i st) (end : Live U) (node : IsNodeThrough (at_step g (suc i)) any_shares st m.message None end None) (behind : StandsInScript g (suc i) end) (tip : end.tip ≡ tip_in g.script g.life (suc i)) where
   abbrev c : Fixed U
   c = at_step g (suc i)
 
@@ -608,7 +608,7 @@ module _ (g : Lived) (here : IsLifeInForm g) (i : ℕ) (its : Event) (is : slice
     asked_of n (Available payload) so = so.0
     asked_of n (Unavailable why) so = so.0
 
-    asked_now : AllByRecursion (IsSaidAt g.script g.number g.life (suc i)) lines.lines → (n : ℕ) → IsAnsweredIn n said_now → (at : ℕ) × (at < suc i) × (slice_get g.life.events at ≡ Some (event.Info n))
+    asked_now : AllByRecursion (IsSaidAt untold g.script g.number g.life (suc i)) lines.lines → (n : ℕ) → IsAnsweredIn n said_now → (at : ℕ) × (at < suc i) × (slice_get g.life.events at ≡ Some (event.Info n))
     asked_now says n answered = by_parts (in_parts n answered)
       where
         later : (a : ℕ) → a < i → a < suc i
@@ -617,7 +617,7 @@ module _ (g : Lived) (here : IsLifeInForm g) (i : ℕ) (its : Event) (is : slice
         by_parts : IsAnsweredIn n said ⊎ IsAnsweredIn n lines.lines → (at : ℕ) × (at < suc i) × (slice_get g.life.events at ≡ Some (event.Info n))
         by_parts (inl before) = let was = tracked.asked n before in (was.0, later was.0 was.1, was.2)
         by_parts (inr (answer, among)) =
-            let one = asked_of n answer (all_of (IsSaidAt g.script g.number g.life (suc i)) lines.lines (Answer n answer) among says) in (one.at, one.before, one.made)
+            let one = asked_of n answer (answered_so untold g.script g.number g.life (epoch_by g (suc i - 1)) (suc i) n answer (all_of (IsSaidAt untold g.script g.number g.life (suc i)) lines.lines (Answer n answer) among says)) in (one.at, one.before, one.made)
 
     -- WHERE NO EPOCH IS PASSED ON
     module _ (on : GoesOn c st m.message mid) where
@@ -682,7 +682,7 @@ module _ (g : Lived) (here : IsLifeInForm g) (i : ℕ) (its : Event) (is : slice
 
     record IsReading (x y : Live U) : Type 0 where
       pub read : IsReadFrom c x mid
-      pub ready : AreReady g e (suc i) st.participation.round x.inclusion
+      pub ready : AreReady g untold e (suc i) st.participation.round x.inclusion
       pub order : (low : ℕ) → low ≤ i → InOrder g i low st.inclusion.queue → InOrder g (suc i) low x.inclusion.queue
       pub goes_on : (job : Job) → x.inclusion.running ≡ Some job → RunsOn x y
 
@@ -697,7 +697,7 @@ module _ (g : Lived) (here : IsLifeInForm g) (i : ℕ) (its : Event) (is : slice
     no_work message sent other of = other (subst (λ (x : Event). Brings g x message) of (brings message sent))
 
     -- in a life with the same requests
-    of_same : (x : Live U) → IsReadFrom c x mid → AreReady g e (suc i) st.participation.round x.inclusion → x.inclusion.queue ≡ st.inclusion.queue → x.inclusion.running ≡ st.inclusion.running → x.inclusion.waiter ≡ st.inclusion.waiter
+    of_same : (x : Live U) → IsReadFrom c x mid → AreReady g untold e (suc i) st.participation.round x.inclusion → x.inclusion.queue ≡ st.inclusion.queue → x.inclusion.running ≡ st.inclusion.running → x.inclusion.waiter ≡ st.inclusion.waiter
         → (its ≡ event.Work → ⊥) → IsReading x st
     of_same x read ready queue running waiter other = record {
       read = read;
@@ -796,7 +796,7 @@ module _ (g : Lived) (here : IsLifeInForm g) (i : ℕ) (its : Event) (is : slice
           by_test true = (later_order, refl, inr refl)
           by_test false = ((λ low le order. order_kept g (suc i) low (λ r. not (r.number == request)) st.inclusion.queue (later_order low le order)), refl, inl refl)
 
-      changed_reading : (request : ℕ) (f : Request U → Request U) → IsReadFrom c (changed request f st) mid → AreReady g e (suc i) st.participation.round (changed request f st).inclusion
+      changed_reading : (request : ℕ) (f : Request U → Request U) → IsReadFrom c (changed request f st) mid → AreReady g untold e (suc i) st.participation.round (changed request f st).inclusion
           → ((r : Request U) → (f r).number ≡ r.number) → (its ≡ event.Work → ⊥) → IsReading (changed request f st) st
       changed_reading request f read ready same other = record {
         read = read;
@@ -808,7 +808,7 @@ module _ (g : Lived) (here : IsLifeInForm g) (i : ℕ) (its : Event) (is : slice
       moved : IsMoved before
       moved = by_message m.message refl (node.next).is
         where
-          ready : (mail : Mail U) → m.message ≡ Sent mail → AreReady g e (suc i) st.participation.round (asked_by mail st).inclusion
+          ready : (mail : Mail U) → m.message ≡ Sent mail → AreReady g untold e (suc i) st.participation.round (asked_by mail st).inclusion
           ready mail sent = mail_said g here i its is st held mail (brings (Sent mail) sent)
 
           queued_order : (request : ℕ) → its ≡ event.Info request → (low : ℕ) → low ≤ i → InOrder g i low st.inclusion.queue
@@ -1117,7 +1117,7 @@ module _ (g : Lived) (here : IsLifeInForm g) (i : ℕ) (its : Event) (is : slice
               (at_end (λ (y : Inclusion U). y.waiter ≡ before.inclusion.waiter) (ap (λ (y : Inclusion U). y.waiter) same ∙ sym (ap (λ (y : Live U). y.inclusion.waiter) as_st)))
 
     -- ALL OF THEM
-    pub step_tracked : AllByRecursion (IsSaidAt g.script g.number g.life (suc i)) lines.lines → AreTracked g (suc i) end said_now
+    pub step_tracked : AllByRecursion (IsSaidAt untold g.script g.number g.life (suc i)) lines.lines → AreTracked g (suc i) end said_now
     step_tracked says = either (goes g here i its is m st live stands None end None node behind)
       where
         with_mid : (P : Inclusion U → Type 0) → P mid.inclusion → P end.inclusion

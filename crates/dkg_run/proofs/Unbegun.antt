@@ -22,13 +22,13 @@ use Rattle.dkg_text.specs.declared.script.Script.{Script}
 use Rattle.dkg_script.specs.AsCut.{setting_as_cut}
 use Rattle.dkg_script.specs.Kept.{AllCurrent, Gives, IsSound, Kept}
 use Rattle.dkg_script.specs.Position.{begun}
-use Rattle.dkg_script.specs.Progress.{at_start, progress}
+use Rattle.dkg_script.specs.Progress.{AtEachEntry, at_start, progress}
 use Rattle.dkg_script.specs.Promise.{AreHonestStores, KeepsDealings, cuts_in}
 use Rattle.dkg_script.specs.SameOffers.{SameOffers}
 use Rattle.dkg_script.specs.Setting.{Setting, listed, recovered_from, setting_of}
 use Rattle.dkg_script.proofs.Listed.{gives_all}
 use Rattle.dkg_script.proofs.EachEntry.{EachAfter, at_each}
-use Rattle.dkg_run.specs.Answers.{AnswersSo, IsAnswer}
+use Rattle.dkg_run.specs.Answers.{AnswersSo, IsAnswer, IsPathAnswer}
 use Rattle.dkg_run.specs.Complete.{IsSoundRun, IsValidAsCut}
 use Rattle.dkg_script.specs.Ends.{EndsScript}
 use Rattle.dkg_run.specs.Epochs.{refused_config}
@@ -190,6 +190,10 @@ module _ (script : Script) (o : Over) (answered : Result (Unit {0}) Fault) (old 
   pub none_answered : AnswersSo script added
   none_answered = by_why (λ r es. AnswersSo script es) (λ files held. at_each (setting_of script files held) (IsAnswer script) [] tt)
       (λ fault refused files held. at_each (setting_of script files held) (IsAnswer script) (entry.Fault fault ∷ []) (tt, tt))
+
+  -- .. and none by a path
+  pub none_paths : (s : Setting) → AtEachEntry s (IsPathAnswer s) added
+  none_paths s = by_why (λ r es. AtEachEntry s (IsPathAnswer s) es) (at_each s (IsPathAnswer s) [] tt) (λ fault refused. at_each s (IsPathAnswer s) (entry.Fault fault ∷ []) (tt, tt))
 
   -- .. and nothing is committed
   pub none_commits : (So : ℕ → ℕ → Type 0) (epoch share : ℕ) → Contains added (entry.Committed epoch (Some share)) → So epoch share

@@ -9,7 +9,7 @@ use Rattle.dkg_text.specs.declared.script.Script.{Script}
 use Rattle.dkg_script.specs.AsCut.{setting_as_cut}
 use Rattle.dkg_script.specs.SameOffers.{OffersTheSame}
 use Rattle.dkg_script.specs.Promise.{AnswersDealings, KeepsDealings, RunsAll, RunsInOrder, cuts_in}
-use Rattle.dkg_run.specs.Answers.{AnswersSo}
+use Rattle.dkg_run.specs.Answers.{AnswersSo, AnswersThePath}
 use Rattle.dkg_run.specs.Complete.{IsSoundRun, IsValidAsCut}
 use Rattle.dkg_run.specs.Blamed.{BlamesSo}
 use Rattle.dkg_script.specs.Ends.{EndsScript}
@@ -59,6 +59,8 @@ pub record Promised (script : Script) (o : Over) (result : Result (Unit {0}) Fau
   pub answers : AnswersSo script added
   -- .. and a completed step of a life that takes part, past its epoch's midpoint, leaves no request open unless a verification runs or the oldest one that is open still needs blocks.
   pub leaves : LeavesSo script added
+  -- Where the past is whole, the logs of an available answer are those of one linked path of blocks.
+  pub paths : o.tells → Stands o.before.files o.before.image → AnswersThePath script o.before.files o.before.held added
   -- Each share that is committed is this node's in the output that its epoch's info carries.
   pub shares : o.tells → Stands o.before.files o.before.image → CommitsFit script o.before.files o.before.held added
   -- A valid script over valid devices, of which no count rises, is run to its end, unless memory runs out.

@@ -1,0 +1,498 @@
+-- What a life holds of shares, and its seat, from step to step: each share of an epoch that it holds was handed in or is told, or an earlier life was cut within a step into that epoch; the last setup that its
+-- lines tell is its own; and what it has read of its epoch's share is still so.
+use Rattle.std.proofs.Common.{◌≡◌, ◌⊎◌, inl, inr, ℕ, Bool, true, false, suc, ◌+◌, ◌-◌, ◌<◌, ◌≤◌, List, [], ◌∷◌, ◌++◌, Option, Some, None, refl, sym, ◌∙◌, ap, subst, length, arith, fold, add-one, append_assoc}
+use Rattle.std.specs.Prelude.{slice_get, ◌==◌, ◌||◌, ◌↔◌, Contains, IsSome, is_some, max, not, if◌then◌else◌}
+use Rattle.std.specs.FinMap.{get}
+use Rattle.std.specs.Option.{option_map_or}
+use Rattle.std.proofs.lemmas.List.{append_cancel_left}
+use Rattle.std.proofs.lemmas.List.Elements.{Contains-append_cases, Contains-append_left, Contains-append_right, Contains-push_cases}
+use Rattle.std.proofs.lemmas.List.Sums.{fold-append}
+use Rattle.dkg_values.specs.Rising.{lookup}
+use Rattle.dkg_ceremony.specs.Schedule.{epoch_of, last}
+use Rattle.dkg_ceremony.specs.declared.round.RoundParts.{RoundParts as Round}
+use Rattle.dkg_journal.specs.Burn.{Burn}
+use Rattle.dkg_journal.specs.Names.{Files}
+use Rattle.dkg_types.specs.BlockCodes.{info_of}
+use Rattle.dkg_types.specs.Blocks as made
+use Rattle.dkg_types.specs.declared.directory.Unit as directory
+use Rattle.dkg_types.specs.declared.entry.Entry.{Entry}
+use Rattle.dkg_types.specs.declared.entry.Entry.TheVariants as entry
+use Rattle.dkg_types.specs.declared.entry.Part.{Part}
+use Rattle.dkg_types.specs.declared.info.EpochInfo.{EpochInfo}
+use Rattle.dkg_text.specs.declared.script.Cut as cut
+use Rattle.dkg_text.specs.declared.script.Event as script
+use Rattle.dkg_text.specs.declared.script.Event.TheVariants as event
+use Rattle.dkg_text.specs.declared.script.Life.{Life}
+use Rattle.dkg_script.specs.Consistent.{IsConsistentScript}
+use Rattle.dkg_script.specs.Inclusion.{IsFormOfInclusion}
+use Rattle.dkg_script.specs.OwnMarks.{IsKnownAt}
+use Rattle.dkg_script.specs.Position.{awaited_before, awaited_epoch, awaited_height, begun, begun_before, cut_of}
+use Rattle.dkg_script.specs.Progress.{Progress, read}
+use Rattle.dkg_script.specs.Setting.{CutAt, Setting, blocks_per_epoch, is_oneshot, life_at, me}
+use Rattle.dkg_store.specs.Acts.{Ended, Held, World, broken, says, stopped, went}
+use Rattle.dkg_core.specs.Asked.{Cached, OfShares}
+use Rattle.dkg_core.specs.Behind.{event_of}
+use Rattle.dkg_core.specs.Blocks as b
+use Rattle.dkg_core.specs.Courses.{Course, EndsSo}
+use Rattle.dkg_core.specs.Endings.{CameTo, first_block, first_epoch, seat_in}
+use Rattle.dkg_core.specs.Fixed.{Fixed, OneShot, has}
+use Rattle.dkg_core.specs.Forms.{Applied, IsNodeBegun, IsOpeningStop, IsSeated, Judged, LeavesHeld, Passed, Refusal, held_behind, judged_block, seed_read, share_read, started}
+use Rattle.dkg_core.specs.Live as core
+use Rattle.dkg_core.specs.Live.{Deals, Ends, Finalized, Follows, Includes, Live, Message, NodeStop, Peer, Plays, Seat, Sent, Stage, Watches, is_last_height, of_epoch}
+use Rattle.dkg_core.specs.Logs.{logs_of}
+use Rattle.dkg_core.specs.Node.{node_opening, node_step}
+use Rattle.dkg_core.specs.NodeEndings.{IsFaultBy}
+use Rattle.dkg_core.specs.NodeThrough.{IsActiveThrough, IsNodeThrough}
+use Rattle.dkg_core.specs.Seen.{Seen}
+use Rattle.dkg_core.specs.Setup.{Uncommitted, is_lost}
+use Rattle.dkg_core.specs.Sources.{Tip}
+use Rattle.dkg_core.specs.Storing.{ReadsSecrets}
+use Rattle.dkg_core.specs.Through.{IsLiveThrough, IsStopThrough, unasked}
+use Rattle.dkg_core.proofs.Heights.{next_last}
+use Rattle.dkg_core.proofs.Idle.{mails_are_idle}
+use Rattle.dkg_core.proofs.NodeThrough.{node_openings_through, node_steps_lead_through_over}
+use Rattle.dkg_core.proofs.Openings.{node_openings_lead_over}
+use Rattle.dkg_core.proofs.Reading.{live_as, step_reads}
+use Rattle.dkg_core.proofs.Storing.{looked_up}
+use Rattle.dkg_run.specs.Epochs.{IsLifeInForm, any_shares}
+use Rattle.dkg_run.specs.Given.{Lived, at_step, blocks_in, lived, step_of}
+use Rattle.dkg_run.specs.SharesStand.{HeldShare, WasCutInto}
+use Rattle.dkg_run.specs.Ways.{StaysHeld, by_worlds}
+use Rattle.dkg_run.proofs.Alone.{epoch_alike, height_alike}
+use Rattle.dkg_run.proofs.Awaiting.{HasHeight, IsReached, block_behind, has_height}
+use Rattle.dkg_run.proofs.AwaitedRises.{awaited_begun, begun_rises, block_reach, is_current}
+use Rattle.dkg_run.proofs.Currently.{begun_behind, begun_more}
+use Rattle.dkg_run.proofs.Former.{BringsBlock, BringsOther, BringsPeer, IsMadeOf, IsMessage, brings_kind, event_in_form, form_at, lacks_nobody, live_through, message_in, step_taken, through_at}
+use Rattle.dkg_run.proofs.KeptSteps.{IsAtStep}
+use Rattle.dkg_run.proofs.LifeSteps.{IsGoing, IsLifeOfSetting}
+use Rattle.dkg_run.proofs.LineLives.{come, come_more}
+use Rattle.dkg_run.proofs.LivesKept.{IsBetween}
+use Rattle.dkg_run.proofs.NextLives.{GoesOn, TakesOver, applied_high, has_round, next_so, with_round}
+use Rattle.dkg_run.proofs.SetUps.{IsSeatedBy, IsSetUpBy, LeadsTo, Telling, block_quiet, last_line, opening_leads, peer_quiet, plain_all, set_up_last, still_seated, taken_leads}
+use Rattle.dkg_run.proofs.SharesKnown.{IsFitting, SharesFit, mine, opening_fits, opening_fitting, reads_shares, step_fits, step_fitting}
+use Rattle.dkg_run.proofs.SharesFit.{same_shares}
+use Rattle.dkg_run.proofs.Started.{first_epoch_is}
+use Rattle.dkg_run.proofs.StoredTold.{AtCommits, Stores, TellsShare, begins_so, quiet_to, run_stores}
+
+abbrev U : Type 0
+U = directory.Unit
+
+some_is : {A : Type 0} {x y : A} → ◌≡◌ {A = Option A} (Some x) (Some y) → x ≡ y
+some_is e = cc
+
+none_some : {A : Type 0} {x : A} → ◌≡◌ {A = Option A} None (Some x) → ⊥
+none_some e = cc
+
+-- WHAT IS HELD of shares, of the epochs that aren't two below one that has begun
+pub record HoldsTold (s : Setting) (b : List Entry) (begun : ℕ) (h : Held) : Type 0 where
+  pub sound : (epoch : ℕ) → IsSome (get h.secrets.shares epoch) → HeldShare s b epoch ⊎ WasCutInto s (come s b).cuts epoch
+  pub kept : (epoch : ℕ) → begun < epoch + 2 → HeldShare s b epoch → IsSome (get h.secrets.shares epoch)
+
+-- the life plays in rounds that it is a player of
+abbrev pub IsPlayer : Setting → Live U → Type 0
+IsPlayer s st = (round : Round) → st.participation.round ≡ Some round → st.participation.seat ≡ Plays → has round.players (me s) ≡ true
+
+-- of this epoch a share is there, or none
+abbrev pub SomeAt : (epoch : ℕ) → Bool → OfShares
+SomeAt epoch held other share = other ≡ epoch → is_some share ≡ held
+
+-- HELD SHARES over more lines
+
+held_more : (s : Setting) (b added : List Entry) (epoch : ℕ) → HeldShare s b epoch → HeldShare s (b ++ added) epoch
+held_more s b added epoch (inl handed) = inl handed
+held_more s b added epoch (inr tells) = inr (tells.0, Contains-append_left b added (entry.Committed epoch (Some tells.0)) tells.1)
+
+held_told : (s : Setting) (b added : List Entry) (epoch : ℕ) → TellsShare added epoch → HeldShare s (b ++ added) epoch
+held_told s b added epoch tells = inr (tells.0, Contains-append_right b added (entry.Committed epoch (Some tells.0)) tells.1)
+
+held_parts : (s : Setting) (b added : List Entry) (epoch : ℕ) → HeldShare s (b ++ added) epoch → HeldShare s b epoch ⊎ TellsShare added epoch
+held_parts s b added epoch (inl handed) = inl (inl handed)
+held_parts s b added epoch (inr tells) = elim (Contains-append_cases b added (entry.Committed epoch (Some tells.0)) tells.1) [
+  | inl before ↦ inl (inr (tells.0, before))
+  | inr here ↦ inr (tells.0, here)
+]
+
+-- a line that commits nothing
+abbrev IsUncommitted : Entry → Type 0
+IsUncommitted line = (epoch share : ℕ) → line ≡ entry.Committed epoch (Some share) → ⊥
+
+held_behind_line : (s : Setting) (b : List Entry) (line : Entry) → IsUncommitted line → (epoch : ℕ) → HeldShare s (b ++ line ∷ []) epoch → HeldShare s b epoch
+held_behind_line s b line none epoch (inl handed) = inl handed
+held_behind_line s b line none epoch (inr tells) = elim (Contains-push_cases b line (entry.Committed epoch (Some tells.0)) tells.1) [
+  | inl before ↦ inr (tells.0, before)
+  | inr here ↦ absurd (none epoch tells.0 here)
+]
+
+cut_more : (s : Setting) (cuts more : List (Option CutAt)) (epoch : ℕ) → WasCutInto s cuts epoch → WasCutInto s (cuts ++ more) epoch
+cut_more s cuts more epoch its = record {
+  l = its.l;
+  earlier = longer its.l (length cuts) (length (cuts ++ more)) its.earlier (length_more cuts more);
+  life = its.life;
+  life_is = its.life_is;
+  at = its.at;
+  at_is = ap (λ (o : Option (Option CutAt)). option_flatten o) (there cuts its.l its.earlier) ∙ its.at_is;
+  within = its.within;
+  awaited = its.awaited;
+}
+  where
+    longer : (x y z : ℕ) → x < y → y ≤ z → x < z
+    longer x y z p q = omega (arith, p, q)
+
+    length_more : (xs ys : List (Option CutAt)) → length xs ≤ length (xs ++ ys)
+    length_more xs ys = let is = length-append xs ys in omega (arith, is)
+
+    there : (xs : List (Option CutAt)) (k : ℕ) → k < length xs → slice_get (xs ++ more) k ≡ slice_get xs k
+    there [] k low = absurd (omega (arith, low))
+    there (x ∷ xs) zero low = refl
+    there (x ∷ xs) (suc k) low = there xs k (omega (arith, low))
+
+-- a life that was cut within a step into the epoch, as the last of these
+cut_last : (s : Setting) (cuts : List (Option CutAt)) (l : ℕ) (life : Life) (at : CutAt) (epoch : ℕ) → length cuts ≡ l → life_at s l ≡ Some life → 0 < at.call → awaited_epoch s l life at.step ≡ epoch → WasCutInto s (cuts ++ Some at ∷ []) epoch
+cut_last s cuts l life at epoch lives life_is within awaited = record {
+  l = l;
+  earlier = let is = length-append cuts (Some at ∷ []) in omega (arith, is, lives);
+  life = life;
+  life_is = life_is;
+  at = at;
+  at_is = ap (λ (k : ℕ). cut_of (cuts ++ Some at ∷ []) k) (sym lives) ∙ ap (λ (o : Option (Option CutAt)). option_flatten o) (item cuts);
+  within = within;
+  awaited = awaited;
+}
+  where
+    item : (xs : List (Option CutAt)) → slice_get (xs ++ Some at ∷ []) (length xs) ≡ Some (Some at)
+    item [] = refl
+    item (x ∷ xs) = item xs
+
+-- SHARES THAT WERE READ, said otherwise where none is cached, or where they were
+
+live_emptied : (c : Fixed U) (stored more : OfShares) (st : Live U) → IsLiveThrough c stored st → st.inclusion.cached ≡ None → IsLiveThrough c more st
+live_emptied c stored more st live none =
+    let its = live.asked.has in
+    record {
+      stands = live.stands;
+      informed = live.informed;
+      asked = record {
+        has = record {
+          served = its.served;
+          none = its.none;
+          early = its.early;
+          waits = its.waits;
+          runs = its.runs;
+          kept = its.kept;
+          made = λ d is. absurd (none_some (sym none ∙ is));
+        };
+        read = live.asked.read;
+      };
+    }
+
+module _ (s : Setting) (ends : List (Option CutAt)) (form : IsFormOfInclusion s.script) (reshares : is_oneshot s ≡ false) (consistent : IsConsistentScript s ends) (secrets : (seen : Held → Seen) → by_worlds.reads seen → ReadsSecrets seen)
+    (l : ℕ) (life : Life) (seen : Held → Seen) (files : Files) (life_is : life_at s l ≡ Some life) (reads : by_worlds.reads seen) (here : IsLifeInForm (lived s.script l life seen files)) (its_meant : IsLifeOfSetting s ends (lived s.script l life seen files))
+    (cuts : List (Option CutAt)) (back : awaited_before s cuts l ≤ awaited_epoch s l life 0 + 1) where
+  abbrev g : Lived
+  g = lived s.script l life seen files
+
+  abbrev n : ℕ
+  n = blocks_per_epoch s
+
+  abbrev e : ℕ → ℕ
+  e i = awaited_epoch s l life i
+
+  abbrev bg : ℕ → ℕ
+  bg i = begun s cuts l i
+
+  abbrev c : ℕ → Fixed U
+  c i = at_step g i
+
+  some : 1 ≤ n
+  some = one n here.long
+    where
+      one : (n : ℕ) → 2 ≤ n → 1 ≤ n
+      one n long = omega (arith, long)
+
+  its_secrets : ReadsSecrets seen
+  its_secrets = secrets seen reads
+
+  blocks_are : (i : ℕ) → (c i).blocks_per_epoch ≡ n
+  unfolding at_step
+  blocks_are i = refl
+
+  me_is : (i : ℕ) → (c i).me ≡ me s
+  unfolding at_step
+  me_is i = refl
+
+  -- WHAT HOLDS behind the first i events
+  pub record ExactHere (i : ℕ) (st : Live U) (w : World) (b : List Entry) : Type 0 where
+    pub shares : SharesFit s w.held
+    pub fitting : IsFitting s (c i) st
+    pub held : HoldsTold s b (bg i) w.held
+    pub seated : IsSeatedBy (set_up_last None b) st
+    pub player : IsPlayer s st
+    pub live : IsLiveThrough (c i) (SomeAt (e i) (is_some (get w.held.secrets.shares (e i)))) st
+
+  -- what a read of the awaited epoch's share finds
+  some_read : (i : ℕ) (h : Held) (epoch : ℕ) → SomeAt (e i) (is_some (get h.secrets.shares (e i))) epoch (lookup epoch ((c (suc i)).seen h).shares)
+  some_read i h epoch same =
+      ap is_some (ap (lookup epoch) (reads_shares s ends form consistent l life seen files life_is its_secrets (suc i) h) ∙ looked_up epoch h.secrets.shares) ∙ ap (λ (x : ℕ). is_some (get h.secrets.shares x)) same
+
+  -- LINES behind a step
+
+  -- one more line tells of more cuts, if any
+  cuts_behind : (b : List Entry) (line : Entry) → (more : List (Option CutAt)) × ((come s (b ++ line ∷ [])).cuts ≡ (come s b).cuts ++ more)
+  cuts_behind b line = let its = cuts_all s (line ∷ []) (come s b) in (its.0, ap (λ (p : Progress). p.cuts) (come_more s b line) ∙ its.1)
+
+  holds_later : (b : List Entry) (old now : ℕ) (h : Held) → old ≤ now → HoldsTold s b old h → HoldsTold s b now h
+  holds_later b old now h low its = record { sound = its.sound; kept = λ epoch left told. its.kept epoch (omega (arith, low, left)) told }
+
+  holds_same : (b : List Entry) (old : ℕ) (h k : Held) → k.secrets.shares ≡ h.secrets.shares → HoldsTold s b old h → HoldsTold s b old k
+  holds_same b old h k same its = record {
+    sound = λ epoch some. its.sound epoch (subst (λ m. IsSome (get m epoch)) same some);
+    kept = λ epoch left told. subst (λ m. IsSome (get m epoch)) (sym same) (its.kept epoch left told);
+  }
+
+  -- behind a line that commits nothing
+  holds_behind : (b : List Entry) (line : Entry) (now : ℕ) (h : Held) → IsUncommitted line → HoldsTold s b now h → HoldsTold s (b ++ line ∷ []) now h
+  holds_behind b line now h none its = record {
+    sound = λ epoch some. elim (its.sound epoch some) [
+      | inl held ↦ inl (held_more s b (line ∷ []) epoch held)
+      | inr was ↦ inr (subst (λ (cs : List (Option CutAt)). WasCutInto s cs epoch) (sym (cuts_behind b line).1) (cut_more s (come s b).cuts (cuts_behind b line).0 epoch was))
+    ];
+    kept = λ epoch left told. its.kept epoch left (held_behind_line s b line none epoch told);
+  }
+
+  -- WHAT A COURSE LEAVES, which told what it stored
+  module _ (Into : ℕ → Type 0) (At : Option (ℕ × Part) → Type 0) (w new : World) (x0 y : Telling) (b : List Entry) (was now : ℕ) (old : HoldsTold s b was w.held) (rises : was ≤ now) (its : Stores Into (now - 1) At w x0 new y) where
+    stored_sound : (epoch : ℕ) → IsSome (get new.held.secrets.shares epoch) → HeldShare s (b ++ its.added) epoch ⊎ (WasCutInto s (come s b).cuts epoch ⊎ (y.untold ≡ Some epoch))
+    stored_sound epoch some = elim (its.sound epoch some) [
+      | inl before ↦ elim (old.sound epoch before) [
+        | inl held ↦ inl (held_more s b its.added epoch held)
+        | inr cut ↦ inr (inl cut)
+      ]
+      | inr (inl tells) ↦ inl (held_told s b its.added epoch tells)
+      | inr (inr untold) ↦ inr (inr untold)
+    ]
+
+    stored_kept : (epoch : ℕ) → now < epoch + 2 → HeldShare s (b ++ its.added) epoch → IsSome (get new.held.secrets.shares epoch)
+    stored_kept epoch left told = elim (held_parts s b its.added epoch told) [
+      | inl before ↦ its.kept epoch (omega (arith, left)) (inl (old.kept epoch (omega (arith, rises, left)) before))
+      | inr tells ↦ its.kept epoch (omega (arith, left)) (inr tells)
+    ]
+
+    -- at its end
+    left_holds : y.untold ≡ None → (come s (b ++ its.added)).cuts ≡ (come s b).cuts → HoldsTold s (b ++ its.added) now new.held
+    left_holds none same = record {
+      sound = λ epoch some. elim (stored_sound epoch some) [
+        | inl held ↦ inl held
+        | inr (inl cut) ↦ inr (subst (λ (cs : List (Option CutAt)). WasCutInto s cs epoch) (sym same) cut)
+        | inr (inr untold) ↦ absurd (none_some (sym none ∙ untold))
+      ];
+      kept = stored_kept;
+    }
+
+    -- .. and where it is cut, behind the line of the cut
+    cut_holds : (at : cut.Cut) → (come s (b ++ its.added)).cuts ≡ (come s b).cuts → length (come s b).cuts ≡ l → ((epoch : ℕ) → Into epoch → awaited_epoch s l life at.step ≡ epoch) → 0 < at.call
+        → HoldsTold s ((b ++ its.added) ++ entry.Cut at.step at.call ∷ []) now new.held
+    cut_holds at same lives into within = record {
+      sound = λ epoch some. elim (stored_sound epoch some) [
+        | inl held ↦ inl (held_more s (b ++ its.added) (entry.Cut at.step at.call ∷ []) epoch held)
+        | inr (inl cut) ↦ inr (subst (λ (cs : List (Option CutAt)). WasCutInto s cs epoch) (sym cuts_are) (cut_more s (come s b).cuts (Some here_cut ∷ []) epoch cut))
+        | inr (inr untold) ↦ inr (subst (λ (cs : List (Option CutAt)). WasCutInto s cs epoch) (sym cuts_are) (cut_last s (come s b).cuts l life here_cut epoch lives life_is within (into epoch (its.into epoch untold))))
+      ];
+      kept = λ epoch left told. stored_kept epoch left (held_behind_line s (b ++ its.added) (entry.Cut at.step at.call) (λ k share e. (let wrong : ◌≡◌ {A = Entry} (entry.Cut at.step at.call) (entry.Committed k (Some share)) = e in cc)) epoch told);
+    }
+      where
+        here_cut : CutAt
+        here_cut = record { step = at.step; call = at.call }
+
+        cuts_are : (come s ((b ++ its.added) ++ entry.Cut at.step at.call ∷ [])).cuts ≡ (come s b).cuts ++ Some here_cut ∷ []
+        cuts_are = ap (λ (p : Progress). p.cuts) (come_more s (b ++ its.added) (entry.Cut at.step at.call)) ∙ ap (λ (cs : List (Option CutAt)). cs ++ Some here_cut ∷ []) same
+
+  -- what has begun, behind a cut
+  begun_cut : (b : List Entry) (at : cut.Cut) (j : ℕ) → length (come s b).cuts ≡ l → (come s b).cuts ≡ cuts → events_taken life (Some (record { step = at.step; call = at.call })) ≡ j
+      → begun_before s (come s (b ++ entry.Cut at.step at.call ∷ [])).cuts (length (come s (b ++ entry.Cut at.step at.call ∷ [])).cuts) ≡ bg j
+  begun_cut b at j lives are taken =
+      ap (λ (p : Progress). begun_before s p.cuts (length p.cuts)) (come_more s b (entry.Cut at.step at.call))
+      ∙ ap (begun_before s ((come s b).cuts ++ Some (record { step = at.step; call = at.call }) ∷ [])) (longer (come s b).cuts (Some (record { step = at.step; call = at.call })) ∙ ap suc lives)
+      ∙ begun_behind s reshares (come s b).cuts l life (Some (record { step = at.step; call = at.call })) lives life_is
+      ∙ ap (λ (cs : List (Option CutAt)). begun s cs l (events_taken life (Some (record { step = at.step; call = at.call })))) are ∙ ap bg taken
+    where
+      longer : (xs : List (Option CutAt)) (x : Option CutAt) → length (xs ++ x ∷ []) ≡ suc (length xs)
+      longer [] x = refl
+      longer (y ∷ xs) x = ap suc (longer xs x)
+
+  -- WHAT HOLDS BETWEEN LIVES
+  pub record ExactBetween (w : World) (b : List Entry) : Type 0 where
+    pub shares : SharesFit s w.held
+    pub held : HoldsTold s b (begun_before s (come s b).cuts (length (come s b).cuts)) w.held
+
+  -- the same of lines that are as they were
+  seated_told : (b added : List Entry) (y : Telling) (end : Live U) → y.last ≡ set_up_last (set_up_last None b) added → IsSeatedBy y.last end → (i : ℕ) → IsSeatedBy (set_up_last None ((b ++ added) ++ entry.Step i ∷ [])) end
+  seated_told b added y end same seated i =
+      subst (λ (o : Option (ℕ × Part)). IsSeatedBy o end) (same ∙ sym (fold-append last_line None b added) ∙ sym (fold-append last_line None (b ++ added) (entry.Step i ∷ []))) seated
+
+  uncommitted_step : (i : ℕ) → IsUncommitted (entry.Step i)
+  uncommitted_step i k share e = let wrong : ◌≡◌ {A = Entry} (entry.Step i) (entry.Committed k (Some share)) = e in cc
+
+  -- A STEP
+  module _ (marks : Type 0) (i : ℕ) (its : script.Event) (is : slice_get life.events i ≡ Some its) (reached : IsReached life.cut (suc i)) (st : Live U) (w : World) (before : List Entry) (at : IsAtStep l life (suc i) s (come s before))
+      (are : (come s before).cuts ≡ cuts) (going : IsGoing s ends l life seen files here its_meant cuts back marks i st w.held (come s before)) (also : ExactHere i st w before) (f : Burn) (ended : Ended NodeStop (Live U)) (new : World)
+      (run : EndsSo (step_of g (suc i) its st) ended (record w { fuse = f }) new) where
+    abbrev C : Fixed U
+    C = c (suc i)
+
+    abbrev begun_w : World
+    begun_w = record w { fuse = f }
+
+    m : IsMessage g its
+    m = message_in g its (event_in_form g here i its is)
+
+    abbrev x0 : Telling
+    x0 = record { last = set_up_last None before; untold = None }
+
+    abbrev Into : ℕ → Type 0
+    Into epoch = awaited_epoch s l life (suc i) ≡ epoch
+
+    abbrev At : Option (ℕ × Part) → Type 0
+    At last = last ≡ set_up_last None before
+
+    abbrev most : ℕ
+    most = bg (suc i) - 1
+
+    rises : bg i ≤ bg (suc i)
+    rises = begun_rises s reshares l life life_is cuts some back i
+
+    active : IsActiveThrough st
+    active = going.at.active
+
+    its_live : IsLiveThrough C any_shares st
+    its_live = live_through g any_shares i (suc i) st going.at.live
+
+    run_of : (message : Message U) → m.message ≡ message → EndsSo (node_step C (event_of message) st) ended begun_w new
+    run_of message same = subst (λ (x : Message U). EndsSo (node_step C (event_of x) st) ended begun_w new) same (subst (λ (course : Course U NodeStop (Live U)). EndsSo course ended begun_w new) (m.course (suc i) st) run)
+
+    -- an epoch's last block is taken over, or nothing is set up
+    abbrev Takes : Type 0
+    Takes = (block : made.Block U) × (m.message ≡ Finalized block) × (judged_block C block st ≡ Applied) × (is_last_height C block.height ≡ true)
+
+    abbrev TakesNone : Type 0
+    TakesNone = (block : made.Block U) → m.message ≡ Finalized block → judged_block C block st ≡ Applied → is_last_height C block.height ≡ true → (st.participation.stage ≡ Follows) ⊎ (st.participation.stage ≡ Includes) → ⊥
+
+    abbrev StoredBy : (goes : Telling → Live U → Type 0) → Type 0
+    StoredBy goes = Leaves Into most At begun_w x0 goes ended new
+
+    abbrev Stored : Type 0
+    Stored = (Takes × StoredBy IsSetUpBy) ⊎ (TakesNone × StoredBy (λ y end. y ≡ x0))
+
+    start : Stores Into most At begun_w x0 begun_w x0
+    start = begins_so Into most At begun_w x0 refl
+
+    quiet : (message : Message U) → m.message ≡ message → TakesNone → IsQuiet (node_step C (event_of message) st) → Stored
+    quiet message same none so = inr (none, run_stores Into most At begun_w x0 (λ y end. y ≡ x0) (node_step C (event_of message) st) ended begun_w new x0 (quiet_to Into most At x0 (node_step C (event_of message) st) so) start (run_of message same))
+
+    no_block : (mail : Mail U) → m.message ≡ Sent mail → TakesNone
+    no_block mail same block is_block applied last stage = let wrong : ◌≡◌ {A = Message U} (Sent mail) (Finalized block) = sym same ∙ is_block in cc
+
+    stored : Stored
+    stored = by_kind (brings_kind g its m.message m.brings)
+      where
+        -- A BLOCK
+        by_block : (number : ℕ) (made_it : IsMadeOf g.script number) → its ≡ event.Final number → m.message ≡ Finalized made_it.block → Stored
+        by_block number made_it of message_is = by_tests (judged_block C block st) refl (is_last_height C block.height) refl
+          where
+            block : made.Block U
+            block = made_it.block
+
+            event_is : slice_get life.events i ≡ Some (event.Final number)
+            event_is = is ∙ ap (λ (x : script.Event). Some x) of
+
+            its_height : HasHeight s number block
+            its_height = has_height s number block made_it.line made_it.line_is made_it.is
+
+            the_block : {x y : made.Block U} → ◌≡◌ {A = Message U} (Finalized x) (Finalized y) → x ≡ y
+            the_block e = cc
+
+            other : (judged_block C block st ≡ Applied → is_last_height C block.height ≡ true → (st.participation.stage ≡ Deals) ⊎ (st.participation.stage ≡ Ends)) → Stored
+            other so = quiet (Finalized block) message_is none (block_quiet C block st so)
+              where
+                apart : (stage : Stage) → (stage ≡ Deals) ⊎ (stage ≡ Ends) → (stage ≡ Follows) ⊎ (stage ≡ Includes) → ⊥
+                apart stage (inl deals) (inl follows) = let wrong : ◌≡◌ {A = Stage} Deals Follows = sym deals ∙ follows in cc
+                apart stage (inl deals) (inr includes) = let wrong : ◌≡◌ {A = Stage} Deals Includes = sym deals ∙ includes in cc
+                apart stage (inr ends_it) (inl follows) = let wrong : ◌≡◌ {A = Stage} Ends Follows = sym ends_it ∙ follows in cc
+                apart stage (inr ends_it) (inr includes) = let wrong : ◌≡◌ {A = Stage} Ends Includes = sym ends_it ∙ includes in cc
+
+                none : TakesNone
+                none x is_x applied last stage =
+                    let same : x ≡ block = the_block (sym is_x ∙ message_is) in
+                    apart st.participation.stage (so (subst (λ (b : made.Block U). judged_block C b st ≡ Applied) same applied) (subst (λ (b : made.Block U). is_last_height C b.height ≡ true) same last)) stage
+
+            -- the epoch that is awaited behind it
+            module _ (applied : judged_block C block st ≡ Applied) (last_one : is_last_height C block.height ≡ true) where
+              height_is : awaited_height s l life (suc i) ≡ block.height + 1
+              height_is =
+                  block_behind s l life i number its_height.b event_is reached its_height.there
+                  ∙ highest (awaited_height s l life i) (its_height.b.height) block.height (sym its_height.same)
+                  (subst (λ (h : ℕ). h ≤ block.height) (going.at.stands.awaits ∙ sym (height_alike s l life (life_in g here).no_sync its_meant.none_found i)) (applied_high C block st applied))
+                where
+                  highest : (a b d : ℕ) → b ≡ d → a ≤ d → max a (b + 1) ≡ d + 1
+                  highest a b d same low = omega (arith, same, low)
+
+              epoch_is : awaited_epoch s l life (suc i) ≡ epoch_of C.blocks_per_epoch (block.height + 1)
+              epoch_is = ap (epoch_of n) height_is ∙ ap (λ (k : ℕ). epoch_of k (block.height + 1)) (sym (blocks_are (suc i)))
+
+              expected_is : awaited_epoch s l life (suc i) ≡ b.expected_epoch C block.height
+              expected_is =
+                  epoch_is ∙ next_last C.blocks_per_epoch block.height (form_at g here (suc i)).counted last_one
+                  ∙ sym (ap (λ (o : Option (OneShot U)). if is_some o then 0 else epoch_of C.blocks_per_epoch block.height + 1) (form_at g here (suc i)).reshare)
+
+              low : epoch_of C.blocks_per_epoch (block.height + 1) - 1 ≤ most
+              low = subst (λ (k : ℕ). epoch_of k (block.height + 1) - 1 ≤ most) (sym (blocks_are (suc i))) (block_reach s reshares l life life_is cuts some back i number block its_height event_is reached)
+
+              takes : (st.participation.stage ≡ Follows) ⊎ ((st.participation.stage ≡ Includes) × ((round : Round) × (st.participation.round ≡ Some round))) → Stored
+              takes stage = inl (
+                (block, message_is, applied, last_one),
+                run_stores Into most At begun_w x0 IsSetUpBy (node_step C (event_of (Finalized block)) st) ended begun_w new x0
+                    (taken_leads C Into most At (form_at g here (suc i)) block low epoch_is expected_is st x0 refl refl applied last_one stage) start (run_of (Finalized block) message_is),
+              )
+
+              by_stage : (stage : Stage) → st.participation.stage ≡ stage → Stored
+              by_stage Deals at_stage = other (λ a l. inl at_stage)
+              by_stage Ends at_stage = other (λ a l. inr at_stage)
+              by_stage Follows at_stage = takes (inl at_stage)
+              by_stage Includes at_stage =
+                  takes (inr (at_stage, has_round C (unasked st) its_live.stands (λ follows. (let wrong : ◌≡◌ {A = Stage} Includes Follows = sym at_stage ∙ follows in cc))))
+
+            by_tests : (j : Judged) → judged_block C block st ≡ j → (t : Bool) → is_last_height C block.height ≡ t → Stored
+            by_tests (Refusal fault) judged t last = other (λ applied l. absurd (let wrong : ◌≡◌ {A = Judged} (Refusal fault) Applied = sym judged ∙ applied in cc))
+            by_tests Passed judged t last = other (λ applied l. absurd (let wrong : ◌≡◌ {A = Judged} Passed Applied = sym judged ∙ applied in cc))
+            by_tests Applied judged false below = other (λ applied l. absurd (let wrong : false ≡ true = sym below ∙ l in cc))
+            by_tests Applied judged true last_one = by_stage judged last_one st.participation.stage refl
+
+        by_kind : BringsBlock g its m.message ⊎ (BringsPeer its m.message ⊎ BringsOther its m.message) → Stored
+        by_kind (inl x) = by_block x.0 x.1 x.2 x.3
+        by_kind (inr (inl p)) = quiet (Sent (Peer p.0 p.1)) p.3 (no_block (Peer p.0 p.1) p.3) (peer_quiet C p.0 p.1 st)
+        by_kind (inr (inr o)) = inr (no_block o.0 o.1, idle_stores)
+          where
+            left : LeavesIdle st ended begun_w new
+            left = mails_are_idle C o.0 st ended begun_w new o.2 active.active.unawaited (run_of (Sent o.0) o.1)
+
+            told : Stores Into most At begun_w x0 new x0
+            told = record {
+              added = left.lines;
+              out = left.out;
+              last = sym (plain_all left.lines x0.last (asked_lines left.lines left.says));
+              commits = asked_commits At left.lines x0.last left.says;
+              sound = λ epoch held. inl (subst (λ (h : Held). IsSome (get h.secrets.shares epoch)) left.held held);
+              kept = λ epoch high from. elim from [
+                | inl was ↦ subst (λ (h : Held). IsSome (get h.secrets.shares epoch)) (sym left.held) was
+                | inr tells ↦ absurd (asked_commit left.lines left.says epoch tells)
+              ];
+              put = λ epoch untold. absurd (none_some untold);
+              into = λ epoch untold. absurd (none_some untold);
+            }
+
+            idle_stores : StoredBy (λ y end. y ≡ x0)
+            idle_stores = by_end ended
+              where
+                by_end : (x : Ended NodeStop (Live U)) → Leaves Into most At begun_w x0 (λ y end. y ≡ x0) x new
+                by_end (went end) = (x0, told, refl)
+                by_end (stopped stop) = (x0, told)
+                by_end (broken cause) = (x0, told)
