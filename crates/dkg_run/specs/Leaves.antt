@@ -37,7 +37,7 @@ pub record IsOpen (life : Life) (j : ℕ) (said : List Entry) (request : ℕ) : 
   pub uncancelled : IsUncancelled (standing_of life request j)
   pub unanswered : LacksAnswer said request
 
--- .. and of the epoch that is awaited then, and none that is open was made before it
+-- .. and it is the oldest that is, made while the epoch was awaited that is awaited then
 pub record IsOldest (script : Script) (l : ℕ) (life : Life) (j : ℕ) (said : List Entry) (request : ℕ) : Type 0 where
   pub its : IsOpen life j said request
   pub of_epoch : awaited_epoch (alone script) l life its.at ≡ awaited_epoch (alone script) l life j
@@ -70,7 +70,8 @@ pub record IsVerified (script : Script) (l : ℕ) (life : Life) (epoch j : ℕ) 
   pub unanswered : LacksAnswer said request
   pub unended : (k : ℕ) → read ≤ k → k < j → slice_get life.events k ≡ Some Work → ⊥
 
--- A VERIFICATION RUNS behind the first j events. Where it started as another one ended, that was another request's: whichever a verification is for is answered where it ends, or was cancelled.
+-- A VERIFICATION RUNS behind the first j events. Where it started in the step of a `work`, that ended the verification of another request: one whose verification ends is answered in the same step, unless
+-- it was cancelled.
 pub record Verifies (script : Script) (l : ℕ) (life : Life) (epoch j : ℕ) (said : List Entry) : Type 0 where
   pub request : ℕ
   pub its : IsVerified script l life epoch j said request
