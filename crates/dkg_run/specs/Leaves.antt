@@ -26,8 +26,8 @@ abbrev U : Type 0
 U = directory.Unit
 
 -- these entries don't answer the request
-abbrev pub IsUnanswered : List Entry → (request : ℕ) → Type 0
-IsUnanswered said request = (answer : AnswerLine) → IsAmong (Answer request answer) said → ⊥
+abbrev pub LacksAnswer : List Entry → (request : ℕ) → Type 0
+LacksAnswer said request = (answer : AnswerLine) → IsAmong (Answer request answer) said → ⊥
 
 -- Behind the first j events of a life the request is open: one of them made it, none has cancelled it, and these entries don't answer it.
 pub record IsOpen (life : Life) (j : ℕ) (said : List Entry) (request : ℕ) : Type 0 where
@@ -35,9 +35,9 @@ pub record IsOpen (life : Life) (j : ℕ) (said : List Entry) (request : ℕ) : 
   pub before : at < j
   pub made : slice_get life.events at ≡ Some (Info request)
   pub uncancelled : IsUncancelled (standing_of life request j)
-  pub unanswered : IsUnanswered said request
+  pub unanswered : LacksAnswer said request
 
--- .. and of the epoch that is awaited then, and none that is open was made before it
+-- .. and it is the oldest that is, made while the epoch was awaited that is awaited then
 pub record IsOldest (script : Script) (l : ℕ) (life : Life) (j : ℕ) (said : List Entry) (request : ℕ) : Type 0 where
   pub its : IsOpen life j said request
   pub of_epoch : awaited_epoch (alone script) l life its.at ≡ awaited_epoch (alone script) l life j
@@ -67,10 +67,11 @@ pub record IsVerified (script : Script) (l : ℕ) (life : Life) (epoch j : ℕ) 
   pub recorded : LogMap
   pub logs : LogMap
   pub asked : WereAsked script life epoch request read round recorded logs
-  pub unanswered : IsUnanswered said request
+  pub unanswered : LacksAnswer said request
   pub unended : (k : ℕ) → read ≤ k → k < j → slice_get life.events k ≡ Some Work → ⊥
 
--- A VERIFICATION RUNS behind the first j events. Where it started as another one ended, that was another request's: whichever a verification is for is answered where it ends, or was cancelled.
+-- A VERIFICATION RUNS behind the first j events. Where it started in the step of a `work`, that ended the verification of another request: one whose verification ends is answered in the same step, unless
+-- it was cancelled.
 pub record Verifies (script : Script) (l : ℕ) (life : Life) (epoch j : ℕ) (said : List Entry) : Type 0 where
   pub request : ℕ
   pub its : IsVerified script l life epoch j said request
