@@ -31,17 +31,14 @@ use Rattle.dkg_run.proofs.ReadLogs.{IsRecordedTo}
 -- what passes a test rises as all do
 passing_rises : (test : RecordedLog → Bool) (rs : List (ℕ × RecordedLog)) (least : ℕ) → Rises least (keys_of rs) → Rises least (keys_of (bare_logs (filter (λ p. test p.1) rs)))
 passing_rises test [] least rises = tt
-passing_rises test (r ∷ rs) least rises = by_test (test r.1)
+passing_rises test (r ∷ rs) least rises = by_test (passing_rises test rs (r.0 + 1) rises.1) (test r.1)
   where
-    rest : Rises (r.0 + 1) (keys_of (bare_logs (filter (λ p. test p.1) rs)))
-    rest = passing_rises test rs (r.0 + 1) rises.1
-
     low : least ≤ r.0 + 1
     low = let its : least ≤ r.0 = rises.0 in omega (arith, its)
 
-    by_test : (t : Bool) → Rises least (keys_of (bare_logs (if t then r ∷ filter (λ p. test p.1) rs else filter (λ p. test p.1) rs)))
-    by_test true = (rises.0, rest)
-    by_test false = rises_less least (r.0 + 1) (keys_of (bare_logs (filter (λ p. test p.1) rs))) low rest
+    by_test : Rises (r.0 + 1) (keys_of (bare_logs (filter (λ p. test p.1) rs))) → (t : Bool) → Rises least (keys_of (bare_logs (if t then r ∷ filter (λ p. test p.1) rs else filter (λ p. test p.1) rs)))
+    by_test rest true = (rises.0, rest)
+    by_test rest false = rises_less least (r.0 + 1) (keys_of (bare_logs (filter (λ p. test p.1) rs))) low rest
 
 module _ (s : Setting) (epoch : ℕ) (round : Round) (placed : (height : ℕ) (b : Block) → chain s height ≡ Some b → b.height ≡ height) where
   abbrev middle : ℕ

@@ -35,6 +35,7 @@ pub mod EachLife
 pub mod Empty
 pub mod Ended
 pub mod EndsTold
+pub mod ExactSteps
 pub mod Entering
 pub mod FedRequests
 pub mod FewPlayers

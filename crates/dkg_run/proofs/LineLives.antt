@@ -78,9 +78,11 @@ module _ (s : Setting) (E : Type 0 → List Entry → Entry → Type 0) where
 
   each_joined : (xs ys : List Entry) (marks : Type 0) (before : List Entry) → EachTold marks before xs → EachTold (KnownAfter s marks before xs) (before ++ xs) ys → EachTold marks before (xs ++ ys)
   each_joined [] ys marks before each more = subst (λ (b : List Entry). EachTold marks b ys) (append-nil before) more
-  each_joined (one ∷ xs) ys marks before each more =
-      (each.0, each_joined xs ys (marks × IsKnownAt s (come s before) one) (before ++ one ∷ []) each.1
-      (subst (λ (b : List Entry). EachTold (KnownAfter s marks before (one ∷ xs)) b ys) (sym (append_assoc before (one ∷ []) xs)) more))
+  each_joined (one ∷ xs) ys marks before each more = (
+    each.0,
+    each_joined xs ys (marks × IsKnownAt s (come s before) one) (before ++ one ∷ []) each.1
+        (subst (λ (b : List Entry). EachTold (KnownAfter s marks before (one ∷ xs)) b ys) (sym (append_assoc before (one ∷ []) xs)) more),
+  )
 
   -- a line of a transcript that is told so
   pub told_at : (before : List Entry) (one : Entry) (after : List Entry) (marks : Type 0) (earlier : List Entry) → EachTold marks earlier (before ++ one ∷ after) → E (KnownAfter s marks earlier before) (earlier ++ before) one
@@ -185,8 +187,11 @@ module _ (s : Setting) (E : Type 0 → List Entry → Entry → Type 0) where
             → StandsAt l life cuts (suc i) events s (come s before) → HereIn marks i st w before → IsUncut life.cut (suc i) → TakesAll by_worlds g (suc i) events st w how new → Told marks before w.out new.out (Ends how new)
         takes_told [] marks i st w how new before rest stands here uncut takes =
             told_none marks before w.out new.out (Ends how new) (ap (λ (x : World). x.out) takes.1)
-            (subst (λ (h : Result (Unit {0}) Stop). Ends h new marks before) (sym takes.0) (stands.0, subst (λ (x : World). Between marks (l + 1) x before) (sym takes.1)
-            (leads.over marks st w before stands.0 stands.1 (subst (λ (n : ℕ). HereIn marks n st w before) (omega (arith, rest)) here))))
+            (subst (λ (h : Result (Unit {0}) Stop). Ends h new marks before) (sym takes.0) (
+              stands.0,
+              subst (λ (x : World). Between marks (l + 1) x before) (sym takes.1)
+                  (leads.over marks st w before stands.0 stands.1 (subst (λ (n : ℕ). HereIn marks n st w before) (omega (arith, rest)) here)),
+            ))
         takes_told (event ∷ events) marks i st w how new before rest stands here uncut takes =
             by_fuse (λ later end mid b stands here uncut more. takes_told events later (suc i) end mid how new b (subst (λ (n : ℕ). Rest life n events) (add-one (suc i)) rest.2) stands here uncut
             (subst (λ (n : ℕ). TakesAll by_worlds g n events end mid how new) (add-one (suc i)) more)) (fuse_for life.cut (suc i)) refl takes
@@ -287,7 +292,7 @@ module _ (s : Setting) (E : Type 0 → List Entry → Entry → Type 0) where
     module _ (plain : (marks : Type 0) (before : List Entry) (line : Entry) → IsCounted line → E marks before line)
         (leads : (l : ℕ) (life : Life) (seen : Held → Seen) (files : Files) (life_is : life_at s l ≡ Some life) (reads : by_worlds.reads seen) (cuts : List (Option CutAt))
         (never_back : awaited_before s cuts l ≤ awaited_epoch s l life 0 + 1) (began : (more : List (Option CutAt)) × (ends ≡ cuts ++ more)) → LeadsOn l life seen files life_is reads cuts never_back) where
-      Any : Type 0 → List Entry → Type 0
+      abbrev pub Any : Type 0 → List Entry → Type 0
       Any marks b = Unit {0}
 
       abbrev EndSo : World → World → Progress → Type 0
@@ -309,7 +314,7 @@ module _ (s : Setting) (E : Type 0 → List Entry → Entry → Type 0) where
           (life_told l life run.0 run.1 are.0 run.4 (come s before).cuts back plain (leads l life run.0 run.1 are.0 run.4 (come s before).cuts back began) run.1 marks w run.2 run.3 before
           (record { life_is = are.0; lives = between.lives; step = between.step; nothing = between.nothing }) refl here run.7)
           (λ later b added earlier b_is out ended. by_how (λ later mid c between here fin more. from_told lives AnyFiles (l + 1) later mid result new c are.1 between here fin more) run.2 later b
-          (subst (EndSo run.3 new) (sym (ap come s b_is ∙ come_joined before added)) (end_then s ends reshares consistent meant w run.3 new (come s before) added out fin)) ended run.8)
+          (subst (EndSo run.3 new) (sym (ap (come s) b_is ∙ come_joined before added)) (end_then s ends reshares consistent meant w run.3 new (come s before) added out fin)) ended run.8)
         where
           grows : Grows w new
           grows = from_grow s.script first l (life ∷ lives) w result new run

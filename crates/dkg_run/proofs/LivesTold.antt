@@ -1,8 +1,7 @@
 -- Line by line over worlds, with what a life keeps of recorded dealings and of logs; and a clause with what it adds to that.
-use Rattle.std.proofs.Common.{◌≡◌, ◌⊎◌, inl, inr, ℕ, true, suc, ◌+◌, ◌-◌, ◌<◌, ◌≤◌, List, [], ◌∷◌, ◌++◌, Option, Some, None, false, refl, sym, ◌∙◌, ap, subst, length, arith, add-one, length-append}
-use Rattle.std.specs.Prelude.{fold, slice_get, ◌==◌}
+use Rattle.std.proofs.Common.{◌≡◌, ℕ, true, suc, ◌+◌, ◌-◌, ◌<◌, ◌≤◌, List, [], ◌∷◌, ◌++◌, Option, Some, None, false, refl, sym, ◌∙◌, ap, subst, length, arith, add-one, length-append}
+use Rattle.std.specs.Prelude.{slice_get, ◌==◌}
 use Rattle.std.specs.FinMap.{get}
-use Rattle.std.proofs.lemmas.List.{append_cancel_left}
 use Rattle.std.proofs.lemmas.List.Sums.{fold-append}
 use Rattle.dkg_journal.specs.Burn.{Burn}
 use Rattle.dkg_journal.specs.Names.{Files}
@@ -22,11 +21,10 @@ use Rattle.dkg_script.specs.Progress.{Progress, read}
 use Rattle.dkg_script.specs.Setting.{CutAt, Setting, blocks_per_epoch, is_oneshot, life_at}
 use Rattle.dkg_store.specs.Acts.{Ended, Held, World, broken, notes, says, stopped, went}
 use Rattle.dkg_store.specs.Noted.{logs_in}
-use Rattle.dkg_core.specs.Behind.{event_of}
 use Rattle.dkg_core.specs.Courses.{Course, EndsSo}
 use Rattle.dkg_core.specs.Heard.{recovered_in}
 use Rattle.dkg_core.specs.Live.{Live, NodeStop}
-use Rattle.dkg_core.specs.Node.{node_opening, node_step}
+use Rattle.dkg_core.specs.Node.{node_opening}
 use Rattle.dkg_core.specs.Seen.{Seen}
 use Rattle.dkg_core.specs.Transcripts.{IfWentTo}
 use Rattle.dkg_reshare.specs.declared.stop.Stop.TheVariants.{Cut}
@@ -37,10 +35,10 @@ use Rattle.dkg_run.proofs.Awaiting.{IsReached}
 use Rattle.dkg_run.proofs.AwaitedRises.{begun_rises}
 use Rattle.dkg_run.proofs.Currently.{MayBeKept, RestsIn, begun_behind, begun_more, current_later, may_of, may_still}
 use Rattle.dkg_run.proofs.Former.{IsMessage, event_in_form, message_in}
-use Rattle.dkg_run.proofs.KeptSteps.{AnyCall, IsAtStep, IsSaved, Reaches, WithinCall, saved_carried}
+use Rattle.dkg_run.proofs.KeptSteps.{AnyCall, IsAtStep, Reaches, WithinCall, saved_carried}
 use Rattle.dkg_run.proofs.LifeSteps.{IsGoing, IsLifeOfSetting, IsSettled, OpeningLeaves, StepLeaves, opening_goes, step_goes}
 use Rattle.dkg_run.proofs.LineLives.{After, CutThen, EachTold, KnownAfter, LeadsOn, Left, Told, come, come_more, known_before}
-use Rattle.dkg_run.proofs.LivesKept.{IsBetween, IsStopped, at_cuts, held_pairs, held_whole, logs_later, may_later, stops_saved, taken_before, taken_by, taken_within, told_going}
+use Rattle.dkg_run.proofs.LivesKept.{IsBetween, IsStopped, held_pairs, held_whole, logs_later, may_later, stops_saved, taken_before, taken_by, taken_within, told_going}
 use Rattle.dkg_run.proofs.RunKept.{logs_then, rests_then}
 
 abbrev U : Type 0
@@ -76,10 +74,10 @@ module _ (s : Setting) (ends : List (Option CutAt)) (reshares : is_oneshot s ≡
     abbrev g : Lived
     g = lived s.script l life seen files
 
-    here : IsLifeInForm g
+    abbrev here : IsLifeInForm g
     here = (meant l life seen files life_is reads).0
 
-    its : IsLifeOfSetting s ends g
+    abbrev its : IsLifeOfSetting s ends g
     its = (meant l life seen files life_is reads).1
 
     abbrev b : ℕ → ℕ
@@ -94,15 +92,15 @@ module _ (s : Setting) (ends : List (Option CutAt)) (reshares : is_oneshot s ≡
     rises : (i : ℕ) → b i ≤ b (suc i)
     rises i = begun_rises s reshares l life life_is cuts some back i
 
-    Going : Type 0 → ℕ → Live U → Held → Progress → Type 0
+    abbrev Going : Type 0 → ℕ → Live U → Held → Progress → Type 0
     Going marks i st h p = IsGoing s ends l life seen files here its cuts back marks i st h p
 
     -- behind a cut
     cut_then : (marks : Type 0) (w : World) (before : List Entry) (at : cut.Cut) → life.cut ≡ Some at → IsStopped l life Cut w.held s marks (come s before) → CutThen s Anything ends reshares consistent meant BaseBetween BaseHere l marks w before at
-    cut_then marks w before at is stopped =
+    cut_then marks w before at is its_stop =
         subst (λ (p : Progress). RestsIn w.held s p × ((marks × IsKnownAt s (come s before) (entry.Cut at.step at.call)) → LogsKnown s (begun_before s p.cuts (length p.cuts)) p.recorded (logs_in (notes w.held))))
         (sym (come_more s before (entry.Cut at.step at.call)))
-        (rests_then s ends reshares consistent meant l life life_is at is w.held marks (come s before) stopped, logs_then s ends reshares consistent meant l life life_is at is w.held marks (come s before) stopped)
+        (rests_then s ends reshares consistent meant l life life_is at is w.held marks (come s before) its_stop, logs_then s ends reshares consistent meant l life life_is at is w.held marks (come s before) its_stop)
 
     -- the cut that the life has
     module _ (at : cut.Cut) (is : life.cut ≡ Some at) where
@@ -143,6 +141,9 @@ module _ (s : Setting) (ends : List (Option CutAt)) (reshares : is_oneshot s ≡
             r : Reaches s (come s before) w.out new.out Opens
             r = opening_goes s ends l life seen files here its cuts back marks (record w { fuse = f }) (come s before) are at.lives between.0 between.1 ended new run
 
+            low : (c : List Entry) → (come s c).cuts ≡ cuts → b 0 ≤ begun s (come s c).cuts l 0
+            low c its_are = subst (λ (x : List (Option CutAt)). b 0 ≤ begun s x l 0) (sym its_are) (itself (b 0))
+
             left : (later : Type 0) (c : List Entry) → (later → marks) → Opens (come s c) → LeftBy before 0 ended new later c
             left later c earlier so = (so.cuts_are, so.step, by_end ended so.went)
               where
@@ -158,12 +159,13 @@ module _ (s : Setting) (ends : List (Option CutAt)) (reshares : is_oneshot s ≡
                 by_end (broken cause) none = λ at_cut is there within.
                     cut_then later new c at_cut is
                     (stops_saved AnyCall (b 0) l life 0 Cut new.held s later (come s c) lives (so.step ∙ at.step) (low c its_are)
-                    (λ e other known. (of_cut at_cut is (λ x. x.step ≡ 0) other known there, tt, of_cut at_cut is (λ x. b 0 ≤ begun s (come s c).cuts l (taken_by life x)) other known
-                    (subst (λ (n : ℕ). b 0 ≤ begun s (come s c).cuts l n) (sym (taken_within life at_cut 0 there within)) (low c its_are))))
+                    (λ e other known. (
+                      of_cut at_cut is (λ x. x.step ≡ 0) other known there,
+                      tt,
+                      of_cut at_cut is (λ x. b 0 ≤ begun s (come s c).cuts l (taken_by life x)) other known
+                          (subst (λ (n : ℕ). b 0 ≤ begun s (come s c).cuts l n) (sym (taken_within life at_cut 0 there within)) (low c its_are)),
+                    ))
                     (λ other any known. so.logs (earlier known.0)) so.saved)
-
-            low : (c : List Entry) → (come s c).cuts ≡ cuts → b 0 ≤ begun s (come s c).cuts l 0
-            low c its_are = subst (λ (x : List (Option CutAt)). b 0 ≤ begun s x l 0) (sym its_are) (itself (b 0))
 
         -- A STEP
         stepped : (marks : Type 0) (i : ℕ) (event : script.Event) → slice_get life.events i ≡ Some event → IsReached life.cut (suc i) → (st : Live U) (w : World) (before : List Entry) → IsAtStep l life (suc i) s (come s before)
@@ -194,6 +196,9 @@ module _ (s : Setting) (ends : List (Option CutAt)) (reshares : is_oneshot s ≡
                 low : b (suc i) ≤ begun s (come s c).cuts l (suc i)
                 low = subst (λ (x : List (Option CutAt)). b (suc i) ≤ begun s x l (suc i)) (sym its_are) (itself (b (suc i)))
 
+                Settles : Progress → Type 0
+                Settles q = IsSettled marks s q
+
                 by_end : (x : Ended NodeStop (Live U)) → IfWentTo x (λ end. Going (marks × IsKnownInStep s (come s c)) (suc i) end new.held (come s c) × Settles (come s c)) → AfterIt (suc i) x new later c
                 by_end (went end) both =
                     told_here (marks × IsKnownInStep s (come s c)) (later × IsKnownAt s (come s c) (entry.Step (suc i))) (suc i) end new c (λ known. (earlier known.0, known.1)) lives (so.step ∙ at.step) its_are both.0
@@ -201,23 +206,23 @@ module _ (s : Setting) (ends : List (Option CutAt)) (reshares : is_oneshot s ≡
                 by_end (broken cause) none = λ at_cut is there within.
                     cut_then later new c at_cut is
                     (stops_saved WithinCall (b (suc i)) l life (suc i) Cut new.held s later (come s c) lives (so.step ∙ at.step) low
-                    (λ e other known. (of_cut at_cut is (λ x. x.step ≡ suc i) other known there, of_cut at_cut is (λ x. 0 < x.call) other known within,
-                    of_cut at_cut is (λ x. b (suc i) ≤ begun s (come s c).cuts l (taken_by life x)) other known
-                    (subst (λ (n : ℕ). b (suc i) ≤ begun s (come s c).cuts l n) (sym (taken_within life at_cut (suc i) there within)) low)))
+                    (λ e other known. (
+                      of_cut at_cut is (λ x. x.step ≡ suc i) other known there,
+                      of_cut at_cut is (λ x. 0 < x.call) other known within,
+                      of_cut at_cut is (λ x. b (suc i) ≤ begun s (come s c).cuts l (taken_by life x)) other known
+                          (subst (λ (n : ℕ). b (suc i) ≤ begun s (come s c).cuts l n) (sym (taken_within life at_cut (suc i) there within)) low),
+                    ))
                     (λ other within known. so.logs (earlier known.0) (known.1 within)) so.saved)
-
-                Settles : Progress → Type 0
-                Settles q = IsSettled marks s q
 
         -- BEHIND THE LIFE
         over : (marks : Type 0) (st : Live U) (w : World) (c : List Entry) → IsBetween (l + 1) s (come s c) → (come s c).cuts ≡ cuts ++ None ∷ [] → BaseHere l life seen files life_is reads cuts back marks (length life.events) st w c
             → BaseBetween marks (l + 1) w c
         over marks st w c between are going = (
-            record {
-              whole = going.carries.half.agreed.whole;
-              may = may_later (b n) (begun_before s (come s c).cuts (length (come s c).cuts)) s (come s c) (recovered_in w.held) low (may_of (b n) s (come s c) l (recovered_in w.held) going.carries.opened going.carries.half.are);
-            },
-            λ known. logs_later s (b n) (begun_before s (come s c).cuts (length (come s c).cuts)) (come s c).recorded (logs_in (notes w.held)) low (going.logs known),
+          record {
+            whole = going.carries.half.agreed.whole;
+            may = may_later (b n) (begun_before s (come s c).cuts (length (come s c).cuts)) s (come s c) (recovered_in w.held) low (may_of (b n) s (come s c) l (recovered_in w.held) going.carries.opened going.carries.half.are);
+          },
+          λ known. logs_later s (b n) (begun_before s (come s c).cuts (length (come s c).cuts)) (come s c).recorded (logs_in (notes w.held)) low (going.logs known),
         )
           where
             n : ℕ
@@ -243,8 +248,12 @@ module _ (s : Setting) (ends : List (Option CutAt)) (reshares : is_oneshot s ≡
         unstepped marks i st w c at are going at_cut is there none =
             cut_then marks w c at_cut is
             (stops_saved AnyCall (b i) l life (suc i) Cut w.held s marks (come s c) at.lives at.step (low (suc i) (rises i))
-            (λ e other known. (of_cut at_cut is (λ x. x.step ≡ suc i) other known there, tt, of_cut at_cut is (λ x. b i ≤ begun s (come s c).cuts l (taken_by life x)) other known
-            (subst (λ (n : ℕ). b i ≤ begun s (come s c).cuts l n) (sym (taken_before life at_cut (suc i) there none ∙ back_one)) (low i (itself (b i))))))
+            (λ e other known. (
+              of_cut at_cut is (λ x. x.step ≡ suc i) other known there,
+              tt,
+              of_cut at_cut is (λ x. b i ≤ begun s (come s c).cuts l (taken_by life x)) other known
+                  (subst (λ (n : ℕ). b i ≤ begun s (come s c).cuts l n) (sym (taken_before life at_cut (suc i) there none ∙ back_one)) (low i (itself (b i)))),
+            ))
             (λ other any known. going.logs known.0) (saved_carried AnyCall (at_step g i) (b i) _ l st w.held s (come s c) going.carries))
           where
             back_one : suc i - 1 ≡ i

@@ -10,7 +10,7 @@ use Rattle.dkg_types.specs.declared.fault.Fault.{Fault}
 use Rattle.dkg_text.specs.declared.script.Life.{Life}
 use Rattle.dkg_script.specs.Consistent.{MayEndSo}
 use Rattle.dkg_script.specs.History.{IsWholeHistory, WasSeen}
-use Rattle.dkg_script.specs.Order.{InOrder, IsInOrder}
+use Rattle.dkg_script.specs.Order.{InOrder}
 use Rattle.dkg_script.specs.Position.{begun_before}
 use Rattle.dkg_script.specs.Progress.{AtEachEntry, at_start, progress, read}
 use Rattle.dkg_script.specs.Setting.{CutAt, Setting, is_oneshot, life_at}
@@ -54,16 +54,16 @@ module _ (s : Setting) (built : IsGivenSetting s) (no_plans : s.plans ≡ []) (w
   abbrev cuts : List (Option CutAt)
   cuts = (progress s added).cuts
 
-  may : MayEndSo s.script.lives cuts
+  abbrev may : MayEndSo s.script.lives cuts
   may = ends_as_scripted s added ordered
 
-  reshare : is_oneshot s ≡ false
+  abbrev reshare : is_oneshot s ≡ false
   reshare = reshares s built no_plans added history.consistent
 
   abbrev Given : Type 0
   Given = (l : ℕ) (life : Life) (seen : Held → Seen) (files : Files) → life_at s l ≡ Some life → by_worlds.reads seen → IsLifeInForm (lived s.script l life seen files) × IsLifeOfSetting s cuts (lived s.script l life seen files)
 
-  lives_given : Given
+  abbrev lives_given : Given
   lives_given = its_given s built no_plans added history.consistent
 
   abbrev AllBetween : OfRests

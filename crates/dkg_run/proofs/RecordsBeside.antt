@@ -1,6 +1,6 @@
 -- What is recorded of the chain's logs, beside what a run of lives keeps, line by line over worlds: between lives and behind each step, where the lines so far are in order and tell how lives ended.
 use Rattle.std.proofs.Common.{◌≡◌, ◌<◌, ◌≤◌, ◌+◌, ◌-◌, ◌==◌, ◌++◌, ◌∷◌, [], ℕ, suc, Bool, true, false, List, Option, Some, None, length, arith, refl, sym, ◌∙◌, ap, subst, append_assoc, length-append}
-use Rattle.std.specs.Prelude.{fold, slice_get, IsSomeAnd, if◌then◌else◌}
+use Rattle.std.specs.Prelude.{slice_get, IsSomeAnd, if◌then◌else◌}
 use Rattle.std.specs.FinMap as maps
 use Rattle.std.proofs.lemmas.List.Sums.{fold-append}
 use Rattle.dkg_journal.specs.Burn.{Burn}
@@ -18,7 +18,7 @@ use Rattle.dkg_script.specs.Blocks.{block_at}
 use Rattle.dkg_script.specs.History.{IsWholeHistory, WasSeen}
 use Rattle.dkg_script.specs.Order.{InLife, IsInOrder, IsOrderedCut}
 use Rattle.dkg_script.specs.Position.{awaited_before, awaited_epoch, begun, begun_before}
-use Rattle.dkg_script.specs.Progress.{AtEachEntry, Progress, at_start, read}
+use Rattle.dkg_script.specs.Progress.{AtEachEntry, Progress, at_start, progress, read}
 use Rattle.dkg_script.specs.Setting.{CutAt, Setting, is_oneshot, life_at}
 use Rattle.dkg_script.specs.Views.{seen_block}
 use Rattle.dkg_store.specs.Acts.{Ended, Held, World, broken, notes, stopped, went}
@@ -108,6 +108,7 @@ module _ (s : Setting) (ends : List (Option CutAt)) (reshares : is_oneshot s ≡
         (λ step within low. upto step low) noted)
 
     pub records_add : Adds s ends reshares whole.consistent meant Anything (BaseBetween s ends reshares whole.consistent meant) (BaseHere s ends reshares whole.consistent meant) Anything RecordsBetween RecordsHere l life seen files life_is reads cuts back
+    unfolding progress
     records_add = record {
       opening = λ marks w before at are base records reached f ended new run added out left.
           (all_told s added marks before, opened marks w before at are records f ended new run added left);

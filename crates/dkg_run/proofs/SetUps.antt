@@ -1,5 +1,5 @@
 -- What an opening and an epoch's last block tell and store: the last setup is of the epoch and the seat in which the life takes part from there on, and each share that is stored is told.
-use Rattle.std.proofs.Common.{◌≡◌, ◌⊎◌, inl, inr, ◌≤◌, ℕ, Bool, true, false, List, [], ◌∷◌, ◌++◌, Option, Some, None, refl, sym, ◌∙◌, ap, subst, fold}
+use Rattle.std.proofs.Common.{◌≡◌, ◌⊎◌, inl, inr, ◌≤◌, ℕ, Bool, true, false, List, [], ◌∷◌, ◌++◌, Option, Some, None, refl, sym, ◌∙◌, ap, subst, fold, arith}
 use Rattle.std.specs.Prelude.{◌-◌, ◌+◌, ◌==◌, ◌&&◌, ◌||◌, ◌↔◌, if◌then◌else◌, is_none, is_some, not, option_map, ◌^◌, IsFalse, Ok, Err, Result, option_and_then, nat_le, nat_lt, length}
 use Rattle.std.specs.List.{list_any}
 use Rattle.std.specs.Option.{option_map_or}
@@ -76,6 +76,9 @@ last_line last line = last
 abbrev pub set_up_last : Option (ℕ × Part) → List Line → Option (ℕ × Part)
 set_up_last last lines = fold last_line last lines
 
+pair_is : {x y : ℕ × Part} → ◌≡◌ {A = Option (ℕ × Part)} (Some x) (Some y) → x ≡ y
+pair_is e = cc
+
 -- it stands among them, with none behind it
 module _ (epoch : ℕ) (part : Part) where
   abbrev Stands : Option (ℕ × Part) → List Line → Type 0
@@ -92,7 +95,7 @@ module _ (epoch : ℕ) (part : Part) where
       none_some e = cc
 
       number_of : (n : ℕ) (its : Part) → ◌≡◌ {A = Option (ℕ × Part)} (Some (n, its)) (Some (epoch, part)) → (n ≡ epoch) × (its ≡ part)
-      number_of n its e = (cc, cc)
+      number_of n its e = let same : ◌≡◌ {A = ℕ × Part} (n, its) (epoch, part) = pair_is e in (ap (λ (p : ℕ × Part). p.0) same, ap (λ (p : ℕ × Part). p.1) same)
 
       by_line : (line : Line) → Stands (last_line last line) lines → Stands last (line ∷ lines)
       by_line (Setup n phase its) (inl (same, none)) = let parts = number_of n its same in
@@ -238,8 +241,8 @@ module _ (Into : ℕ → Type 0) (most : ℕ) (At : Option (ℕ × Part) → Typ
 
   module _ {Dir F S : Type 0} (goes : Telling → S → Type 0) where
     leads_if : (x : Telling) (t : Bool) (one other : Course Dir F S) → (t ≡ true → LeadsTo goes x one) → (t ≡ false → LeadsTo goes x other) → LeadsTo goes x (if t then one else other)
-    leads_if x true one other yes no = yes refl
-    leads_if x false one other yes no = no refl
+    leads_if x true one other when unless = when refl
+    leads_if x false one other when unless = unless refl
 
     leads_option : {A : Type 0} (x : Telling) (f : A → Course Dir F S) (o : Option A) (none : Course Dir F S) → ((a : A) → LeadsTo goes x (f a)) → LeadsTo goes x none → LeadsTo goes x (option_map_or f o none)
     leads_option x f None none some without = without
@@ -327,7 +330,7 @@ module _ {Dir : Type 0} (c : Fixed Dir) where
   takes_ack : (epoch : ℕ) (its : Dealer) (player : ℕ) (ack : List ℕ) (now : Live Dir) → IsQuiet (d.takes_ack epoch its player ack now)
   takes_ack epoch its player ack now = by_tests (is_some (lookup player its.acks)) (is_some (recorded_at now.records.acks epoch player))
     where
-      by_tests : (one two : Bool) → IsQuiet (if one then Goes now else if two then Goes (d.counts its player ack now) else d.appends epoch (events.Ack player ack) (Goes (d.counts its player ack (d.with_ack epoch player ack now))))
+      by_tests : (one two : Bool) → IsQuiet {Dir = Dir} (if one then Goes now else if two then Goes (d.counts its player ack now) else d.appends epoch (events.Ack player ack) (Goes (d.counts its player ack (d.with_ack epoch player ack now))))
       by_tests true two = tt
       by_tests false true = tt
       by_tests false false = (tt, tt)
@@ -352,11 +355,11 @@ module _ {Dir : Type 0} (c : Fixed Dir) where
 
   offers : (round : Round) (public : List ℕ) (privates : List (ℕ × ℕ)) (now : Live Dir) → IsQuiet (d.offers c round public privates now)
   offers round public [] now = tt
-  offers round public (x ∷ xs) now = by_test (x.0 == c.me)
+  offers round public (x ∷ xs) now = by_test (λ end. offers round public xs end) (x.0 == c.me)
     where
-      by_test : (t : Bool) → IsQuiet (if t then bind (d.offers_to_itself c round public x.1 now) (λ now. d.offers c round public xs now) else Say (Offer round.number x.0 public x.1) (d.offers c round public xs now))
-      by_test true = quiet_behind (d.offers_to_itself c round public x.1 now) (λ now. d.offers c round public xs now) (seats round public x.1 now now.participation.seat) (λ end. offers round public xs end)
-      by_test false = (tt, offers round public xs now)
+      by_test : ((end : Live Dir) → IsQuiet (d.offers c round public xs end)) → (t : Bool) → IsQuiet {Dir = Dir} (if t then bind (d.offers_to_itself c round public x.1 now) (λ now. d.offers c round public xs now) else Say (Offer round.number x.0 public x.1) (d.offers c round public xs now))
+      by_test rest true = quiet_behind (d.offers_to_itself c round public x.1 now) (λ now. d.offers c round public xs now) (seats round public x.1 now now.participation.seat) rest
+      by_test rest false = (tt, rest now)
 
   deals_plain : (now : Live Dir) → IsQuiet (d.deals c now)
   deals_plain now =
@@ -653,7 +656,7 @@ module _ {Dir : Type 0} (c : Fixed Dir) where
         never_ends (inr includes) is = let wrong : ◌≡◌ {A = Stage} Ends Includes = sym is ∙ includes.0 in cc
 
         half : Leads IsSetUpBy x (step c (Finalized block) st)
-        half = judged_is c block st (λ course. Leads IsSetUpBy x course) (λ t one other yes no. leads_if Into most At IsSetUpBy x t one other yes no) (λ fault is. tt)
+        half = judged_is c block st (λ course. Leads IsSetUpBy x course) (λ t one other when unless. leads_if Into most At IsSetUpBy x t one other when unless) (λ fault is. tt)
             (λ is. absurd (let wrong : ◌≡◌ {A = Judged} Passed Applied = sym is ∙ applied in cc)) (λ is. taken_so form block low into into_next st x none its ends at) (λ is. absurd (never_ends at is))
 
   -- ANY OTHER STEP leaves all that
@@ -683,7 +686,7 @@ module _ {Dir : Type 0} (c : Fixed Dir) where
   block_quiet block st other =
       quiet_behind (under Faulted (step c (Finalized block) st)) (λ now. unless_once c (bind (delivered c block now) (λ left. acked_at block.height left.answer left.live)) (Say (Acked block.height) (Goes now)))
       (quiet_under Faulted (step c (Finalized block) st)
-      (judged_is c block st (λ course. IsQuiet course) (λ t one other yes no. quiet_if t one other yes no) (λ fault is. tt) (λ is. tt) (λ is. applied_quiet block st st.participation.stage (other is)) (λ is. tt)))
+      (judged_is c block st (λ course. IsQuiet course) (λ t one other when unless. quiet_if t one other when unless) (λ fault is. tt) (λ is. tt) (λ is. applied_quiet block st st.participation.stage (other is)) (λ is. tt)))
       (λ now. halves_quiet now (unless_once c (bind (delivered c block now) (λ left. acked_at block.height left.answer left.live)) (Say (Acked block.height) (Goes now)))
       (halves.behind_block c IsPlain (λ epoch. tt) tt (λ height. tt) block now) (block_aside c block now))
 

@@ -1,5 +1,5 @@
 -- What a course stores of shares and tells: each share that is held behind it was held before, or is told, or is the one that it was about to tell; and what was held, or told, is held.
-use Rattle.std.proofs.Common.{◌≡◌, ◌⊎◌, inl, inr, ◌<◌, ◌≤◌, ℕ, List, [], ◌∷◌, ◌++◌, Option, Some, None, arith, refl, sym, ◌∙◌, ap, subst, append-nil, append_assoc, fold}
+use Rattle.std.proofs.Common.{◌≡◌, ◌⊎◌, inl, inr, true, false, ◌<◌, ◌≤◌, ℕ, List, [], ◌∷◌, ◌++◌, Option, Some, None, arith, refl, sym, ◌∙◌, ap, subst, append-nil, append_assoc, fold}
 use Rattle.std.specs.Prelude.{Contains, IsSome, Ok}
 use Rattle.std.specs.FinMap as maps
 use Rattle.std.specs.FinMap.{FinMap, get, nat_cmp-IsAntisymmetric}
@@ -28,10 +28,10 @@ some_is : {A : Type 0} {x y : A} → ◌≡◌ {A = Option A} (Some x) (Some y) 
 some_is e = cc
 
 is_there : {A : Type 0} {o : Option A} (x : A) → o ≡ Some x → IsSome o
-is_there x e = subst IsSome (sym e) tt
+is_there x e = subst IsSome (sym e) refl
 
 gone : {A : Type 0} {o : Option A} → o ≡ None → IsSome o → ⊥
-gone e some = subst IsSome e some
+gone e some = let wrong : false ≡ true = subst IsSome e some in cc
 
 -- a share of the epoch is told
 abbrev pub TellsShare : List Line → (epoch : ℕ) → Type 0
@@ -250,12 +250,9 @@ module _ (Into : ℕ → Type 0) (most : ℕ) (At : Option (ℕ × Part) → Typ
     run_stores (Do op course) (stopped fault) w new x leads its run = run_stores course (stopped fault) (does w op) new (after_op x op) leads.1 (does_stores w x op leads.0 its) run
     run_stores (Do op course) (broken cause) w new x leads its (inl torn) = torn_stores cause w new x op leads.0 torn its
     run_stores (Do op course) (broken cause) w new x leads its (inr run) = run_stores course (broken cause) (does w op) new (after_op x op) leads.1 (does_stores w x op leads.0 its) run
-    run_stores (Call outer course) ended w new x leads its run = called ended run
-      where
-        called : (ended : Ended F S) → EndsSo (Call outer course) ended w new → Leaves goes ended new
-        called (went end) run = run_stores course (went end) w new x leads its run
-        called (stopped fault) run = run_stores course (stopped fault) w new x leads its run
-        called (broken cause) run = run_stores course (broken cause) w new x leads its run
+    run_stores (Call outer course) (went end) w new x leads its run = run_stores course (went end) w new x leads its run
+    run_stores (Call outer course) (stopped fault) w new x leads its run = run_stores course (stopped fault) w new x leads its run
+    run_stores (Call outer course) (broken cause) w new x leads its run = run_stores course (broken cause) w new x leads its run
     run_stores (Ask f) (went end) w new x leads its run = run_stores (f w.held) (went end) w new x (leads w.held) its run
     run_stores (Ask f) (stopped fault) w new x leads its run = run_stores (f w.held) (stopped fault) w new x (leads w.held) its run
     run_stores (Ask f) (broken cause) w new x leads its run = run_stores (f w.held) (broken cause) w new x (leads w.held) its run
@@ -268,7 +265,7 @@ module _ (Into : ℕ → Type 0) (most : ℕ) (At : Option (ℕ × Part) → Typ
 
 -- a course that leaves all of it
 pub quiet_to : {Dir F S : Type 0} (Into : ℕ → Type 0) (most : ℕ) (At : Option (ℕ × Part) → Type 0) (x : Telling) (course : Course Dir F S) → IsQuiet course → LeadsTo Into most At (λ y end. y ≡ x) x course
-quiet_to Into most At x course so = by_course course x refl so
+quiet_to {Dir} {F} {S} Into most At x course so = by_course course x refl so
   where
     by_course : (course : Course Dir F S) (y : Telling) → y ≡ x → IsQuiet course → LeadsTo Into most At (λ z end. z ≡ x) y course
     by_course (Say line course) y same so = (plain_said At y line so.0, by_course course (after_line y line) (plain_keeps y line so.0 ∙ same) so.1)
