@@ -1,9 +1,8 @@
 -- The logs that a request was answered by, where what was recorded is what the chain brings up to the tip: those of a path, the chain's blocks from the midpoint on and above them what the request was fed.
-use Rattle.std.proofs.Common.{◌≡◌, ◌⊎◌, inl, inr, ℕ, zero, suc, ◌+◌, ◌-◌, ◌*◌, ◌/◌, ◌<◌, ◌≤◌, ◌^◌, ◌==◌, ◌&&◌, Bool, true, false, nat_le, List, [], ◌∷◌, ◌++◌, Option, Some, None, arith, refl, sym, ◌∙◌, ap, subst, length, map, filter_map, add-one, append_assoc, append-nil, length-append}
-use Rattle.std.specs.Prelude.{Contains, filter, is_some, nat_lt, option_and_then, option_map, reverse, slice_get, IfSome, IsSomeAnd, if◌then◌else◌}
+use Rattle.std.proofs.Common.{◌≡◌, ◌⊎◌, inl, inr, ℕ, zero, suc, ◌+◌, ◌-◌, ◌<◌, ◌≤◌, ◌^◌, ◌==◌, ◌&&◌, Bool, true, false, nat_le, List, [], ◌∷◌, ◌++◌, Option, Some, None, arith, refl, sym, ◌∙◌, ap, subst, length, map, filter_map, add-one, append_assoc, length-append}
+use Rattle.std.specs.Prelude.{filter, is_some, nat_lt, option_and_then, option_map, reverse, slice_get, IfSome, IsSomeAnd, if◌then◌else◌}
 use Rattle.std.specs.FinMap.{get}
 use Rattle.std.specs.List.{AllByRecursion, cons_option}
-use Rattle.std.specs.Option.{option_map_or}
 use Rattle.std.proofs.lemmas.Bool.Decides.{nat_tests}
 use Rattle.std.proofs.lemmas.Bool.{cases_lt}
 use Rattle.std.proofs.lemmas.List.{reverse-append}
@@ -12,7 +11,6 @@ use Rattle.dkg_ceremony.specs.Outcomes.{LogMap}
 use Rattle.dkg_ceremony.specs.Schedule.{last, midpoint}
 use Rattle.dkg_ceremony.specs.ValidLogs.{check_log_of}
 use Rattle.dkg_ceremony.specs.declared.dealer_log.DealerLog.{DealerLog}
-use Rattle.dkg_ceremony.specs.declared.epocher.Bounds.{Bounds}
 use Rattle.dkg_ceremony.specs.declared.round.RoundParts.{RoundParts as Round}
 use Rattle.dkg_ceremony.specs.declared.signed_log.SignedDealerLog.{SignedDealerLog}
 use Rattle.dkg_store.specs.Noted.{Notes}
@@ -26,7 +24,7 @@ use Rattle.dkg_artifact.specs.Ancestries.{BeginsBelow, Completes, IsLinked}
 use Rattle.dkg_artifact.specs.Scans.{above, is_above}
 use Rattle.dkg_artifact.specs.declared.scan.Tip as scan
 use Rattle.dkg_text.specs.declared.script.Life.{Life}
-use Rattle.dkg_script.specs.Blocks.{Block, block_at, chain, chain_below}
+use Rattle.dkg_script.specs.Blocks.{Block, chain, chain_below}
 use Rattle.dkg_script.specs.Consistent.{IsConsistentScript}
 use Rattle.dkg_script.specs.History.{IsOneDigest}
 use Rattle.dkg_script.specs.Inclusion.{IsFormOfInclusion}
@@ -34,7 +32,7 @@ use Rattle.dkg_script.specs.Setting.{CutAt, Setting, blocks_per_epoch}
 use Rattle.dkg_core.specs.Logs.{filled_by}
 use Rattle.dkg_core.specs.Sources.{Tip}
 use Rattle.dkg_run.specs.Answers.{IsOfChain}
-use Rattle.dkg_run.specs.Asks.{IsPathOf, WereAsked, bounds_in, fed_in, scan_tip}
+use Rattle.dkg_run.specs.Asks.{WereAsked, bounds_in, fed_in}
 use Rattle.dkg_run.specs.Blamed.{per_epoch, tip_in}
 use Rattle.dkg_run.specs.Given.{AreBytes, blocks_in, numbered}
 use Rattle.dkg_run.proofs.ChainBlocks.{HasBlockAt}

@@ -1,7 +1,7 @@
 -- The chain's blocks up to the tip of a life that takes part in an epoch: each height from the epoch's midpoint on has one, since the life was delivered it, or an earlier one was.
-use Rattle.std.proofs.Common.{◌≡◌, ◌⊎◌, inl, inr, ℕ, zero, suc, ◌+◌, ◌-◌, ◌*◌, ◌/◌, ◌<◌, ◌≤◌, ◌==◌, ◌&&◌, ◌||◌, Bool, true, false, not, max, List, [], ◌∷◌, Option, Some, None, arith, refl, sym, ◌∙◌, ap, subst, length, nat_le}
-use Rattle.std.specs.Prelude.{nat_lt, slice_get, IfSome, IsSomeAnd, if◌then◌else◌}
-use Rattle.std.specs.Option.{option_flatten, option_map_or}
+use Rattle.std.proofs.Common.{◌≡◌, ◌⊎◌, inl, inr, ℕ, zero, suc, ◌+◌, ◌*◌, ◌/◌, ◌<◌, ◌≤◌, ◌==◌, ◌&&◌, ◌||◌, Bool, true, false, not, max, List, [], ◌∷◌, Option, Some, None, arith, refl, sym, ◌∙◌, ap, subst, length}
+use Rattle.std.specs.Prelude.{nat_lt, slice_get, IfSome, if◌then◌else◌}
+use Rattle.std.specs.Option.{option_flatten}
 use Rattle.std.specs.Str.{bytes_eq}
 use Rattle.std.proofs.lemmas.Bool.{cases_lt}
 use Rattle.std.proofs.lemmas.Bool.Decides.{nat_tests}
@@ -16,14 +16,14 @@ use Rattle.dkg_text.specs.declared.script.Event.TheVariants as event
 use Rattle.dkg_text.specs.declared.script.Life.{Life}
 use Rattle.dkg_text.specs.declared.script.Script.{Script}
 use Rattle.dkg_script.specs.Blocks.{Block, block_at, chain, delivered_number}
-use Rattle.dkg_script.specs.Consistent.{IsConsistentScript, MayEnd, MayEndSo, MayMiss}
+use Rattle.dkg_script.specs.Consistent.{IsConsistentScript, MayEnd, MayEndSo}
 use Rattle.dkg_script.specs.Epochs.{alone}
 use Rattle.dkg_script.specs.History.{MissesNone, WasCompleted, WasSeen}
 use Rattle.dkg_script.specs.Inclusion.{IsEventIn, IsFormOfInclusion}
 use Rattle.dkg_script.specs.Position.{awaited_epoch, awaited_height, cut_of, enters_at, event_of_step, follows, starts_blind, starts_late}
 use Rattle.dkg_script.specs.Setting.{CutAt, Setting, blocks_per_epoch, found, is_oneshot, life_at}
 use Rattle.dkg_core.specs.Sources.{Tip}
-use Rattle.dkg_core.proofs.Heights.{epoch_from, epoch_is, epoch_to}
+use Rattle.dkg_core.proofs.Heights.{epoch_is, epoch_to}
 use Rattle.dkg_run.specs.Blamed.{is_beyond, is_first_taken, refusal_by, refusal_in, refusal_over, tip_in}
 use Rattle.dkg_run.specs.Epochs.{IsAnchorAbove}
 use Rattle.dkg_run.specs.Given.{AreBytes, blocks_in}

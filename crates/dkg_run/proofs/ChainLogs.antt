@@ -1,6 +1,6 @@
 -- The logs that are recorded of an epoch and reached by a tip, filled in by those that are found above it, are the logs of the path: the chain's blocks up to the tip, and those above.
-use Rattle.std.proofs.Common.{◌≡◌, ◌<◌, ◌≤◌, ◌+◌, ◌^◌, ◌==◌, ◌&&◌, ◌⊎◌, inl, inr, ℕ, zero, suc, Bool, true, false, nat_le, List, [], ◌∷◌, ◌++◌, Option, Some, None, arith, refl, sym, ◌∙◌, ap, subst, length, map, filter_map}
-use Rattle.std.specs.Prelude.{filter, nat_lt, is_some, option_and_then, option_map, option_to_list, if◌then◌else◌}
+use Rattle.std.proofs.Common.{◌≡◌, ◌<◌, ◌≤◌, ◌+◌, ◌^◌, ◌==◌, ◌&&◌, ◌⊎◌, inl, inr, ℕ, zero, suc, Bool, true, false, nat_le, List, [], ◌∷◌, ◌++◌, Option, Some, None, arith, refl, sym, ◌∙◌, ap, length, map}
+use Rattle.std.specs.Prelude.{filter, nat_lt, is_some, option_and_then, option_to_list, if◌then◌else◌}
 use Rattle.std.specs.FinMap.{entries, get}
 use Rattle.std.proofs.lemmas.Bool.Decides.{nat_tests}
 use Rattle.std.proofs.lemmas.Bool.{cases_lt}
@@ -18,14 +18,14 @@ use Rattle.dkg_store.specs.declared.recorded_log.RecordedLog.{RecordedLog}
 use Rattle.dkg_store.proofs.Epochs.{rising}
 use Rattle.dkg_store.proofs.Own.{lookup_at}
 use Rattle.dkg_types.specs.Blocks as made
-use Rattle.dkg_types.specs.Paths.{counts, log_of_block, logs_of_path}
+use Rattle.dkg_types.specs.Paths.{counts, logs_of_path}
 use Rattle.dkg_types.specs.Units.{unit_spelling}
 use Rattle.dkg_types.specs.declared.directory.Unit as directory
 use Rattle.dkg_script.specs.Blocks.{Block, chain}
 use Rattle.dkg_script.specs.Setting.{Setting, blocks_per_epoch}
 use Rattle.dkg_script.specs.Views.{seen_block}
 use Rattle.dkg_core.specs.Logs.{filled_by}
-use Rattle.dkg_run.proofs.FirstLogs.{AreFirst, IsFirst, NoneBelow, brought_from, reached_in, recorded_brought}
+use Rattle.dkg_run.proofs.FirstLogs.{AreFirst, NoneBelow, brought_from, reached_in, recorded_brought}
 use Rattle.dkg_run.proofs.PathLogs.{brought, path_filled}
 
 abbrev U : Type 0

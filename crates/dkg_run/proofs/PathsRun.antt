@@ -10,7 +10,7 @@ use Rattle.dkg_types.specs.declared.fault.Fault.{Fault}
 use Rattle.dkg_text.specs.declared.script.Life.{Life}
 use Rattle.dkg_script.specs.Consistent.{MayEndSo}
 use Rattle.dkg_script.specs.History.{IsWholeHistory, WasSeen}
-use Rattle.dkg_script.specs.Order.{InOrder, IsInOrder}
+use Rattle.dkg_script.specs.Order.{InOrder}
 use Rattle.dkg_script.specs.Position.{begun_before}
 use Rattle.dkg_script.specs.Progress.{AtEachEntry, at_start, progress, read}
 use Rattle.dkg_script.specs.Setting.{CutAt, Setting, is_oneshot, life_at}

@@ -1,6 +1,6 @@
 -- What is recorded of the chain's logs, beside what a run of lives keeps, line by line over worlds: between lives and behind each step, where the lines so far are in order and tell how lives ended.
 use Rattle.std.proofs.Common.{◌≡◌, ◌<◌, ◌≤◌, ◌+◌, ◌-◌, ◌==◌, ◌++◌, ◌∷◌, [], ℕ, suc, Bool, true, false, List, Option, Some, None, length, arith, refl, sym, ◌∙◌, ap, subst, append_assoc, length-append}
-use Rattle.std.specs.Prelude.{fold, slice_get, IsSomeAnd, if◌then◌else◌}
+use Rattle.std.specs.Prelude.{slice_get, IsSomeAnd, if◌then◌else◌}
 use Rattle.std.specs.FinMap as maps
 use Rattle.std.proofs.lemmas.List.Sums.{fold-append}
 use Rattle.dkg_journal.specs.Burn.{Burn}

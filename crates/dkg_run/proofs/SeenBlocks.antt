@@ -1,10 +1,9 @@
 -- The blocks that a node makes of the lines of a script are those of the script, as its definitions see them.
-use Rattle.std.proofs.Common.{◌≡◌, Bool, true, false, ℕ, List, [], ◌∷◌, ◌++◌, Option, Some, None, refl, sym, ◌∙◌, ap, subst, map}
+use Rattle.std.proofs.Common.{◌≡◌, true, false, ℕ, List, [], ◌∷◌, ◌++◌, Option, Some, None, refl, sym, ◌∙◌, ap, subst, map}
 use Rattle.std.specs.Prelude.{fold, option_and_then, option_map, slice_get, IfSome, IsSome}
 use Rattle.std.specs.Int.NonZero.{non_zero_u32_get}
 use Rattle.std.specs.List.{AllByRecursion}
 use Rattle.std.specs.Option.{option_map_or}
-use Rattle.std.specs.Result.{result_ok}
 use Rattle.std.proofs.lemmas.List.{map-append}
 use Rattle.std.proofs.lemmas.Option.{slice_get-map}
 use Rattle.dkg_values.specs.Codec.{IsBytes, whole}
@@ -20,7 +19,7 @@ use Rattle.dkg_script.specs.Epochs.{IsBlockIn}
 use Rattle.dkg_script.specs.Inclusion.{IsFormOfInclusion}
 use Rattle.dkg_script.specs.Readings.{Limits, unit_payload}
 use Rattle.dkg_script.specs.Setting.{Setting, limits}
-use Rattle.dkg_script.specs.Views.{IsPayloadOf, context_on, parent_digest, seen_block}
+use Rattle.dkg_script.specs.Views.{IsPayloadOf, context_on, seen_block}
 use Rattle.dkg_script.proofs.Views.{seen_is}
 use Rattle.dkg_run.specs.Given.{AreBytes, block_on, blocks_in, limits_of, parent_in, payload_in, with_block}
 use Rattle.dkg_run.proofs.BlocksMade.{spelled_back}
