@@ -242,10 +242,10 @@ module _ (s : Setting) (ends : List (Option CutAt)) (consistent : IsConsistentSc
       one : (a : ℕ) → a + suc 0 ≡ a + 1
       one a = omega arith
   linked_over low (c ∷ (d ∷ bs)) are b path linked height on = (
-      are.2.0 ∙ ap (λ (h : ℕ). h + 1) (sym are.0),
-      on_block low d.height d.parent c are.2.0 are.1 (chain_links (low + 1) d are.2.1),
-      linked_over (low + 1) (d ∷ bs) are.2 b path linked (height ∙ shift low (length bs)) on,
-    )
+    are.2.0 ∙ ap (λ (h : ℕ). h + 1) (sym are.0),
+    on_block low d.height d.parent c are.2.0 are.1 (chain_links (low + 1) d are.2.1),
+    linked_over (low + 1) (d ∷ bs) are.2 b path linked (height ∙ shift low (length bs)) on,
+  )
     where
       shift : (a c : ℕ) → a + suc (suc c) ≡ a + 1 + suc c
       shift a c = omega arith

@@ -78,9 +78,11 @@ module _ (s : Setting) (E : Type 0 → List Entry → Entry → Type 0) where
 
   each_joined : (xs ys : List Entry) (marks : Type 0) (before : List Entry) → EachTold marks before xs → EachTold (KnownAfter s marks before xs) (before ++ xs) ys → EachTold marks before (xs ++ ys)
   each_joined [] ys marks before each more = subst (λ (b : List Entry). EachTold marks b ys) (append-nil before) more
-  each_joined (one ∷ xs) ys marks before each more =
-      (each.0, each_joined xs ys (marks × IsKnownAt s (come s before) one) (before ++ one ∷ []) each.1
-      (subst (λ (b : List Entry). EachTold (KnownAfter s marks before (one ∷ xs)) b ys) (sym (append_assoc before (one ∷ []) xs)) more))
+  each_joined (one ∷ xs) ys marks before each more = (
+    each.0,
+    each_joined xs ys (marks × IsKnownAt s (come s before) one) (before ++ one ∷ []) each.1
+        (subst (λ (b : List Entry). EachTold (KnownAfter s marks before (one ∷ xs)) b ys) (sym (append_assoc before (one ∷ []) xs)) more),
+  )
 
   -- a line of a transcript that is told so
   pub told_at : (before : List Entry) (one : Entry) (after : List Entry) (marks : Type 0) (earlier : List Entry) → EachTold marks earlier (before ++ one ∷ after) → E (KnownAfter s marks earlier before) (earlier ++ before) one
@@ -185,8 +187,11 @@ module _ (s : Setting) (E : Type 0 → List Entry → Entry → Type 0) where
             → StandsAt l life cuts (suc i) events s (come s before) → HereIn marks i st w before → IsUncut life.cut (suc i) → TakesAll by_worlds g (suc i) events st w how new → Told marks before w.out new.out (Ends how new)
         takes_told [] marks i st w how new before rest stands here uncut takes =
             told_none marks before w.out new.out (Ends how new) (ap (λ (x : World). x.out) takes.1)
-            (subst (λ (h : Result (Unit {0}) Stop). Ends h new marks before) (sym takes.0) (stands.0, subst (λ (x : World). Between marks (l + 1) x before) (sym takes.1)
-            (leads.over marks st w before stands.0 stands.1 (subst (λ (n : ℕ). HereIn marks n st w before) (omega (arith, rest)) here))))
+            (subst (λ (h : Result (Unit {0}) Stop). Ends h new marks before) (sym takes.0) (
+              stands.0,
+              subst (λ (x : World). Between marks (l + 1) x before) (sym takes.1)
+                  (leads.over marks st w before stands.0 stands.1 (subst (λ (n : ℕ). HereIn marks n st w before) (omega (arith, rest)) here)),
+            ))
         takes_told (event ∷ events) marks i st w how new before rest stands here uncut takes =
             by_fuse (λ later end mid b stands here uncut more. takes_told events later (suc i) end mid how new b (subst (λ (n : ℕ). Rest life n events) (add-one (suc i)) rest.2) stands here uncut
             (subst (λ (n : ℕ). TakesAll by_worlds g n events end mid how new) (add-one (suc i)) more)) (fuse_for life.cut (suc i)) refl takes

@@ -1,8 +1,7 @@
 -- Line by line over worlds, with what a life keeps of recorded dealings and of logs; and a clause with what it adds to that.
-use Rattle.std.proofs.Common.{◌≡◌, ◌⊎◌, inl, inr, ℕ, true, suc, ◌+◌, ◌-◌, ◌<◌, ◌≤◌, List, [], ◌∷◌, ◌++◌, Option, Some, None, false, refl, sym, ◌∙◌, ap, subst, length, arith, add-one, length-append}
-use Rattle.std.specs.Prelude.{fold, slice_get, ◌==◌}
+use Rattle.std.proofs.Common.{◌≡◌, ℕ, true, suc, ◌+◌, ◌-◌, ◌<◌, ◌≤◌, List, [], ◌∷◌, ◌++◌, Option, Some, None, false, refl, sym, ◌∙◌, ap, subst, length, arith, add-one, length-append}
+use Rattle.std.specs.Prelude.{slice_get, ◌==◌}
 use Rattle.std.specs.FinMap.{get}
-use Rattle.std.proofs.lemmas.List.{append_cancel_left}
 use Rattle.std.proofs.lemmas.List.Sums.{fold-append}
 use Rattle.dkg_journal.specs.Burn.{Burn}
 use Rattle.dkg_journal.specs.Names.{Files}
@@ -22,11 +21,10 @@ use Rattle.dkg_script.specs.Progress.{Progress, read}
 use Rattle.dkg_script.specs.Setting.{CutAt, Setting, blocks_per_epoch, is_oneshot, life_at}
 use Rattle.dkg_store.specs.Acts.{Ended, Held, World, broken, notes, says, stopped, went}
 use Rattle.dkg_store.specs.Noted.{logs_in}
-use Rattle.dkg_core.specs.Behind.{event_of}
 use Rattle.dkg_core.specs.Courses.{Course, EndsSo}
 use Rattle.dkg_core.specs.Heard.{recovered_in}
 use Rattle.dkg_core.specs.Live.{Live, NodeStop}
-use Rattle.dkg_core.specs.Node.{node_opening, node_step}
+use Rattle.dkg_core.specs.Node.{node_opening}
 use Rattle.dkg_core.specs.Seen.{Seen}
 use Rattle.dkg_core.specs.Transcripts.{IfWentTo}
 use Rattle.dkg_reshare.specs.declared.stop.Stop.TheVariants.{Cut}
@@ -37,10 +35,10 @@ use Rattle.dkg_run.proofs.Awaiting.{IsReached}
 use Rattle.dkg_run.proofs.AwaitedRises.{begun_rises}
 use Rattle.dkg_run.proofs.Currently.{MayBeKept, RestsIn, begun_behind, begun_more, current_later, may_of, may_still}
 use Rattle.dkg_run.proofs.Former.{IsMessage, event_in_form, message_in}
-use Rattle.dkg_run.proofs.KeptSteps.{AnyCall, IsAtStep, IsSaved, Reaches, WithinCall, saved_carried}
+use Rattle.dkg_run.proofs.KeptSteps.{AnyCall, IsAtStep, Reaches, WithinCall, saved_carried}
 use Rattle.dkg_run.proofs.LifeSteps.{IsGoing, IsLifeOfSetting, IsSettled, OpeningLeaves, StepLeaves, opening_goes, step_goes}
 use Rattle.dkg_run.proofs.LineLives.{After, CutThen, EachTold, KnownAfter, LeadsOn, Left, Told, come, come_more, known_before}
-use Rattle.dkg_run.proofs.LivesKept.{IsBetween, IsStopped, at_cuts, held_pairs, held_whole, logs_later, may_later, stops_saved, taken_before, taken_by, taken_within, told_going}
+use Rattle.dkg_run.proofs.LivesKept.{IsBetween, IsStopped, held_pairs, held_whole, logs_later, may_later, stops_saved, taken_before, taken_by, taken_within, told_going}
 use Rattle.dkg_run.proofs.RunKept.{logs_then, rests_then}
 
 abbrev U : Type 0
@@ -161,8 +159,12 @@ module _ (s : Setting) (ends : List (Option CutAt)) (reshares : is_oneshot s ≡
                 by_end (broken cause) none = λ at_cut is there within.
                     cut_then later new c at_cut is
                     (stops_saved AnyCall (b 0) l life 0 Cut new.held s later (come s c) lives (so.step ∙ at.step) (low c its_are)
-                    (λ e other known. (of_cut at_cut is (λ x. x.step ≡ 0) other known there, tt, of_cut at_cut is (λ x. b 0 ≤ begun s (come s c).cuts l (taken_by life x)) other known
-                    (subst (λ (n : ℕ). b 0 ≤ begun s (come s c).cuts l n) (sym (taken_within life at_cut 0 there within)) (low c its_are))))
+                    (λ e other known. (
+                      of_cut at_cut is (λ x. x.step ≡ 0) other known there,
+                      tt,
+                      of_cut at_cut is (λ x. b 0 ≤ begun s (come s c).cuts l (taken_by life x)) other known
+                          (subst (λ (n : ℕ). b 0 ≤ begun s (come s c).cuts l n) (sym (taken_within life at_cut 0 there within)) (low c its_are)),
+                    ))
                     (λ other any known. so.logs (earlier known.0)) so.saved)
 
         -- A STEP
@@ -204,20 +206,23 @@ module _ (s : Setting) (ends : List (Option CutAt)) (reshares : is_oneshot s ≡
                 by_end (broken cause) none = λ at_cut is there within.
                     cut_then later new c at_cut is
                     (stops_saved WithinCall (b (suc i)) l life (suc i) Cut new.held s later (come s c) lives (so.step ∙ at.step) low
-                    (λ e other known. (of_cut at_cut is (λ x. x.step ≡ suc i) other known there, of_cut at_cut is (λ x. 0 < x.call) other known within,
-                    of_cut at_cut is (λ x. b (suc i) ≤ begun s (come s c).cuts l (taken_by life x)) other known
-                    (subst (λ (n : ℕ). b (suc i) ≤ begun s (come s c).cuts l n) (sym (taken_within life at_cut (suc i) there within)) low)))
+                    (λ e other known. (
+                      of_cut at_cut is (λ x. x.step ≡ suc i) other known there,
+                      of_cut at_cut is (λ x. 0 < x.call) other known within,
+                      of_cut at_cut is (λ x. b (suc i) ≤ begun s (come s c).cuts l (taken_by life x)) other known
+                          (subst (λ (n : ℕ). b (suc i) ≤ begun s (come s c).cuts l n) (sym (taken_within life at_cut (suc i) there within)) low),
+                    ))
                     (λ other within known. so.logs (earlier known.0) (known.1 within)) so.saved)
 
         -- BEHIND THE LIFE
         over : (marks : Type 0) (st : Live U) (w : World) (c : List Entry) → IsBetween (l + 1) s (come s c) → (come s c).cuts ≡ cuts ++ None ∷ [] → BaseHere l life seen files life_is reads cuts back marks (length life.events) st w c
             → BaseBetween marks (l + 1) w c
         over marks st w c between are going = (
-            record {
-              whole = going.carries.half.agreed.whole;
-              may = may_later (b n) (begun_before s (come s c).cuts (length (come s c).cuts)) s (come s c) (recovered_in w.held) low (may_of (b n) s (come s c) l (recovered_in w.held) going.carries.opened going.carries.half.are);
-            },
-            λ known. logs_later s (b n) (begun_before s (come s c).cuts (length (come s c).cuts)) (come s c).recorded (logs_in (notes w.held)) low (going.logs known),
+          record {
+            whole = going.carries.half.agreed.whole;
+            may = may_later (b n) (begun_before s (come s c).cuts (length (come s c).cuts)) s (come s c) (recovered_in w.held) low (may_of (b n) s (come s c) l (recovered_in w.held) going.carries.opened going.carries.half.are);
+          },
+          λ known. logs_later s (b n) (begun_before s (come s c).cuts (length (come s c).cuts)) (come s c).recorded (logs_in (notes w.held)) low (going.logs known),
         )
           where
             n : ℕ
@@ -243,8 +248,12 @@ module _ (s : Setting) (ends : List (Option CutAt)) (reshares : is_oneshot s ≡
         unstepped marks i st w c at are going at_cut is there none =
             cut_then marks w c at_cut is
             (stops_saved AnyCall (b i) l life (suc i) Cut w.held s marks (come s c) at.lives at.step (low (suc i) (rises i))
-            (λ e other known. (of_cut at_cut is (λ x. x.step ≡ suc i) other known there, tt, of_cut at_cut is (λ x. b i ≤ begun s (come s c).cuts l (taken_by life x)) other known
-            (subst (λ (n : ℕ). b i ≤ begun s (come s c).cuts l n) (sym (taken_before life at_cut (suc i) there none ∙ back_one)) (low i (itself (b i))))))
+            (λ e other known. (
+              of_cut at_cut is (λ x. x.step ≡ suc i) other known there,
+              tt,
+              of_cut at_cut is (λ x. b i ≤ begun s (come s c).cuts l (taken_by life x)) other known
+                  (subst (λ (n : ℕ). b i ≤ begun s (come s c).cuts l n) (sym (taken_before life at_cut (suc i) there none ∙ back_one)) (low i (itself (b i)))),
+            ))
             (λ other any known. going.logs known.0) (saved_carried AnyCall (at_step g i) (b i) _ l st w.held s (come s c) going.carries))
           where
             back_one : suc i - 1 ≡ i

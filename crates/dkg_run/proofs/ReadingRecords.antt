@@ -206,10 +206,10 @@ module _ (s : Setting) (ends : List (Option CutAt)) (whole : IsWholeHistory s en
               by_level (inl same) = elim (cases_lt h (midpoint n e)) [
                 | inl low ↦ (omega (arith, same, low))
                 | inr late ↦ (
-                  let wrong : ◌≡◌ {A = Stage} Deals Includes
-                  = sym stage ∙ steps.includes s ends whole l life seen files here none_found cuts never_back i its is reached st at of_round m memory recording number block its_is seen_there round there late in
-                  absurd cc
-                )
+                    let wrong : ◌≡◌ {A = Stage} Deals Includes
+                    = sym stage ∙ steps.includes s ends whole l life seen files here none_found cuts never_back i its is reached st at of_round m memory recording number block its_is seen_there round there late in
+                    absurd cc
+                    )
               ]
 
           upto_block : HasBelow Brings (IsEarly s e) (λ d. get m (e, d)) (block.height + 1)

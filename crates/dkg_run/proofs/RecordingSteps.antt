@@ -357,15 +357,15 @@ module _ (s : Setting) (ends : List (Option CutAt)) (whole : IsWholeHistory s en
               let low : its_first.0 < block.height = (let under = its_first.2 in omega (arith, under, below)) in
               elim (cases_lt its_first.0 (h i)) [
                 | inl before ↦ (
-                  let some = recording.below (takes_part r new.of_epoch) r (round_is r new.of_epoch) its_first.0 before new.log.dealer its_first.1 its_first.3 in
-                  let no : ◌≡◌ {A = Bool} false true = subst (λ (o : Option RecordedLog). IsSome o) none_noted some in
-                  absurd cc
-                )
+                    let some = recording.below (takes_part r new.of_epoch) r (round_is r new.of_epoch) its_first.0 before new.log.dealer its_first.1 its_first.3 in
+                    let no : ◌≡◌ {A = Bool} false true = subst (λ (o : Option RecordedLog). IsSome o) none_noted some in
+                    absurd cc
+                    )
                 | inr high ↦ (
-                  let early = gap new.applied r new.of_epoch its_first.0 high low in
-                  let counted = (counts_within s (e i) r its_first.0 new.log.dealer its_first.1 (its_first.3).here).0 in
-                  absurd (omega (arith, early, counted))
-                )
+                    let early = gap new.applied r new.of_epoch its_first.0 high low in
+                    let counted = (counts_within s (e i) r its_first.0 new.log.dealer its_first.1 (its_first.3).here).0 in
+                    absurd (omega (arith, early, counted))
+                    )
               ]
 
           pub noted_first : IsFirst Brings new.log.dealer block.height new.log.log
