@@ -132,20 +132,23 @@ module _ {Known : Knows} (g : Lived) (here : IsLifeInForm g) (i : ℕ) (its : Ev
       -- made of these logs
       made_of : (request read : ℕ) (recorded logs : LogMap) (payload : Option (List ℕ)) → read ≤ suc i → epoch_by g (read - 1) ≡ e → WereAsked g.script g.life e request read round recorded logs → payload ≡ payload_by c round info logs
           → Known e read round recorded → (made : IsMadeOf g.script g.number g.life e (suc i) request payload) × Known e made.at made.round made.recorded
-      made_of request read recorded logs payload within same asked is its_known = (record {
-        takes_part = takes_part;
-        info = info;
-        info_is = info_is;
-        round = round;
-        round_is = round_is;
-        at = read;
-        within = within;
-        same = same;
-        recorded = recorded;
-        logs = logs;
-        asked = asked;
-        bytes = is ∙ bytes_are logs;
-      }, its_known)
+      made_of request read recorded logs payload within same asked is its_known = (
+        record {
+          takes_part = takes_part;
+          info = info;
+          info_is = info_is;
+          round = round;
+          round_is = round_is;
+          at = read;
+          within = within;
+          same = same;
+          recorded = recorded;
+          logs = logs;
+          asked = asked;
+          bytes = is ∙ bytes_are logs;
+        },
+        its_known,
+      )
 
     -- REQUESTS ARE READ in a life x
     module _ (x : Live U) (same : IsSamePart c st x) (x_tip : x.tip ≡ tip_in g.script g.life (suc i)) (ready : AreReady g Known e (suc i) st.participation.round x.inclusion)
