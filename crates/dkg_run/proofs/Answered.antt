@@ -33,7 +33,7 @@ use Rattle.dkg_core.specs.Forms.{Applied, judged_block, round_for}
 use Rattle.dkg_core.specs.Including.{Lacks}
 use Rattle.dkg_core.specs.Laws.{IsAmong}
 use Rattle.dkg_core.specs.Live as core
-use Rattle.dkg_core.specs.Live.{Cancel, Deals, Ends, EpochInfoOf, Feed, Finalized, Follows, Inclusion, Includes, Job, Live, Mail, Message, NextLog, NodeStop, Over, Peer, ReleaseLog, Request, Sent, Stage, VerifiedLogs, Work, is_last_height, phase_of}
+use Rattle.dkg_core.specs.Live.{Cancel, Deals, Ends, EpochInfoOf, Feed, Finalized, Follows, Includes, Job, Live, Mail, Message, NextLog, NodeStop, Over, Peer, ReleaseLog, Request, Sent, Stage, Work, is_last_height, phase_of}
 use Rattle.dkg_core.specs.Logs.{canonical, filled_by}
 use Rattle.dkg_core.specs.Node.{node_step}
 use Rattle.dkg_core.specs.NodeSaying.{IsHalfLine}
@@ -132,20 +132,23 @@ module _ {Known : Knows} (g : Lived) (here : IsLifeInForm g) (i : ℕ) (its : Ev
       -- made of these logs
       made_of : (request read : ℕ) (recorded logs : LogMap) (payload : Option (List ℕ)) → read ≤ suc i → epoch_by g (read - 1) ≡ e → WereAsked g.script g.life e request read round recorded logs → payload ≡ payload_by c round info logs
           → Known e read round recorded → (made : IsMadeOf g.script g.number g.life e (suc i) request payload) × Known e made.at made.round made.recorded
-      made_of request read recorded logs payload within same asked is its_known = (record {
-        takes_part = takes_part;
-        info = info;
-        info_is = info_is;
-        round = round;
-        round_is = round_is;
-        at = read;
-        within = within;
-        same = same;
-        recorded = recorded;
-        logs = logs;
-        asked = asked;
-        bytes = is ∙ bytes_are logs;
-      }, its_known)
+      made_of request read recorded logs payload within same asked is its_known = (
+        record {
+          takes_part = takes_part;
+          info = info;
+          info_is = info_is;
+          round = round;
+          round_is = round_is;
+          at = read;
+          within = within;
+          same = same;
+          recorded = recorded;
+          logs = logs;
+          asked = asked;
+          bytes = is ∙ bytes_are logs;
+        },
+        its_known,
+      )
 
     -- REQUESTS ARE READ in a life x
     module _ (x : Live U) (same : IsSamePart c st x) (x_tip : x.tip ≡ tip_in g.script g.life (suc i)) (ready : AreReady g Known e (suc i) st.participation.round x.inclusion)

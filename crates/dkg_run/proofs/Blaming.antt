@@ -305,7 +305,7 @@ module _ (g : Lived) (here : IsLifeInForm g) where
       on_course ended out now said = subst (λ (k : Course directory.Unit NodeStop (Live directory.Unit)). Said (on_devices k) ended out now) (m.course (suc i) st) said
 
       -- its lines
-      step_lines : (ended : Ended NodeStop (Live directory.Unit)) (out now : List Entry) → Said (on_devices (step_of g (suc i) e st)) ended out now → (added : List Entry) × (now ≡ out ++ added) × AllByRecursion (IsSaidAt untold g.script g.number g.life (suc i)) added
+      pub step_lines : (ended : Ended NodeStop (Live directory.Unit)) (out now : List Entry) → Said (on_devices (step_of g (suc i) e st)) ended out now → (added : List Entry) × (now ≡ out ++ added) × AllByRecursion (IsSaidAt untold g.script g.number g.life (suc i)) added
       step_lines ended out now said =
           told_lines held (λ x read at of_epoch round of. tt) ended out now said
 

@@ -86,12 +86,11 @@ module _ (brings : ℕ → Option (ℕ × DealerLog)) (Early : ℕ → Type 0) w
         by_before : (log : DealerLog) → brings height ≡ Some (dealer, log) → (o : Option RecordedLog) → recorded dealer ≡ o → first_of_both o (recorded_log height log) ≡ noted
             → (at : ℕ) × IsFirst brings dealer at noted.log × IsAtIts noted.height at
         by_before log brought (Some before) was same = sound dealer noted (was ∙ ap (λ (r : RecordedLog). Some r) same)
-        by_before log brought None was same =
-            (
-              height,
-              subst (λ (r : RecordedLog). IsFirst brings dealer height r.log) same (record { here = brought; first = none_before }),
-              subst (λ (r : RecordedLog). IsAtIts r.height height) same refl,
-            )
+        by_before log brought None was same = (
+          height,
+          subst (λ (r : RecordedLog). IsFirst brings dealer height r.log) same (record { here = brought; first = none_before }),
+          subst (λ (r : RecordedLog). IsAtIts r.height height) same refl,
+        )
           where
             none_before : NoneIn brings dealer 0 height
             none_before at other low below there =

@@ -57,7 +57,7 @@ pub record Promised (script : Script) (o : Over) (result : Result (Unit {0}) Fau
   pub offers : o.tells → Stands o.before.files o.before.image → OffersTheSame script o.before.files o.before.held added
   -- Whatever the devices tell, each answer of a final block's request is of one that was asked and isn't cancelled: what follows the logs that were asked for, or why there is none.
   pub answers : AnswersSo script added
-  -- .. and a completed step of a life that takes part, past its epoch's midpoint, leaves no request open unless a verification may run or one that was made no later still needs blocks.
+  -- .. and a completed step of a life that takes part, past its epoch's midpoint, leaves no request open unless a verification runs or the oldest one that is open still needs blocks.
   pub leaves : LeavesSo script added
   -- Where the past is whole, the logs of an available answer are those of one linked path of blocks.
   pub paths : o.tells → Stands o.before.files o.before.image → AnswersThePath script o.before.files o.before.held added
