@@ -1,11 +1,8 @@
 -- Which share is told as committed in an opening and in a step, over what the devices hold.
 use Rattle.std.proofs.Common.{◌≡◌, ℕ, Bool, true, false, List, [], ◌∷◌, Option, Some, None, refl, sym, ◌∙◌, ap, subst, arith}
-use Rattle.std.specs.Prelude.{◌+◌, ◌-◌, ◌==◌, ◌&&◌, ◌||◌, if◌then◌else◌, is_some, is_none, not, IsSomeAnd, Ok, Err, Result, option_and_then, nat_lt}
+use Rattle.std.specs.Prelude.{◌+◌, ◌-◌, ◌==◌, ◌&&◌, ◌||◌, if◌then◌else◌, is_some, is_none, not, IsSomeAnd, Ok, Err, Result, option_and_then}
 use Rattle.std.specs.Option.{option_map_or}
-use Rattle.std.specs.Result.{result_ok}
 use Rattle.std.proofs.lemmas.Bool.Decides.{nat_tests}
-use Rattle.dkg_values.specs.Codec.{whole}
-use Rattle.dkg_values.specs.Rising.{lookup}
 use Rattle.dkg_ceremony.specs.Outcomes.{LogMap}
 use Rattle.dkg_ceremony.specs.Schedule.{boundary, epoch_of, last, midpoint}
 use Rattle.dkg_ceremony.specs.declared.deal.DealError.{DealError}
@@ -14,40 +11,36 @@ use Rattle.dkg_ceremony.specs.declared.phase.Phase.{Phase}
 use Rattle.dkg_ceremony.specs.declared.round.RoundError.{RoundError}
 use Rattle.dkg_ceremony.specs.declared.round.RoundParts.{RoundParts as Round}
 use Rattle.dkg_ceremony.specs.declared.signed_log.SignedDealerLog.{SignedDealerLog}
-use Rattle.dkg_fence.specs.Fence.{waited}
-use Rattle.dkg_fence.specs.declared.fence.Waited.TheVariants as waits
-use Rattle.dkg_fence.specs.declared.fence.Waited.{Waited}
 use Rattle.dkg_secrets.specs.declared.secrets.SecretOp.TheVariants.{PutSeed, PutShare}
 use Rattle.dkg_store.specs.Acts.{Changes, Held, OnDisk, after}
 use Rattle.dkg_journal.specs.Operations.{Bars, Opens}
 use Rattle.dkg_types.specs.BlockCodes.{info_of}
 use Rattle.dkg_types.specs.Blocks.{Block}
 use Rattle.dkg_types.specs.PayloadCodes.{its_log}
-use Rattle.dkg_types.specs.declared.entry.Entry.TheVariants.{Acked, Committed, Entered}
+use Rattle.dkg_types.specs.declared.entry.Entry.TheVariants.{Acked, Committed}
 use Rattle.dkg_types.specs.declared.entry.Entry.{Entry as Line}
 use Rattle.dkg_types.specs.declared.entry.Why.TheVariants.{Finished}
-use Rattle.dkg_types.specs.declared.fault.Fault.TheVariants.{HeightRange, LocalState, MissingEpochInfo, SkippedHeight, WrongEpoch}
+use Rattle.dkg_types.specs.declared.fault.Fault.TheVariants.{HeightRange, LocalState, MissingEpochInfo, WrongEpoch}
 use Rattle.dkg_types.specs.declared.fault.Fault.{Fault}
 use Rattle.dkg_types.specs.declared.fault.LocalCause.TheVariants.{OutcomeOmitted}
 use Rattle.dkg_types.specs.declared.info.EpochInfo.{EpochInfo}
 use Rattle.dkg_types.specs.declared.participants.Participants.{Participants}
 use Rattle.dkg_types.specs.declared.participants.ParticipantsError.{ParticipantsError}
-use Rattle.dkg_types.specs.declared.scheme.SchemeInfo.{SchemeInfo}
 use Rattle.dkg_core.specs.Asked.{HasAsked, IsArtifactIn, IsAskStop, IsJobIn, IsResultIn, OfShares, Reads}
 use Rattle.dkg_core.specs.Behind.{event_of}
 use Rattle.dkg_core.specs.Blocks as b
 use Rattle.dkg_core.specs.Core.{begun, opening, opens_in, step}
-use Rattle.dkg_core.specs.Courses.{Certified, Course, Genesis, Goes, Say, Stops, bind, under}
+use Rattle.dkg_core.specs.Courses.{Course, Goes, Say, Stops, bind, under}
 use Rattle.dkg_core.specs.Dealing as d
 use Rattle.dkg_core.specs.Endings.{first_epoch, validity}
 use Rattle.dkg_core.specs.Entering as half
-use Rattle.dkg_core.specs.Entering.{Acknowledges, Half, HalfAnswer, Withholds, active, delivered}
+use Rattle.dkg_core.specs.Entering.{delivered}
 use Rattle.dkg_core.specs.Fixed.{Fixed, Material, OneShot, has, start}
 use Rattle.dkg_core.specs.Forms.{IsForm, round_for, seed_read, share_read}
 use Rattle.dkg_core.specs.Idle.{IsAskedLine}
 use Rattle.dkg_core.specs.Including as i
 use Rattle.dkg_core.specs.Including.{cached_for, can_finish, job_for, retained_for, retains, verified}
-use Rattle.dkg_core.specs.Live.{Artifact, Deals, Dealer, Ends, Faulted, Finalized, Follows, GaveNone, Includes, Inclusion, Job, Live, NodeStop, Orchestrator, Peer, Plays, Request, Seat, Sent, Stage, VerifiedLogs, Waiting, Watches, awaited_height, is_last_height, of_epoch, phase_of, recorded_at, with_inclusion, with_participation, with_tip, with_told}
+use Rattle.dkg_core.specs.Live.{Artifact, Deals, Dealer, Ends, Faulted, Finalized, Follows, GaveNone, Includes, Inclusion, Job, Live, Peer, Plays, Request, Seat, Sent, Stage, VerifiedLogs, Watches, awaited_height, is_last_height, of_epoch, phase_of, recorded_at, with_inclusion, with_participation, with_tip, with_told}
 use Rattle.dkg_core.specs.Logs.{canonical, is_accepted, log_event, logs_of}
 use Rattle.dkg_core.specs.Node.{kept_material, node_opening, node_step, unless_once}
 use Rattle.dkg_core.specs.Plans as p
@@ -63,7 +56,7 @@ use Rattle.dkg_core.proofs.Concluding.{retained_logs}
 use Rattle.dkg_core.proofs.Counting.{some_is}
 use Rattle.dkg_core.proofs.Heights.{next_last}
 use Rattle.dkg_core.proofs.Idle as idle
-use Rattle.dkg_core.proofs.SayingThrough.{deals_so, hears_so, so_behind, so_if, so_option}
+use Rattle.dkg_core.proofs.SayingThrough.{deals_so, hears_so, so_behind, so_if}
 use Rattle.dkg_core.proofs.Verifying as verifying
 use Rattle.dkg_core.proofs.Verifying.{IsEndedIn, verified_is, verifying_ends}
 use Rattle.dkg_run.proofs.HalfLines as halves

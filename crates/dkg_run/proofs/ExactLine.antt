@@ -1,20 +1,19 @@
 -- Where a last block commits the epoch behind one that its life takes part in, the share stands exactly: behind a success where the node plays, and behind a failure where it held one.
-use Rattle.std.proofs.Common.{◌≡◌, ◌⊎◌, inl, inr, ℕ, Bool, true, false, suc, ◌+◌, ◌-◌, ◌*◌, ◌/◌, ◌<◌, ◌≤◌, ◌^◌, List, [], ◌∷◌, ◌++◌, Option, Some, None, refl, sym, ◌∙◌, ap, subst, arith, filter, lit<, map}
+use Rattle.std.proofs.Common.{◌≡◌, ◌⊎◌, ℕ, Bool, true, false, suc, ◌+◌, ◌-◌, ◌*◌, ◌/◌, ◌<◌, ◌≤◌, List, [], ◌∷◌, Option, Some, None, refl, sym, ◌∙◌, ap, subst, arith, filter, lit<, map}
 use Rattle.std.proofs.Math.Nat.{div-lt_self, lt-div-mul-add}
-use Rattle.std.specs.Prelude.{slice_get, ◌&&◌, ◌||◌, ◌↔◌, IfSome, IsSome, IsSomeAnd, Ok, is_some, not, if◌then◌else◌, option_map, option_and_then}
+use Rattle.std.specs.Prelude.{slice_get, ◌&&◌, ◌||◌, ◌↔◌, IfSome, IsSome, IsSomeAnd, Ok, is_some, not, if◌then◌else◌, option_map}
 use Rattle.std.specs.FinMap.{entries as pairs_in, get}
 use Rattle.std.specs.List.{AllByRecursion, list_any}
 use Rattle.std.specs.Option.{option_map_or}
 use Rattle.std.proofs.lemmas.Bool.{and_parts}
 use Rattle.dkg_values.specs.Places.{Contains-place_of}
-use Rattle.dkg_values.specs.Rising.{has_key, lookup, place_of}
+use Rattle.dkg_values.specs.Rising.{lookup, place_of}
 use Rattle.dkg_values.specs.RisingLaws.{has_key-from}
 use Rattle.dkg_ceremony.specs.Finishes.{has_public}
 use Rattle.dkg_ceremony.specs.Outcomes.{LogMap, outcome_of}
 use Rattle.dkg_ceremony.specs.PartialPublics.{partial_public_of, share_public_of}
 use Rattle.dkg_ceremony.specs.Polynomials.{value_at}
 use Rattle.dkg_ceremony.specs.Schedule.{epoch_of, last, midpoint}
-use Rattle.dkg_ceremony.specs.ValidLogs.{bears_ack_of}
 use Rattle.dkg_ceremony.specs.declared.dealer_log.DealerLog.{DealerLog}
 use Rattle.dkg_ceremony.specs.declared.output.Output.{Output}
 use Rattle.dkg_ceremony.specs.declared.round.RoundParts.{RoundParts as Round}
@@ -44,8 +43,7 @@ use Rattle.dkg_script.specs.Setting.{CutAt, Setting, blocks_per_epoch, is_onesho
 use Rattle.dkg_script.specs.Views.{seen_block, seen_provided}
 use Rattle.dkg_store.specs.Acts.{Held, World, notes}
 use Rattle.dkg_store.specs.Noted.{logs_in}
-use Rattle.dkg_store.specs.Player.{has_orphan}
-use Rattle.dkg_store.specs.Recorded.{at_epoch, bare_logs, is_reached}
+use Rattle.dkg_store.specs.Recorded.{bare_logs, is_reached}
 use Rattle.dkg_store.specs.declared.recorded_log.RecordedLog.{RecordedLog}
 use Rattle.dkg_core.specs.Asked.{IsArtifactIn, OfShares}
 use Rattle.dkg_core.specs.Blocks.{share_for}
@@ -54,7 +52,7 @@ use Rattle.dkg_core.specs.Fixed.{Fixed, has}
 use Rattle.dkg_core.specs.Forms.{Applied, judged_block, round_for}
 use Rattle.dkg_core.specs.Heard.{recovered_in}
 use Rattle.dkg_core.specs.Including.{can_finish}
-use Rattle.dkg_core.specs.Live.{Artifact, Deals, Ends, Follows, Includes, Live, Plays, Stage, awaited_height, is_last_height, of_epoch}
+use Rattle.dkg_core.specs.Live.{Artifact, Deals, Ends, Follows, Includes, Live, Plays, Stage, awaited_height, of_epoch}
 use Rattle.dkg_core.specs.Logs.{canonical, logs_of}
 use Rattle.dkg_core.specs.Same.{same_info}
 use Rattle.dkg_core.specs.Seen.{Seen}
@@ -64,8 +62,8 @@ use Rattle.dkg_core.specs.Stepping.{next_epoch}
 use Rattle.dkg_core.specs.Storing.{ReadsSecrets}
 use Rattle.dkg_core.specs.Through.{IsLiveThrough, IsShareTaken, unasked}
 use Rattle.dkg_core.proofs.Heights.{epoch_is}
-use Rattle.dkg_core.proofs.Same.{AreOneInfo, infos_are_one}
-use Rattle.dkg_run.specs.Epochs.{IsAt, IsLifeInForm, any_shares}
+use Rattle.dkg_core.proofs.Same.{infos_are_one}
+use Rattle.dkg_run.specs.Epochs.{IsLifeInForm, any_shares}
 use Rattle.dkg_run.specs.Given.{AreBytes, Lived, at_step, blocks_in, lived, provided_by}
 use Rattle.dkg_run.specs.SharesStand.{HeldShare, StandsBy, WasCutInto, Plays as PartPlays}
 use Rattle.dkg_run.specs.Ways.{by_worlds}
@@ -80,7 +78,7 @@ use Rattle.dkg_run.proofs.LastLogs.{canonical_chain}
 use Rattle.dkg_run.proofs.LifeSteps.{IsGoing, IsLifeOfSetting}
 use Rattle.dkg_run.proofs.LineLives.{come}
 use Rattle.dkg_run.proofs.MarksAt.{gives_recorded, lacks_none}
-use Rattle.dkg_run.proofs.NextLives.{applied_so, has_round}
+use Rattle.dkg_run.proofs.NextLives.{applied_so}
 use Rattle.dkg_run.proofs.Plays.{deals_early}
 use Rattle.dkg_run.proofs.ReadLogs.{IsRecordedTo}
 use Rattle.dkg_run.proofs.SeenBlocks.{seen_at}
@@ -238,8 +236,8 @@ module _ (s : Setting) (ends : List (Option CutAt)) (form : IsFormOfInclusion s.
 
           by_tip : (o : Option Tip) → st.tip ≡ o → canonical C st ≡ chain_logs s round e
           by_tip None none = absurd (
-            let deals : st.participation.stage ≡ Deals = deals_early C (unasked st) round its_live.stands there (early none) in
-            let wrong : ◌≡◌ {A = Stage} Includes Deals = sym includes ∙ deals in cc)
+              let deals : st.participation.stage ≡ Deals = deals_early C (unasked st) round its_live.stands there (early none) in
+              let wrong : ◌≡◌ {A = Stage} Includes Deals = sym includes ∙ deals in cc)
           by_tip (Some t) tip =
               canonical_chain s e round (placed s) C st (recorded round there) t tip (sym ((applied_so C block st applied).over t tip) ∙ delivers)
               (half_low (e * n) (n / 2) n (div-lt_self {n = n} {k = 2} (positive n some) (lit< tt))) (keys s form bytes e round) blocks_are epoch_here
@@ -385,9 +383,11 @@ module _ (s : Setting) (ends : List (Option CutAt)) (form : IsFormOfInclusion s.
         in_stage info carried Deals at none = absurd none
         in_stage info carried Ends at none = absurd none
         in_stage info carried Includes at (round, current, there, of_current, (artifact, art, same)) =
-            let its_seat = seat round there at info carried current of_current artifact art in
-            (its_seat.0, its_seat.1 ∙ ap (λ (k : ℕ). Some (k, its_seat.0)) epoch_here,
-            subst (λ (o : Option ℕ). StandsBy s before e its_seat.0 o info.outcome) (sym (same ∙ share_is round there at info carried current of_current artifact art)) (stands round there at info carried current of_current artifact art))
+            let its_seat = seat round there at info carried current of_current artifact art in (
+              its_seat.0,
+              its_seat.1 ∙ ap (λ (k : ℕ). Some (k, its_seat.0)) epoch_here,
+              subst (λ (o : Option ℕ). StandsBy s before e its_seat.0 o info.outcome) (sym (same ∙ share_is round there at info carried current of_current artifact art)) (stands round there at info carried current of_current artifact art),
+            )
 
         by_info : (o : Option (EpochInfo U)) → info_of block.payload ≡ o → IsSomeAnd o OfInfo → IsSomeAnd (known_info s (e + 1)) (λ info. Stands share info.outcome)
         by_info None carried none = absurd none

@@ -1,5 +1,5 @@
 -- Each share that a run over devices that tell commits stands exactly, where its script has a whole history, last blocks carry what their chain makes, and the devices that were handed in are whole and their shares fit.
-use Rattle.std.proofs.Common.{◌≡◌, ◌⊎◌, inl, inr, ◌+◌, ◌++◌, ◌∷◌, [], ℕ, false, List, Option, Some, Result, refl, sym, ◌∙◌, subst, append-nil, append_assoc}
+use Rattle.std.proofs.Common.{◌≡◌, inl, inr, ◌+◌, ◌++◌, ◌∷◌, [], ℕ, false, List, Option, Some, Result, refl, sym, ◌∙◌, subst, append-nil, append_assoc}
 use Rattle.std.specs.Prelude.{fold, IsSomeAnd}
 use Rattle.dkg_journal.specs.Names.{Files}
 use Rattle.dkg_journal.specs.Records.{entries}
@@ -12,7 +12,7 @@ use Rattle.dkg_text.specs.declared.script.Life.{Life}
 use Rattle.dkg_script.specs.Blocks.{known_info}
 use Rattle.dkg_script.specs.Consistent.{MayEndSo}
 use Rattle.dkg_script.specs.History.{IsHonestlyDerived, IsWholeHistory, WasSeen}
-use Rattle.dkg_script.specs.Order.{InOrder, IsInOrder}
+use Rattle.dkg_script.specs.Order.{InOrder}
 use Rattle.dkg_script.specs.OwnMarks.{AreKnownHandedIn, OwnMarks}
 use Rattle.dkg_script.specs.Position.{begun_before}
 use Rattle.dkg_script.specs.Progress.{at_start, progress, read}

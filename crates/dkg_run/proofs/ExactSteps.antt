@@ -1,7 +1,7 @@
 -- What a life holds of shares, and its seat, from step to step: each share of an epoch that it holds was handed in or is told, or an earlier life was cut within a step into that epoch; the last setup that its
 -- lines tell is its own; and what it has read of its epoch's share is still so.
-use Rattle.std.proofs.Common.{◌≡◌, ◌⊎◌, inl, inr, ℕ, Bool, true, false, zero, suc, ◌+◌, ◌-◌, ◌<◌, ◌≤◌, List, [], ◌∷◌, ◌++◌, Option, Some, None, refl, sym, ◌∙◌, ap, subst, length, arith, fold, add-one, append_assoc, length-append}
-use Rattle.std.specs.Prelude.{slice_get, ◌==◌, ◌||◌, ◌↔◌, Contains, IsSome, IsSomeAnd, is_some, max, not, if◌then◌else◌}
+use Rattle.std.proofs.Common.{◌≡◌, ◌⊎◌, inl, inr, ℕ, Bool, true, false, zero, suc, ◌+◌, ◌-◌, ◌<◌, ◌≤◌, List, [], ◌∷◌, ◌++◌, Option, Some, None, refl, sym, ◌∙◌, ap, subst, length, arith, add-one, length-append}
+use Rattle.std.specs.Prelude.{slice_get, ◌==◌, ◌||◌, IsSome, IsSomeAnd, is_some, max, not, if◌then◌else◌}
 use Rattle.std.specs.FinMap.{get}
 use Rattle.std.specs.List.{AllByRecursion}
 use Rattle.std.specs.Option.{option_flatten}
@@ -27,7 +27,6 @@ use Rattle.dkg_text.specs.declared.script.Event.TheVariants as event
 use Rattle.dkg_text.specs.declared.script.Life.{Life}
 use Rattle.dkg_script.specs.Consistent.{IsConsistentScript}
 use Rattle.dkg_script.specs.Inclusion.{IsFormOfInclusion}
-use Rattle.dkg_script.specs.OwnMarks.{IsKnownAt}
 use Rattle.dkg_script.specs.Position.{awaited_before, awaited_epoch, awaited_height, begun, begun_before, cut_of, events_taken}
 use Rattle.dkg_script.specs.Progress.{Progress, read}
 use Rattle.dkg_script.specs.Setting.{CutAt, Setting, blocks_per_epoch, is_oneshot, life_at, me}
@@ -36,7 +35,7 @@ use Rattle.dkg_core.specs.Asked.{OfShares, Reads}
 use Rattle.dkg_core.specs.Behind.{event_of}
 use Rattle.dkg_core.specs.Blocks as b
 use Rattle.dkg_core.specs.Courses.{Course, EndsSo}
-use Rattle.dkg_core.specs.Endings.{CameTo, first_block, first_epoch, seat_in}
+use Rattle.dkg_core.specs.Endings.{CameTo, first_block, first_epoch}
 use Rattle.dkg_core.specs.Fixed.{Fixed, OneShot, has}
 use Rattle.dkg_core.specs.Forms.{Applied, IsNodeBegun, IsOpeningStop, IsSeated, IsSetUpIn, Judged, LeavesHeld, Passed, Refusal, held_behind, judged_block, seed_read, share_read, started}
 use Rattle.dkg_core.specs.Idle.{IsAskedLine, LeavesIdle}
@@ -48,7 +47,6 @@ use Rattle.dkg_core.specs.NodeEndings.{IsFaultBy}
 use Rattle.dkg_core.specs.NodeThrough.{IsActiveThrough, IsNodeThrough}
 use Rattle.dkg_core.specs.Seen.{Seen}
 use Rattle.dkg_core.specs.Setup.{Uncommitted, is_lost}
-use Rattle.dkg_core.specs.Sources.{Tip}
 use Rattle.dkg_core.specs.Storing.{ReadsSecrets}
 use Rattle.dkg_core.specs.Through.{IsLiveThrough, PassesNothingOn, unasked}
 use Rattle.dkg_core.proofs.Heights.{next_last}
@@ -58,7 +56,7 @@ use Rattle.dkg_core.proofs.Openings.{node_openings_lead_over}
 use Rattle.dkg_core.proofs.Reading.{live_as, step_reads}
 use Rattle.dkg_core.proofs.Storing.{looked_up}
 use Rattle.dkg_run.specs.Epochs.{IsAt, IsLifeInForm, any_shares}
-use Rattle.dkg_run.specs.Given.{Lived, at_step, blocks_in, lived, step_of}
+use Rattle.dkg_run.specs.Given.{Lived, at_step, lived, step_of}
 use Rattle.dkg_run.specs.SharesStand.{HeldShare, WasCutInto}
 use Rattle.dkg_run.specs.Ways.{StaysHeld, by_worlds}
 use Rattle.dkg_run.proofs.Alone.{epoch_alike, height_alike}
@@ -76,7 +74,7 @@ use Rattle.dkg_run.proofs.RunKept.{cuts_all}
 use Rattle.dkg_run.proofs.NextLives.{GoesOn, TakesOver, applied_high, has_round, next_so, with_round}
 use Rattle.dkg_run.proofs.SaysOver.{said_over}
 use Rattle.dkg_run.proofs.SetUps.{IsQuiet, IsSeatedBy, IsSetUpBy, Telling, block_quiet, last_line, opening_leads, peer_quiet, set_up_last, still_seated, taken_leads}
-use Rattle.dkg_run.proofs.SharesKnown.{IsFitting, IsMineAt, SharesFit, mine, opening_fits, opening_fitting, reads_shares, step_fits, step_fitting}
+use Rattle.dkg_run.proofs.SharesKnown.{IsFitting, IsMineAt, SharesFit, opening_fits, opening_fitting, reads_shares, step_fits, step_fitting}
 use Rattle.dkg_run.proofs.SharesFit.{same_shares}
 use Rattle.dkg_run.proofs.Started.{first_epoch_is}
 use Rattle.dkg_run.proofs.StoredTold.{AtCommits, Leaves, Stores, TellsShare, begins_so, quiet_to, run_stores}
@@ -741,7 +739,6 @@ module _ (s : Setting) (ends : List (Option CutAt)) (form : IsFormOfInclusion s.
 
       pub went_left : (end : Live U) → ended ≡ went end → IsAt g (suc i) end → ExactHere (suc i) end (says new (entry.Step (suc i))) (after_it ++ entry.Step (suc i) ∷ [])
       went_left end is_end behind = here_new end is_end behind
-
 
   -- AN OPENING
   module _ (w : World) (before : List Entry) (at : IsAtStep l life 0 s (come s before)) (are : (come s before).cuts ≡ cuts) (between : ExactBetween s w before) (f : Burn) (ended : Ended NodeStop (Live U)) (new : World)

@@ -1,6 +1,6 @@
 -- Each line that commits the epoch behind one that its life takes part in has a share just where it stands: line by line, with what the lives record.
-use Rattle.std.proofs.Common.{◌≡◌, ◌⊎◌, inl, inr, ℕ, suc, Bool, true, false, ◌+◌, ◌-◌, ◌*◌, ◌<◌, ◌≤◌, List, [], ◌∷◌, ◌++◌, Option, Some, None, refl, sym, ◌∙◌, ap, subst, length, arith, append-nil, append_assoc}
-use Rattle.std.specs.Prelude.{◌==◌, Contains, IsSome, IsSomeAnd, is_some, slice_get}
+use Rattle.std.proofs.Common.{◌≡◌, ◌⊎◌, inl, inr, ℕ, suc, true, false, ◌+◌, ◌-◌, ◌*◌, ◌<◌, ◌≤◌, List, [], ◌∷◌, ◌++◌, Option, Some, None, refl, sym, ◌∙◌, ap, subst, length, arith, append-nil, append_assoc}
+use Rattle.std.specs.Prelude.{IsSomeAnd, is_some, slice_get}
 use Rattle.std.specs.FinMap.{get}
 use Rattle.std.specs.List.{AllByRecursion}
 use Rattle.std.proofs.lemmas.List.{append_cancel_left}
@@ -20,7 +20,6 @@ use Rattle.dkg_types.specs.declared.entry.Part.{Part}
 use Rattle.dkg_types.specs.declared.info.EpochInfo.{EpochInfo}
 use Rattle.dkg_types.specs.declared.outcome.EpochOutcome.{EpochOutcome}
 use Rattle.dkg_types.specs.declared.outcome.EpochOutcome.TheVariants.{Success, Failure}
-use Rattle.dkg_text.specs.declared.script.Cut as cut
 use Rattle.dkg_text.specs.declared.script.Event as script
 use Rattle.dkg_text.specs.declared.script.Event.TheVariants as event
 use Rattle.dkg_text.specs.declared.script.Life.{Life}
@@ -30,10 +29,10 @@ use Rattle.dkg_script.specs.History.{IsHonestlyDerived, IsWholeHistory}
 use Rattle.dkg_script.specs.Inclusion.{IsFormOfInclusion}
 use Rattle.dkg_script.specs.OwnMarks.{IsKnownAt}
 use Rattle.dkg_script.specs.Position.{awaited_before, awaited_epoch, event_of_step, follows}
-use Rattle.dkg_script.specs.Progress.{Progress, at_start, progress, read}
+use Rattle.dkg_script.specs.Progress.{Progress, progress, read}
 use Rattle.dkg_script.specs.Readings.{Info}
 use Rattle.dkg_script.specs.Setting.{CutAt, Setting, blocks_per_epoch, is_oneshot, life_at}
-use Rattle.dkg_script.specs.Views.{seen_block, seen_provided}
+use Rattle.dkg_script.specs.Views.{seen_provided}
 use Rattle.dkg_store.specs.Acts.{Ended, Held, World, broken, notes, stopped, went}
 use Rattle.dkg_store.specs.Noted.{logs_in}
 use Rattle.dkg_core.specs.Asked.{OfShares}
@@ -43,7 +42,6 @@ use Rattle.dkg_core.specs.Forms.{Applied, judged_block}
 use Rattle.dkg_core.specs.Laws.{IsQuiet}
 use Rattle.dkg_core.specs.Live.{Finalized, Live, Message, NodeStop, Sent, is_last_height}
 use Rattle.dkg_core.specs.Node.{node_opening}
-use Rattle.dkg_core.specs.Said.{Said}
 use Rattle.dkg_core.specs.Seen.{Seen}
 use Rattle.dkg_core.specs.Stepping.{next_epoch}
 use Rattle.dkg_core.specs.Storing.{ReadsSecrets}
@@ -52,7 +50,7 @@ use Rattle.dkg_core.specs.Transcripts.{BeginsOpened}
 use Rattle.dkg_core.proofs.Heights.{epoch_is}
 use Rattle.dkg_core.proofs.Said.{runs_say}
 use Rattle.dkg_run.specs.Epochs.{IsLifeInForm}
-use Rattle.dkg_run.specs.Given.{AreBytes, Lived, at_step, blocks_in, lived, provided_by, step_of}
+use Rattle.dkg_run.specs.Given.{AreBytes, Lived, at_step, lived, provided_by, step_of}
 use Rattle.dkg_run.specs.SharesStand.{EndsEpoch, HeldShare, StandsBy, StandsSo, WasCutInto}
 use Rattle.dkg_run.specs.Ways.{by_worlds}
 use Rattle.dkg_run.proofs.Awaiting.{IsReached}

@@ -1,6 +1,6 @@
 -- Each line of the orchestrator's half, behind an opening, a block and mail: it enters an epoch, halts, or acknowledges a block.
-use Rattle.std.proofs.Common.{ℕ, Bool, true, false, Option, Some, None}
-use Rattle.std.specs.Prelude.{◌+◌, ◌==◌, List, if◌then◌else◌, is_some, option_and_then, nat_lt}
+use Rattle.std.proofs.Common.{ℕ, Option, Some, None}
+use Rattle.std.specs.Prelude.{◌+◌, ◌==◌, if◌then◌else◌, is_some, option_and_then, nat_lt}
 use Rattle.std.specs.Result.{result_ok}
 use Rattle.dkg_values.specs.Codec.{whole}
 use Rattle.dkg_values.specs.Rising.{lookup}
@@ -105,4 +105,3 @@ module _ {Dir : Type 0} (c : Fixed Dir) (P : Line → Type 0) (entered : (epoch 
     where
       opens_by : (m : Option (Material Dir)) → SaysSo P (bind (half.opens_half c m now) (λ left. Goes left.live))
       opens_by m = so_behind P (half.opens_half c m now) (λ left. Goes left.live) (opens_so now m) (λ left. tt)
-

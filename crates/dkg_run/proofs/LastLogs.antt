@@ -1,7 +1,6 @@
 -- Before an epoch's last block what is recorded of it, and reached by the tip, are the chain's logs.
-use Rattle.std.proofs.Common.{◌≡◌, ◌<◌, ◌≤◌, ◌+◌, ◌^◌, ℕ, zero, suc, Bool, true, false, List, [], ◌∷◌, ◌++◌, Option, Some, None, arith, refl, sym, ◌∙◌, ap, subst, map, filter_map}
+use Rattle.std.proofs.Common.{◌≡◌, ◌<◌, ◌≤◌, ◌+◌, ◌^◌, ℕ, zero, suc, Bool, true, false, List, [], ◌∷◌, ◌++◌, Option, Some, None, arith, refl, sym, ◌∙◌, ap, map, filter_map}
 use Rattle.std.specs.Prelude.{◌-◌, filter, option_map, option_to_list, if◌then◌else◌}
-use Rattle.std.specs.FinMap.{entries, get}
 use Rattle.dkg_values.specs.Rising.{Rises, keys_of, lookup, map_of}
 use Rattle.dkg_values.specs.RisingLaws.{map_of-lookup, map_of-rises, rises_from, rises_less, same_lookups}
 use Rattle.dkg_ceremony.specs.Outcomes.{LogMap}
@@ -10,14 +9,13 @@ use Rattle.dkg_ceremony.specs.ValidLogs.{check_log_of}
 use Rattle.dkg_ceremony.specs.declared.dealer_log.DealerLog.{DealerLog}
 use Rattle.dkg_ceremony.specs.declared.round.RoundParts.{RoundParts as Round}
 use Rattle.dkg_ceremony.specs.declared.signed_log.SignedDealerLog.{SignedDealerLog}
-use Rattle.dkg_store.specs.Noted.{Notes}
 use Rattle.dkg_store.specs.Recorded.{at_epoch, bare_logs, is_reached, reached_logs}
 use Rattle.dkg_store.specs.declared.recorded_log.RecordedLog.{RecordedLog}
 use Rattle.dkg_store.proofs.Epochs.{rising}
 use Rattle.dkg_types.specs.Paths.{counts, logs_from}
 use Rattle.dkg_types.specs.declared.directory.Unit as directory
 use Rattle.dkg_script.specs.Blocks.{Block, chain}
-use Rattle.dkg_script.specs.History.{chain_from, chain_logs, log_blocks}
+use Rattle.dkg_script.specs.History.{chain_from, chain_logs}
 use Rattle.dkg_script.specs.Setting.{Setting, blocks_per_epoch}
 use Rattle.dkg_script.specs.Views.{log_at}
 use Rattle.dkg_core.specs.Fixed.{Fixed}
@@ -25,7 +23,7 @@ use Rattle.dkg_core.specs.Live.{Live, of_epoch}
 use Rattle.dkg_core.specs.Logs.{canonical}
 use Rattle.dkg_core.specs.Sources.{Tip}
 use Rattle.dkg_run.proofs.ChainLogs.{brings_of, counted_at, none_below, recorded_found}
-use Rattle.dkg_run.proofs.FirstLogs.{AreFirst, brought_from}
+use Rattle.dkg_run.proofs.FirstLogs.{brought_from}
 use Rattle.dkg_run.proofs.ReadLogs.{IsRecordedTo}
 
 -- what passes a test rises as all do

@@ -1,5 +1,5 @@
 -- What an opening and an epoch's last block tell and store: the last setup is of the epoch and the seat in which the life takes part from there on, and each share that is stored is told.
-use Rattle.std.proofs.Common.{◌≡◌, ◌⊎◌, inl, inr, ◌≤◌, ℕ, Bool, true, false, List, [], ◌∷◌, ◌++◌, Option, Some, None, refl, sym, ◌∙◌, ap, subst, fold, arith}
+use Rattle.std.proofs.Common.{◌≡◌, ◌⊎◌, inl, inr, ◌≤◌, ℕ, Bool, true, false, List, [], ◌∷◌, Option, Some, None, refl, sym, ◌∙◌, ap, subst, fold, arith}
 use Rattle.std.specs.Prelude.{◌-◌, ◌+◌, ◌==◌, ◌&&◌, ◌||◌, ◌↔◌, if◌then◌else◌, is_none, is_some, not, option_map, ◌^◌, IsFalse, Ok, Err, Result, option_and_then, nat_le, nat_lt, length}
 use Rattle.std.specs.List.{list_any}
 use Rattle.std.specs.Option.{option_map_or}
@@ -13,7 +13,6 @@ use Rattle.dkg_ceremony.specs.Schedule.{boundary, epoch_of, midpoint}
 use Rattle.dkg_ceremony.specs.declared.ceremony.AckError.{AckError}
 use Rattle.dkg_ceremony.specs.declared.ceremony.DealingError.{DealingError}
 use Rattle.dkg_ceremony.specs.declared.deal.DealError.{DealError}
-use Rattle.dkg_ceremony.specs.declared.output.Output.{Output}
 use Rattle.dkg_ceremony.specs.declared.phase.Phase.{Phase}
 use Rattle.dkg_ceremony.specs.declared.phase.Phase.TheVariants.{Early, Late, Midpoint}
 use Rattle.dkg_ceremony.specs.declared.round.RoundError.{RoundError}
@@ -25,7 +24,6 @@ use Rattle.dkg_types.specs.MessageCodes.{message_at}
 use Rattle.dkg_types.specs.PayloadCodes.{its_log}
 use Rattle.dkg_types.specs.declared.entry.Entry.TheVariants.{Acked, Answer, Committed, Log, Offer, Opened, Setup}
 use Rattle.dkg_types.specs.declared.entry.Entry.{Entry as Line}
-use Rattle.dkg_types.specs.declared.entry.Part.TheVariants.{Both, Dealer as Deals_alone, Observer, Player}
 use Rattle.dkg_types.specs.declared.entry.Part.{Part}
 use Rattle.dkg_types.specs.declared.fault.Fault.TheVariants.{DirectoryMismatch, HeightRange, InvalidParticipants, LocalState, MissingEpochInfo, WrongEpoch}
 use Rattle.dkg_types.specs.declared.fault.Fault.{Fault}
@@ -36,7 +34,6 @@ use Rattle.dkg_types.specs.declared.entry.Why.TheVariants.{Finished}
 use Rattle.dkg_types.specs.declared.info.EpochInfo.{EpochInfo}
 use Rattle.dkg_types.specs.declared.message.Message.TheVariants.{Ack as AnAck, Dealer as ADealing}
 use Rattle.dkg_types.specs.declared.message.Message.{Message as Channel}
-use Rattle.dkg_types.specs.declared.participants.Participants.{Participants}
 use Rattle.dkg_types.specs.declared.participants.ParticipantsError.{ParticipantsError}
 use Rattle.dkg_store.specs.declared.event.Event.TheVariants as events
 use Rattle.dkg_secrets.specs.declared.secrets.SecretOp.TheVariants.{Prune, PutDealing, PutSeed, PutShare}
@@ -460,9 +457,14 @@ module _ {Dir : Type 0} (c : Fixed Dir) where
     -- behind the prune
     behind_prune : (info : EpochInfo Dir) (share : Option ℕ) (seed : List ℕ) (now : Live Dir) (x : Telling) → x.untold ≡ None → now.participation.epoch - 1 ≤ most
         → Leads IsSetUpBy x (bind (s.prunes (now.participation.epoch - 1) now) (λ st. if s.is_late_floor c None then s.follows c st else s.draws_up c (s.participants_of info) (Some info.output) share seed st))
-    behind_prune info share seed now x none low = (tt, ((none, low),
+    behind_prune info share seed now x none low = (
+      tt,
+      (
+        (none, low),
         in_round (phase_of c (awaited_height now)) share seed (record now { records = s.records_from (now.participation.epoch - 1) now.records })
-        (c.rules.round_of c.namespace now.participation.epoch (Some info.output) c.mode c.reveal (s.participants_of info).dealers (s.participants_of info).players) x none))
+            (c.rules.round_of c.namespace now.participation.epoch (Some info.output) c.mode c.reveal (s.participants_of info).dealers (s.participants_of info).players) x none,
+      ),
+    )
 
     -- what is committed is stored and told
     commits : {S : Type 0} (goes : Telling → S → Type 0) (info : EpochInfo Dir) (seed : List ℕ) (put : Option ℕ) (now : Live Dir) (next : Live Dir → Course Dir Fault S) (x : Telling) → x.untold ≡ None → At x.last → Into info.epoch

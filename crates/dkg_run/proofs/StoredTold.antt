@@ -1,6 +1,6 @@
 -- What a course stores of shares and tells: each share that is held behind it was held before, or is told, or is the one that it was about to tell; and what was held, or told, is held.
-use Rattle.std.proofs.Common.{◌≡◌, ◌⊎◌, inl, inr, true, false, ◌<◌, ◌≤◌, ℕ, List, [], ◌∷◌, ◌++◌, Option, Some, None, arith, refl, sym, ◌∙◌, ap, subst, append-nil, append_assoc, fold}
-use Rattle.std.specs.Prelude.{Contains, IsSome, Ok}
+use Rattle.std.proofs.Common.{◌≡◌, ◌⊎◌, inl, inr, true, false, ◌<◌, ◌≤◌, ℕ, List, [], ◌∷◌, ◌++◌, Option, Some, None, arith, refl, sym, ◌∙◌, ap, subst, append-nil, append_assoc}
+use Rattle.std.specs.Prelude.{Contains, IsSome}
 use Rattle.std.specs.FinMap as maps
 use Rattle.std.specs.FinMap.{FinMap, get, nat_cmp-IsAntisymmetric}
 use Rattle.std.specs.Cmp.{nat_cmp_total}
@@ -17,9 +17,9 @@ use Rattle.dkg_secrets.specs.declared.secrets.SecretOp.TheVariants.{Prune, PutDe
 use Rattle.dkg_types.specs.declared.entry.Entry.{Entry as Line}
 use Rattle.dkg_types.specs.declared.entry.Entry.TheVariants.{Committed, Opened, Setup}
 use Rattle.dkg_types.specs.declared.entry.Part.{Part}
-use Rattle.dkg_store.specs.Acts.{Cause, Changes, Ended, OnDisk, Operation, Tears, World, after, broken, does, says, stopped, went}
+use Rattle.dkg_store.specs.Acts.{Cause, Changes, Ended, OnDisk, Operation, Tears, World, broken, does, says, stopped, went}
 use Rattle.dkg_core.specs.Courses.{Ask, Call, Course, Do, EndsSo, Goes, Say, Stops}
-use Rattle.dkg_run.proofs.SetUps.{IsQuiet, LeadsTo, MayDo, MaySay, Spares, Telling, after_line, after_op, last_line, plain_keeps, plain_said, set_up_last, spares_keeps, spares_may}
+use Rattle.dkg_run.proofs.SetUps.{IsQuiet, LeadsTo, MayDo, MaySay, Telling, after_line, after_op, last_line, plain_keeps, plain_said, set_up_last, spares_keeps, spares_may}
 
 none_some : {A : Type 0} {x : A} → ◌≡◌ {A = Option A} None (Some x) → ⊥
 none_some e = cc
