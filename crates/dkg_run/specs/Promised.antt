@@ -63,7 +63,7 @@ pub record Promised (script : Script) (o : Over) (result : Result (Unit {0}) Fau
   pub paths : o.tells → Stands o.before.files o.before.image → AnswersThePath script o.before.files o.before.held added
   -- Each share that is committed is this node's in the output that its epoch's info carries.
   pub shares : o.tells → Stands o.before.files o.before.image → CommitsFit script o.before.files o.before.held added
-  -- .. and, where the past is whole, it stands exactly: behind an epoch that a life takes part in there is one just where the node played, or where it held one and the ceremony failed.
+  -- .. and, where the past is whole, it stands exactly: behind an epoch that a life takes part in there is one just where the ceremony succeeded and the node played, or failed and the node held one.
   pub exactly : o.tells → Stands o.before.files o.before.image → CommitsExactly script o.before.files o.before.held added
   -- A valid script over valid devices, of which no count rises, is run to its end, unless memory runs out.
   pub complete : IfErr result (λ fault. IsSoundRun o (IsValidAsCut script added) → fault ≡ NoMemory)
