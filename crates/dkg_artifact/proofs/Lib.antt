@@ -2,3 +2,4 @@ pub mod Lacked
 pub mod Putting
 pub mod ScanLaws
 pub mod Standing
+pub mod Waiting

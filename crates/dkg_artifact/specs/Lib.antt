@@ -1,6 +1,7 @@
 pub mod Ancestries
 pub mod Found
 pub mod Lacking
+pub mod Places
 pub mod Requested
 pub mod Results
 pub mod Scans

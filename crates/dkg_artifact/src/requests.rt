@@ -1,13 +1,23 @@
 //! Requests for a final block's payload, in the order in which they came, each with the ancestry that it was fed.
-ghost use Rattle.std.specs.Prelude.{◌≡◌, ◌++◌, ◌∷◌, [], OnOk, OnErr, IfSome, IfNone, filter, length, map};
+//!
+//! Each that waits has a place, and the places rise in the order of the requests. A tree has the requests by place, and a second one the
+//! places by number. So whatever is done to the requests of a number costs the logarithm of how many wait, for each of them.
+ghost use Rattle.std.specs.Prelude.{◌≡◌, ◌+◌, ◌^◌, ◌<◌, ◌++◌, ◌∷◌, [], OnOk, OnErr, IfOk, IfSome, IfNone, None, filter, length, map};
+ghost use Rattle.std.specs.BTreeMap.{IsOrdered, get, insert_entry, values};
+ghost use Rattle.std.specs.Ordering.{nat_cmp};
 ghost use Rattle.dkg_artifact.specs.Requested.{ended_for, fed_for, is_other};
+ghost use Rattle.dkg_artifact.specs.Places.{AreKnown, IsBefore, IsBehind, IsNext, changed_at, KeepsNumbers};
 
 use dkg_ceremony::Mem;
 use dkg_types::{Block, Directory};
-use dkg_values::Value;
+use dkg_values::{NoMemory, Value};
 use std::alloc::Global;
-use std::collections::VecDeque;
+use std::collections::{BTreeMap, BTreeSet};
 use std::marker::Model;
+use std::ops::Bound;
+
+/// The place of a request where no other waits. Later ones get places behind it, and those that are put back get places before it.
+const MIDDLE: u64 = 1 << 63;
 
 /// Blocks in the order in which they were fed, each the parent of the one before.
 #[derive(Drop)]
@@ -52,7 +62,8 @@ impl<Dir: Directory> Request<Dir> {
 impl<Dir: Directory + Drop> Request<Dir> {
     /// Feeds a block, where the request is of this number and its ancestry has not ended.
     fn feed(&mut self, alloc: Global, number: u64, block: &Block<Dir>) -> Mem<()>
-        ensures { OnOk result (self.new ≡ fed_for number block.now self.old) }
+        ensures ok { OnOk result (self.new ≡ fed_for number block.now self.old) }
+        ensures number { self.new.number ≡ self.old.number }
     {
         if self.number == number && !self.ended {
             self.blocks.0.push(block.copy(alloc)?)?;
@@ -64,16 +75,177 @@ impl<Dir: Directory + Drop> Request<Dir> {
 /// Requests that wait, the first first.
 #[derive(Drop)]
 pub struct Requests<Dir: Directory> {
-    waiting: VecDeque<Request<Dir>>,
+    /// By their places.
+    waiting: BTreeMap<u64, Request<Dir>>,
+    /// The number and the place of each.
+    numbers: BTreeSet<(u64, u64)>,
 }
 
 impl<Dir: Directory> Model for Requests<Dir> {
     ghost use Rattle.std.specs.Prelude.{List};
+    ghost use Rattle.std.specs.BTreeMap.{values};
     ghost use Rattle.dkg_artifact.specs.Requested.{Request as Seen};
+    ghost use Rattle.dkg_artifact.specs.Places.{AreKnown};
 
     ghost Value = { List (Seen Dir) };
 
-    ghost view = { λ r. r.waiting.items };
+    ghost view = { λ r. values r.waiting };
+
+    ghost invariant = { λ r. AreKnown r.numbers r.waiting };
+}
+
+/// A place behind all of these. Where no number of 64 bits is left for one, it is as if memory ran out.
+fn behind<Dir: Directory>(waiting: &BTreeMap<u64, Request<Dir>>) -> Mem<u64>
+    ensures { IfOk result (λ place. IsBehind place waiting.now) }
+{
+    let Some((last, _)) = waiting.last_key_value() else {
+        return Ok(MIDDLE);
+    };
+    match last.checked_add(1) {
+        Some(place) => Ok(place),
+        None => Err(NoMemory),
+    }
+}
+
+/// .. before all of them
+fn before<Dir: Directory>(waiting: &BTreeMap<u64, Request<Dir>>) -> Mem<u64>
+    ensures { IfOk result (λ place. IsBefore place waiting.now) }
+{
+    let Some((first, _)) = waiting.first_key_value() else {
+        return Ok(MIDDLE);
+    };
+    match first.checked_sub(1) {
+        Some(place) => Ok(place),
+        None => Err(NoMemory),
+    }
+}
+
+/// Puts a request at a place where none waits. Where memory runs out all is as before.
+fn put<Dir: Directory + Drop>(
+    waiting: &mut BTreeMap<u64, Request<Dir>>,
+    numbers: &mut BTreeSet<(u64, u64)>,
+    place: u64,
+    request: Request<Dir>,
+) -> Mem<()>
+    requires known { AreKnown numbers.old waiting.old }
+    requires free { get nat_cmp waiting.old place ≡ None }
+    ensures ok { OnOk result (waiting.new.entries ≡ insert_entry nat_cmp waiting.old.entries place request) }
+    ensures err { OnErr result (waiting.new.entries ≡ waiting.old.entries) }
+    ensures known { AreKnown numbers.new waiting.new }
+{
+    let pair = (request.number, place);
+    numbers.insert(pair)?;
+    match waiting.insert(place, request) {
+        Ok(_) => Ok(()),
+        Err(_) => {
+            numbers.remove(&pair);
+            Err(NoMemory)
+        }
+    }
+}
+
+/// The first place at which a request of a number waits.
+fn first_of(numbers: &BTreeSet<(u64, u64)>, number: u64) -> Option<u64>
+    ensures { IsNext numbers.now number 0 result }
+{
+    match numbers.range((number, 0)..).next() {
+        Some(pair) if pair.0 == number => Some(pair.1),
+        _ => None,
+    }
+}
+
+/// .. behind a place
+fn next_of(numbers: &BTreeSet<(u64, u64)>, number: u64, place: u64) -> Option<u64>
+    ensures next { IsNext numbers.now number (place + 1) result }
+    ensures fits { place < 2 ^ 64 }
+{
+    let from = Bound::Excluded((number, place));
+    match numbers.range((from, Bound::Unbounded)).next() {
+        Some(pair) if pair.0 == number => Some(pair.1),
+        _ => None,
+    }
+}
+
+/// Ends the ancestry of the request at a place, where it is of this number.
+fn end_at<Dir: Directory>(waiting: &mut BTreeMap<u64, Request<Dir>>, place: u64, number: u64)
+    ensures entries { waiting.new.entries ≡ changed_at place (ended_for number) waiting.old.entries }
+    ensures numbers { KeepsNumbers waiting.old waiting.new }
+    ensures ordered { IsOrdered nat_cmp waiting.new }
+{
+    if let Some(request) = waiting.get_mut(&place) {
+        request.end(number);
+    }
+}
+
+/// Ends the ancestry of each request of a number.
+fn end_each<Dir: Directory>(
+    waiting: &mut BTreeMap<u64, Request<Dir>>,
+    numbers: &BTreeSet<(u64, u64)>,
+    number: u64,
+)
+    requires known { AreKnown numbers.now waiting.old }
+    ensures values { values waiting.new ≡ map (ended_for number) (values waiting.old) }
+    ensures known { AreKnown numbers.now waiting.new }
+{
+    let mut next = first_of(numbers, number);
+    while let Some(place) = next {
+        end_at(waiting, place, number);
+        next = next_of(numbers, number, place);
+    }
+}
+
+/// Feeds a block to the request at a place, where it is of this number.
+fn feed_at<Dir: Directory + Drop>(
+    alloc: Global,
+    waiting: &mut BTreeMap<u64, Request<Dir>>,
+    place: u64,
+    number: u64,
+    block: &Block<Dir>,
+) -> Mem<()>
+    ensures entries { OnOk result (waiting.new.entries ≡ changed_at place (fed_for number block.now) waiting.old.entries) }
+    ensures numbers { KeepsNumbers waiting.old waiting.new }
+    ensures ordered { IsOrdered nat_cmp waiting.new }
+{
+    match waiting.get_mut(&place) {
+        Some(request) => request.feed(alloc, number, block),
+        None => Ok(()),
+    }
+}
+
+/// Feeds a block to each request of a number.
+fn feed_each<Dir: Directory + Drop>(
+    alloc: Global,
+    waiting: &mut BTreeMap<u64, Request<Dir>>,
+    numbers: &BTreeSet<(u64, u64)>,
+    number: u64,
+    block: &Block<Dir>,
+) -> Mem<()>
+    requires known { AreKnown numbers.now waiting.old }
+    ensures values { OnOk result (values waiting.new ≡ map (fed_for number block.now) (values waiting.old)) }
+    ensures known { AreKnown numbers.now waiting.new }
+{
+    let mut next = first_of(numbers, number);
+    while let Some(place) = next {
+        feed_at(alloc, waiting, place, number, block)?;
+        next = next_of(numbers, number, place);
+    }
+    Ok(())
+}
+
+/// Takes each request of a number away.
+fn remove_each<Dir: Directory + Drop>(
+    waiting: &mut BTreeMap<u64, Request<Dir>>,
+    numbers: &mut BTreeSet<(u64, u64)>,
+    number: u64,
+)
+    requires known { AreKnown numbers.old waiting.old }
+    ensures values { values waiting.new ≡ filter (is_other number) (values waiting.old) }
+    ensures known { AreKnown numbers.new waiting.new }
+{
+    while let Some(place) = first_of(numbers, number) {
+        waiting.remove(&place);
+        numbers.remove(&(number, place));
+    }
 }
 
 impl<Dir: Directory> Requests<Dir> {
@@ -82,7 +254,8 @@ impl<Dir: Directory> Requests<Dir> {
         ensures { result ≡ [] }
     {
         Requests {
-            waiting: VecDeque::new(alloc),
+            waiting: BTreeMap::new(alloc),
+            numbers: BTreeSet::new(alloc),
         }
     }
 
@@ -91,7 +264,9 @@ impl<Dir: Directory> Requests<Dir> {
         ensures first { IfSome result (λ request. self.old ≡ request ∷ self.new) }
         ensures none { IfNone result ((self.old ≡ []) × (self.new ≡ [])) }
     {
-        self.waiting.pop_front()
+        let (place, request) = self.waiting.pop_first()?;
+        self.numbers.remove(&(request.number, place));
+        Some(request)
     }
 
     /// How many requests wait.
@@ -105,10 +280,7 @@ impl<Dir: Directory> Requests<Dir> {
     pub fn end(&mut self, number: u64)
         ensures { self.new ≡ map (ended_for number) self.old }
     {
-        let waiting = self.waiting.make_contiguous();
-        for request in waiting.iter_mut() {
-            request.end(number);
-        }
+        end_each(&mut self.waiting, &self.numbers, number);
     }
 }
 
@@ -118,8 +290,8 @@ impl<Dir: Directory + Drop> Requests<Dir> {
         ensures ok { OnOk result (self.new ≡ self.old ++ request ∷ []) }
         ensures err { OnErr result (self.new ≡ self.old) }
     {
-        self.waiting.push_back(request)?;
-        Ok(())
+        let place = behind(&self.waiting)?;
+        put(&mut self.waiting, &mut self.numbers, place, request)
     }
 
     /// Puts a request back to the front, as one whose scan a finalized block took away. Where memory runs out all is as before, and the
@@ -128,26 +300,22 @@ impl<Dir: Directory + Drop> Requests<Dir> {
         ensures ok { OnOk result (self.new ≡ request ∷ self.old) }
         ensures err { OnErr result (self.new ≡ self.old) }
     {
-        self.waiting.push_front(request)?;
-        Ok(())
+        let place = before(&self.waiting)?;
+        put(&mut self.waiting, &mut self.numbers, place, request)
     }
 
     /// Feeds a block to the requests of a number whose ancestry has not ended.
     pub fn feed(&mut self, alloc: Global, number: u64, block: &Block<Dir>) -> Mem<()>
         ensures ok { OnOk result (self.new ≡ map (fed_for number block.now) self.old) }
     {
-        let waiting = self.waiting.make_contiguous();
-        for request in waiting.iter_mut() {
-            request.feed(alloc, number, block)?;
-        }
-        Ok(())
+        feed_each(alloc, &mut self.waiting, &self.numbers, number, block)
     }
 
     /// Takes the requests of a number away.
     pub fn remove(&mut self, number: u64)
         ensures { self.new ≡ filter (is_other number) self.old }
     {
-        self.waiting.retain(|request| request.number != number);
+        remove_each(&mut self.waiting, &mut self.numbers, number);
     }
 }
 

@@ -16,12 +16,12 @@ fn payload(alloc: Global, signed: &SignedDealerLog) -> Option<Payload<Unit>> {
     Some(Payload::DealerLog(signed))
 }
 
-/// A block on another, that carries a log.
-fn block_on(
+/// A block on another, that carries this.
+fn block_with(
     alloc: Global,
     parent: Digest,
     height: u64,
-    signed: &SignedDealerLog,
+    payload: Option<Payload<Unit>>,
 ) -> Option<Block<Unit>> {
     let context = Context {
         epoch: Epoch(0),
@@ -30,8 +30,23 @@ fn block_on(
         parent_view: 0,
         parent,
     };
+    Block::new(alloc, context, parent, Height(height), payload).ok()
+}
+
+/// A block on another, that carries a log.
+fn block_on(
+    alloc: Global,
+    parent: Digest,
+    height: u64,
+    signed: &SignedDealerLog,
+) -> Option<Block<Unit>> {
     let payload = payload(alloc, signed)?;
-    Block::new(alloc, context, parent, Height(height), Some(payload)).ok()
+    block_with(alloc, parent, height, Some(payload))
+}
+
+/// A block that carries nothing.
+pub fn bare(alloc: Global) -> Option<Block<Unit>> {
+    block_with(alloc, Digest([0; 32]), 0, None)
 }
 
 fn in_turn(logs: &[SignedDealerLog], place: u64) -> Option<&SignedDealerLog> {

@@ -2,7 +2,7 @@
 ghost use Rattle.std.specs.Prelude.{◌≡◌, ℕ, Ok, Contains, IfSome, IsOk};
 ghost use Rattle.dkg_values.specs.Rising.{lookup};
 
-use crate::{chain, player, round, scanned};
+use crate::{chain, player, round, scanned, waiting};
 use dkg_artifact::{Dealings, verify_logs};
 use dkg_ceremony::{Ceremony, DealerLog, Round, StandCeremony};
 use dkg_types::{Block, Unit};
@@ -143,4 +143,14 @@ pub fn measure<R: Clock>(rt: &R, alloc: Global, keys: u32, count: u64) -> Option
     let round = round::of(alloc, keys)?;
     let blocks = blocks_for(alloc, &round, count)?;
     measure_by(rt, alloc, &StandCeremony, &round, count, &blocks)
+}
+
+/// How many requests of so many were fed and counted, and the nanoseconds from when they are asked until none waits.
+pub fn requests<R: Clock>(rt: &R, alloc: Global, count: u64) -> Option<(u32, u64)> {
+    let block = chain::bare(alloc)?;
+    let start = Instant::now(rt).ok()?;
+    let mut requests = waiting::asked(alloc, count).ok()?;
+    waiting::fed(alloc, &mut requests, count, &block).ok()?;
+    let found = waiting::counted(&mut requests, count);
+    Some((found, nanos_since(rt, start)))
 }

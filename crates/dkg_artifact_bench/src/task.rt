@@ -2,16 +2,20 @@
 use std::alloc::Global;
 use std::{env, io};
 
-/// A round of so many keys, whose logs lie in so many blocks.
 #[derive(Clone, Copy)]
-pub struct Task {
-    pub keys: u32,
-    pub blocks: u64,
+pub enum Task {
+    /// A round of so many keys, whose logs lie in so many blocks.
+    Round { keys: u32, blocks: u64 },
+    /// So many requests that wait.
+    Requests { count: u64 },
 }
 
 fn task_of(words: &[String]) -> Option<Task> {
     match words {
-        [keys, blocks] => Some(Task {
+        [word, count] if word.as_str() == "requests" => Some(Task::Requests {
+            count: count.parse().ok()?,
+        }),
+        [keys, blocks] => Some(Task::Round {
             keys: keys.parse().ok()?,
             blocks: blocks.parse().ok()?,
         }),

@@ -1,5 +1,5 @@
 -- Whether an artifact's info is the one that a block carries.
-use Rattle.std.proofs.Common.{◌≡◌, ℕ, Bool, true, false, List, ◌++◌, Option, Some, None, refl, sym, ◌∙◌, ap, subst}
+use Rattle.std.proofs.Common.{◌≡◌, ℕ, Bool, true, false, List, ◌++◌, Option, Some, None, refl, sym, ◌∙◌, ap}
 use Rattle.std.specs.Prelude.{◌↔◌, IsTrue, if◌then◌else◌}
 use Rattle.std.specs.Option.{option_map_or}
 use Rattle.std.proofs.lemmas.List.{append_cancel_left}
@@ -10,7 +10,7 @@ use Rattle.dkg_core.specs.Fixed.{Directories, Fixed}
 use Rattle.dkg_core.specs.Live as core
 use Rattle.dkg_core.specs.Same.{same_info}
 use Rattle.dkg_core.proofs.Same.{infos_agree, infos_are_one}
-use Rattle.dkg_reshare.specs.Concluded.{HaveSameParts}
+use Rattle.dkg_inclusion.specs.Concluded.{HaveSameParts}
 
 is_false : (b : Bool) → (b ≡ true → ⊥) → b ≡ false
 is_false true apart = absurd (apart refl)

@@ -1,5 +1,5 @@
 -- The requests that an epoch's last block leaves, answered one behind another.
-use Rattle.std.proofs.Common.{◌≡◌, inl, inr, ℕ, List, [], ◌∷◌, ◌++◌, Option, Some, None, refl, sym, ◌∙◌, ap, subst}
+use Rattle.std.proofs.Common.{◌≡◌, inl, inr, ℕ, List, [], ◌∷◌, ◌++◌, Option, None, refl, sym, ◌∙◌, ap, subst}
 use Rattle.std.specs.Prelude.{map}
 use Rattle.std.specs.FinMap.{insert}
 use Rattle.dkg_fence.specs.Readiness.{Readiness}
@@ -17,21 +17,20 @@ use Rattle.dkg_core.specs.Courses.{Course, Goes, Say, on_devices}
 use Rattle.dkg_core.specs.Including as including
 use Rattle.dkg_core.specs.Live as core
 use Rattle.dkg_core.specs.Live.{Live, GaveNone, with_told}
-use Rattle.dkg_reshare.specs.Ends.{by_stop}
-use Rattle.dkg_reshare.specs.InclusionOf.{IsSeen, in_front, request_of}
-use Rattle.dkg_reshare.specs.LiveOf.{Beside, EndsWith, live_of}
-use Rattle.dkg_reshare.specs.Made.{Speaks}
-use Rattle.dkg_reshare.specs.declared.inclusion.Hand.{Hand}
-use Rattle.dkg_reshare.specs.declared.inclusion.Inclusion.{Inclusion}
-use Rattle.dkg_reshare.specs.declared.life.Life.{Life}
-use Rattle.dkg_reshare.specs.declared.stop.Stop.{Stop}
-use Rattle.dkg_reshare.specs.declared.stop.Stop.TheVariants.{Fault as Faulted}
-use Rattle.dkg_reshare.specs.declared.told.EpochInfoResponse.TheVariants.{Unavailable}
-use Rattle.dkg_reshare.specs.declared.told.Told.{Told}
-use Rattle.dkg_reshare.specs.declared.told.Told.TheVariants.{Info}
-use Rattle.dkg_reshare.proofs.Said.{nothing_held}
-use Rattle.dkg_reshare.proofs.Speaking.{goes_speaks}
-use Rattle.dkg_reshare.proofs.Telling.{ends_with, seen_told}
+use Rattle.dkg_dealing.specs.Ends.{by_stop}
+use Rattle.dkg_inclusion.specs.InclusionOf.{IsSeen, in_front, request_of}
+use Rattle.dkg_dealing.specs.LiveOf.{Beside, EndsWith, live_of}
+use Rattle.dkg_dealing.specs.Made.{Speaks}
+use Rattle.dkg_inclusion.specs.declared.inclusion.Hand.{Hand}
+use Rattle.dkg_inclusion.specs.declared.inclusion.Inclusion.{Inclusion}
+use Rattle.dkg_dealing.specs.declared.life.Life.{Life}
+use Rattle.dkg_dealing.specs.declared.stop.Stop.{Stop}
+use Rattle.dkg_dealing.specs.declared.stop.Stop.TheVariants.{Fault as Faulted}
+use Rattle.dkg_inclusion.specs.declared.told.EpochInfoResponse.TheVariants.{Unavailable}
+use Rattle.dkg_inclusion.specs.declared.told.Told.TheVariants.{Info}
+use Rattle.dkg_dealing.proofs.Said.{nothing_held}
+use Rattle.dkg_dealing.proofs.Speaking.{goes_speaks}
+use Rattle.dkg_inclusion.proofs.Telling.{ends_with, seen_told}
 
 -- A LINE, and what stands behind it
 

@@ -1,5 +1,5 @@
 -- A block that is applied while including: its log is seen to and what waits is read, or the epoch ends with it.
-use Rattle.std.proofs.Common.{◌≡◌, ℕ, nat_le, Bool, true, false, Option, Some, None, Result, Ok, Err, refl, sym, ◌∙◌, ap}
+use Rattle.std.proofs.Common.{◌≡◌, ℕ, nat_le, Bool, true, false, Option, Some, None, Ok, Err, refl, sym, ◌∙◌, ap}
 use Rattle.std.specs.Prelude.{◌==◌, ◌&&◌, IsSome, is_none, is_some, option_and_then, if◌then◌else◌}
 use Rattle.std.specs.Option.{option_map_or}
 use Rattle.dkg_ceremony.specs.declared.epocher.Bounds.{Bounds}
@@ -17,14 +17,14 @@ use Rattle.dkg_core.specs.Including.{advanced}
 use Rattle.dkg_core.specs.Live as core
 use Rattle.dkg_core.specs.Live.{Artifact, Live, is_last_height, with_tip}
 use Rattle.dkg_core.specs.Sources.{Tip}
-use Rattle.dkg_reshare.specs.declared.inclusion.Inclusion.{Inclusion}
-use Rattle.dkg_reshare.specs.declared.life.Life.{Life}
-use Rattle.dkg_reshare.specs.Including.{applies_included}
-use Rattle.dkg_reshare.specs.InclusionOf.{IsSeen}
-use Rattle.dkg_reshare.specs.LiveOf.{Beside, live_of}
-use Rattle.dkg_reshare.specs.Steps.{AreBoundsAt, carried_in}
+use Rattle.dkg_inclusion.specs.declared.inclusion.Inclusion.{Inclusion}
+use Rattle.dkg_dealing.specs.declared.life.Life.{Life}
+use Rattle.dkg_inclusion.specs.Including.{applies_included}
+use Rattle.dkg_inclusion.specs.InclusionOf.{IsSeen}
+use Rattle.dkg_dealing.specs.LiveOf.{Beside, live_of}
+use Rattle.dkg_dealing.specs.Steps.{AreBoundsAt, carried_in}
 use Rattle.dkg_reshare.proofs.Applying.{carried_ill, carried_well, last_is, tip_at, tipped}
-use Rattle.dkg_reshare.proofs.Included.{seen_as, seen_served}
+use Rattle.dkg_inclusion.proofs.Included.{seen_as, seen_served}
 
 -- WHAT COUNTS AS SERVED
 

@@ -1,9 +1,9 @@
 -- A block that is applied: while dealing the dealings are offered, and a node that follows takes over at an epoch's last block.
-use Rattle.std.proofs.Common.{◌≡◌, ℕ, ◌+◌, ◌*◌, ◌-◌, ◌<◌, ◌^◌, Bool, true, false, List, Option, [], Some, None, Result, Ok, Err, refl, sym, ◌∙◌, ap, subst, arith, append-nil}
-use Rattle.std.specs.Prelude.{IfErr, OnOk, ◌==◌, is_some, if◌then◌else◌}
+use Rattle.std.proofs.Common.{◌≡◌, ℕ, ◌+◌, ◌-◌, Bool, true, false, List, Option, [], Some, None, Result, Ok, Err, refl, sym, ◌∙◌, ap, subst, arith, append-nil}
+use Rattle.std.specs.Prelude.{IfErr, ◌==◌, is_some, if◌then◌else◌}
 use Rattle.std.specs.Option.{option_map_or}
 use Rattle.std.proofs.lemmas.Bool.Decides.{nat_tests}
-use Rattle.dkg_ceremony.specs.Schedule.{bounds_at, epoch_of, last, midpoint}
+use Rattle.dkg_ceremony.specs.Schedule.{epoch_of, last, midpoint}
 use Rattle.dkg_ceremony.specs.declared.epocher.Bounds.{Bounds}
 use Rattle.dkg_fence.specs.Readiness.{Readiness}
 use Rattle.dkg_journal.specs.Names.{Files}
@@ -12,38 +12,34 @@ use Rattle.dkg_types.specs.BlockCodes.{info_of}
 use Rattle.dkg_types.specs.Blocks.{Block}
 use Rattle.dkg_types.specs.declared.entry.Entry.{Entry as Line}
 use Rattle.dkg_types.specs.declared.fault.Fault.{Fault}
-use Rattle.dkg_types.specs.declared.fault.Fault.TheVariants.{MissingEpochInfo, NoMemory, WrongEpoch}
+use Rattle.dkg_types.specs.declared.fault.Fault.TheVariants.{MissingEpochInfo, WrongEpoch}
 use Rattle.dkg_types.specs.declared.info.EpochInfo.{EpochInfo}
 use Rattle.dkg_values.specs.Rising.{lookup}
 use Rattle.dkg_store.specs.Acts.{Ended, Held, Moment, went}
-use Rattle.dkg_store.specs.Acts as acts_of
 use Rattle.dkg_core.specs.Blocks as blocks
 use Rattle.dkg_core.specs.Courses.{Course, Ask, Goes, Stops, bind, on_devices}
 use Rattle.dkg_core.specs.Dealing.{deals}
 use Rattle.dkg_core.specs.Including.{advanced}
 use Rattle.dkg_core.specs.Fixed.{Fixed, OneShot}
 use Rattle.dkg_core.specs.Live.{Live, is_last_height, with_tip}
-use Rattle.dkg_core.specs.Said.{Said}
 use Rattle.dkg_core.specs.Seen.{Seen}
 use Rattle.dkg_core.specs.Setup as setup
 use Rattle.dkg_core.specs.Setup.{begins_inclusion}
 use Rattle.dkg_core.specs.Sources.{Tip}
-use Rattle.dkg_reshare.specs.declared.config.Terms.{Terms}
-use Rattle.dkg_reshare.specs.declared.life.Life.{Life}
-use Rattle.dkg_reshare.specs.declared.life.Stage.{Stage}
-use Rattle.dkg_reshare.specs.declared.stop.Stop.{Stop}
-use Rattle.dkg_reshare.specs.declared.stop.Stop.TheVariants.{Fault as Faulted}
-use Rattle.dkg_reshare.specs.Ends.{IsCaused, by_stop, cause_in, ends_in}
-use Rattle.dkg_reshare.specs.Given.{CanRead, GivesBoth, IsIn, ReadsPlanless}
-use Rattle.dkg_reshare.specs.LiveOf.{Beside, live_of, stage_of}
-use Rattle.dkg_reshare.specs.Made.{MakesAt, Speaks, Tells}
-use Rattle.dkg_reshare.specs.Moved.{IsFirm}
-use Rattle.dkg_reshare.specs.Steps.{AreBoundsAt, carried_in, reads_secrets}
-use Rattle.dkg_reshare.specs.Planless.{seen_planless}
-use Rattle.dkg_reshare.proofs.Beginning.{makes_as, tells_as}
-use Rattle.dkg_reshare.proofs.Beside.{emptied}
-use Rattle.dkg_reshare.proofs.Chained.{early_makes, early_told, then_makes, then_told}
-use Rattle.dkg_reshare.proofs.Speaking.{goes_speaks, stops_speaks, wants_speaks}
+use Rattle.dkg_dealing.specs.declared.config.Terms.{Terms}
+use Rattle.dkg_dealing.specs.declared.life.Life.{Life}
+use Rattle.dkg_dealing.specs.declared.stop.Stop.{Stop}
+use Rattle.dkg_dealing.specs.declared.stop.Stop.TheVariants.{Fault as Faulted}
+use Rattle.dkg_dealing.specs.Ends.{IsCaused, by_stop, cause_in}
+use Rattle.dkg_dealing.specs.Given.{CanRead, GivesBoth, IsIn, ReadsPlanless}
+use Rattle.dkg_dealing.specs.LiveOf.{Beside, live_of}
+use Rattle.dkg_dealing.specs.Made.{MakesAt, Speaks, Tells}
+use Rattle.dkg_dealing.specs.Moved.{IsFirm}
+use Rattle.dkg_dealing.specs.Steps.{AreBoundsAt, carried_in, reads_secrets}
+use Rattle.dkg_dealing.proofs.Beginning.{makes_as, tells_as}
+use Rattle.dkg_dealing.proofs.Beside.{emptied}
+use Rattle.dkg_dealing.proofs.Chained.{early_makes, early_told, then_makes, then_told}
+use Rattle.dkg_dealing.proofs.Speaking.{goes_speaks, stops_speaks}
 
 -- A TIP
 

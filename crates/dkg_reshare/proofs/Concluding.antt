@@ -1,5 +1,5 @@
 -- The artifact of an epoch's last block: its parts, one behind another.
-use Rattle.std.proofs.Common.{◌≡◌, inl, inr, ℕ, Bool, true, false, List, [], Option, Some, None, Result, Ok, Err, refl, sym, ◌∙◌, ap, subst}
+use Rattle.std.proofs.Common.{◌≡◌, inl, inr, ℕ, Bool, true, false, List, Option, Some, None, refl, sym, ◌∙◌, ap, subst}
 use Rattle.std.specs.Prelude.{◌⊎◌, IfSome, IsSome, IsSomeAnd, is_some, if◌then◌else◌, option_map}
 use Rattle.std.specs.Option.{option_map_or}
 use Rattle.dkg_ceremony.specs.Outcomes.{LogMap}
@@ -27,30 +27,30 @@ use Rattle.dkg_core.specs.Same.{same_logs}
 use Rattle.dkg_core.proofs.Same.{logs_again}
 use Rattle.dkg_fence.specs.Readiness.{Readiness}
 use Rattle.dkg_ceremony.specs.Schedule.{midpoint}
-use Rattle.dkg_reshare.specs.Concluded.{FindsBy, canonical_in, derives_kept, sees_verified, sees_verified_by, takes_cached, verifies}
-use Rattle.dkg_reshare.specs.Ends.{by_stop}
-use Rattle.dkg_reshare.specs.Including.{artifact_in, artifact_over, derives_by, derives_by_in, derives_final, derives_in, derives_now, derives_now_by, with_cached_in}
-use Rattle.dkg_reshare.specs.InclusionOf.{IsInHand, IsReadyInclusion, IsRunnable, artifact_of, cached_of, job_of, result_of}
-use Rattle.dkg_reshare.specs.LiveOf.{Beside, IsPlaced, live_of}
-use Rattle.dkg_reshare.specs.Made.{MakesAt, Speaks, Tells}
-use Rattle.dkg_reshare.specs.Rules.{AckOf, BearsAckOf, CheckAckOf, CheckLogOf, DealOf, DealingOf, FinishOf, IncludesBy, IsRuledBy, OutcomeOf, PartialPublicOf, RoundOf, SameProvided, SharePublicOf, SignLogOf}
-use Rattle.dkg_reshare.specs.Refusing.{refusal_for}
-use Rattle.dkg_reshare.specs.declared.inclusion.Hand.{Hand}
-use Rattle.dkg_reshare.specs.declared.inclusion.Inclusion.{Inclusion}
-use Rattle.dkg_reshare.specs.declared.life.Life.{Life}
-use Rattle.dkg_reshare.specs.declared.life.Stage.{Stage}
-use Rattle.dkg_reshare.specs.declared.life.Stage.TheVariants.{Following, Including}
-use Rattle.dkg_reshare.specs.declared.stop.Stop.{Stop}
-use Rattle.dkg_reshare.specs.declared.stop.Stop.TheVariants.{Fault as Faulted}
-use Rattle.dkg_reshare.proofs.Beginning.{makes_as, tells_as}
-use Rattle.dkg_reshare.proofs.Burning.{makes_none, makes_nothing, speaks_makes}
-use Rattle.dkg_reshare.proofs.Chained.{early_makes, early_told, then_makes, then_told}
-use Rattle.dkg_reshare.proofs.Committing.{goes_told}
-use Rattle.dkg_reshare.proofs.Deriving.{artifact_is}
-use Rattle.dkg_reshare.proofs.Keeping.{keeps_canonical, kept_none, kept_some, verified_is}
-use Rattle.dkg_reshare.proofs.Offered.{bind_again, bind_alike}
-use Rattle.dkg_reshare.proofs.Said.{speaks_tells}
-use Rattle.dkg_reshare.proofs.Speaking.{goes_speaks, gives_speaks, wants_speaks}
+use Rattle.dkg_inclusion.specs.Concluded.{FindsBy, canonical_in, derives_kept, sees_verified, sees_verified_by, takes_cached, verifies}
+use Rattle.dkg_dealing.specs.Ends.{by_stop}
+use Rattle.dkg_inclusion.specs.Including.{artifact_in, artifact_over, derives_by, derives_by_in, derives_final, derives_in, derives_now, derives_now_by, with_cached_in}
+use Rattle.dkg_inclusion.specs.InclusionOf.{IsInHand, IsReadyInclusion, IsRunnable, artifact_of, cached_of, job_of, result_of}
+use Rattle.dkg_dealing.specs.LiveOf.{Beside, IsPlaced, live_of}
+use Rattle.dkg_dealing.specs.Made.{MakesAt, Speaks, Tells}
+use Rattle.dkg_dealing.specs.Rules.{AckOf, BearsAckOf, CheckAckOf, CheckLogOf, DealOf, DealingOf, FinishOf, IncludesBy, IsRuledBy, OutcomeOf, PartialPublicOf, RoundOf, SameProvided, SharePublicOf, SignLogOf}
+use Rattle.dkg_inclusion.specs.Refusing.{refusal_for}
+use Rattle.dkg_inclusion.specs.declared.inclusion.Hand.{Hand}
+use Rattle.dkg_inclusion.specs.declared.inclusion.Inclusion.{Inclusion}
+use Rattle.dkg_dealing.specs.declared.life.Life.{Life}
+use Rattle.dkg_dealing.specs.declared.life.Stage.{Stage}
+use Rattle.dkg_dealing.specs.declared.life.Stage.TheVariants.{Following, Including}
+use Rattle.dkg_dealing.specs.declared.stop.Stop.{Stop}
+use Rattle.dkg_dealing.specs.declared.stop.Stop.TheVariants.{Fault as Faulted}
+use Rattle.dkg_dealing.proofs.Beginning.{makes_as, tells_as}
+use Rattle.dkg_dealing.proofs.Burning.{makes_none, makes_nothing, speaks_makes}
+use Rattle.dkg_dealing.proofs.Chained.{early_makes, early_told, then_makes, then_told}
+use Rattle.dkg_dealing.proofs.Committing.{goes_told}
+use Rattle.dkg_inclusion.proofs.Deriving.{artifact_is}
+use Rattle.dkg_inclusion.proofs.Keeping.{keeps_canonical, kept_none, kept_some, verified_is}
+use Rattle.dkg_dealing.proofs.Offered.{bind_again, bind_alike}
+use Rattle.dkg_dealing.proofs.Said.{speaks_tells}
+use Rattle.dkg_dealing.proofs.Speaking.{goes_speaks, gives_speaks, wants_speaks}
 
 -- the canonical logs, in memory and in the relation
 pub canonical_is : {Dir : Type 0} (c : Fixed Dir) (beside : Beside Dir) (fence : Readiness) (life : Life Dir) → midpoint c.blocks_per_epoch life.epoch ≡ life.midpoint

@@ -2,7 +2,7 @@
 use Rattle.std.proofs.Common.{◌≡◌, ◌<◌, ◌+◌, ◌^◌, ◌++◌, ℕ, Bool, true, false, not, List, [], Option, Some, is_some, refl, sym, ◌∙◌, ap, subst, append-nil, arith, length, length-append}
 use Rattle.std.specs.Prelude.{if◌then◌else◌}
 use Rattle.std.specs.FinMap as maps
-use Rattle.std.specs.FinMap.{FinMap, contains_key, get-entries, insert, put}
+use Rattle.std.specs.FinMap.{contains_key, get-entries, insert, put}
 use Rattle.std.specs.Int.{w32, to_be_bytes}
 use Rattle.dkg_values.specs.Uint.{uint}
 use Rattle.dkg_values.specs.UintGrammar.{uint_short}
@@ -30,14 +30,14 @@ use Rattle.dkg_core.specs.Dealing.{appends}
 use Rattle.dkg_core.specs.Live.{Live, recorded_at}
 use Rattle.dkg_core.specs.Logs.{log_event, recorded_log}
 use Rattle.dkg_core.specs.Said.{Said}
-use Rattle.dkg_reshare.specs.declared.life.Life.{Life}
-use Rattle.dkg_reshare.specs.declared.stop.Stop.{Stop}
-use Rattle.dkg_reshare.specs.Ends.{by_stop, fault_of}
-use Rattle.dkg_reshare.specs.LiveOf.{Beside, live_of}
-use Rattle.dkg_reshare.specs.Made.{MakesAt, Speaks}
-use Rattle.dkg_reshare.proofs.Burning.{makes_early, makes_next, makes_nothing}
-use Rattle.dkg_reshare.proofs.Counted.{records_one}
-use Rattle.dkg_reshare.proofs.Speaking.{goes_speaks}
+use Rattle.dkg_dealing.specs.declared.life.Life.{Life}
+use Rattle.dkg_dealing.specs.declared.stop.Stop.{Stop}
+use Rattle.dkg_dealing.specs.Ends.{by_stop, fault_of}
+use Rattle.dkg_dealing.specs.LiveOf.{Beside, live_of}
+use Rattle.dkg_dealing.specs.Made.{MakesAt, Speaks}
+use Rattle.dkg_dealing.proofs.Burning.{makes_early, makes_next, makes_nothing}
+use Rattle.dkg_dealing.proofs.Counted.{records_one}
+use Rattle.dkg_dealing.proofs.Speaking.{goes_speaks}
 
 -- A log below 2^31 bytes makes an event that a record can hold.
 pub log_short : (dealer height : ℕ) (log : DealerLog) → length (log_spelling log) < 2 ^ 31 → length (event_spelling (events.LogAt dealer height log)) < 2 ^ 32

@@ -1,5 +1,5 @@
 -- The end of an epoch's last block: what it carries is committed and registered, the requests that are left are answered, and the next epoch is set up.
-use Rattle.std.proofs.Common.{◌≡◌, ℕ, Bool, List, [], ◌∷◌, ◌++◌, Option, Some, None, refl, sym, ◌∙◌, ap, subst, append-nil, append_assoc}
+use Rattle.std.proofs.Common.{◌≡◌, ℕ, List, [], ◌∷◌, ◌++◌, Option, Some, None, refl, sym, ◌∙◌, ap, append-nil, append_assoc}
 use Rattle.std.specs.Prelude.{is_some, if◌then◌else◌}
 use Rattle.dkg_values.specs.Rising.{lookup}
 use Rattle.dkg_fence.specs.Readiness.{Readiness}
@@ -18,18 +18,18 @@ use Rattle.dkg_core.specs.Live.{Live, with_tip}
 use Rattle.dkg_core.specs.Seen.{Seen}
 use Rattle.dkg_core.specs.Setup as setup
 use Rattle.dkg_core.specs.Sources.{Tip}
-use Rattle.dkg_reshare.specs.Ends.{by_stop}
-use Rattle.dkg_reshare.specs.Given.{GivesSeed, ReadsPlanless}
-use Rattle.dkg_reshare.specs.LiveOf.{Beside, EndsWith, live_of, scheme_by, with_scheme_of}
-use Rattle.dkg_reshare.specs.Made.{MakesAt, Tells}
-use Rattle.dkg_reshare.specs.Steps.{reads_seed}
-use Rattle.dkg_reshare.specs.declared.life.Life.{Life}
-use Rattle.dkg_reshare.specs.declared.stop.Stop.{Stop}
+use Rattle.dkg_dealing.specs.Ends.{by_stop}
+use Rattle.dkg_dealing.specs.Given.{GivesSeed, ReadsPlanless}
+use Rattle.dkg_dealing.specs.LiveOf.{Beside, EndsWith, live_of, scheme_by, with_scheme_of}
+use Rattle.dkg_dealing.specs.Made.{MakesAt, Tells}
+use Rattle.dkg_dealing.specs.Steps.{reads_seed}
+use Rattle.dkg_dealing.specs.declared.life.Life.{Life}
+use Rattle.dkg_dealing.specs.declared.stop.Stop.{Stop}
 use Rattle.dkg_reshare.proofs.Applying.{tip_at, tipped}
-use Rattle.dkg_reshare.proofs.Beginning.{makes_as, tells_as}
-use Rattle.dkg_reshare.proofs.Beside.{emptied}
-use Rattle.dkg_reshare.proofs.Chained.{early_makes, early_told, then_makes, then_told}
-use Rattle.dkg_reshare.proofs.Offered.{bind_again}
+use Rattle.dkg_dealing.proofs.Beginning.{makes_as, tells_as}
+use Rattle.dkg_dealing.proofs.Beside.{emptied}
+use Rattle.dkg_dealing.proofs.Chained.{early_makes, early_told, then_makes, then_told}
+use Rattle.dkg_dealing.proofs.Offered.{bind_again}
 
 -- WHAT IS NOT THE LIFE'S
 

@@ -1,6 +1,6 @@
 -- A life whose tip moved, and which may have begun inclusion, is ready still.
-use Rattle.std.proofs.Common.{◌≡◌, ℕ, ◌+◌, ◌<◌, ◌≤◌, ◌^◌, Bool, true, false, Option, Some, None, Result, Ok, Err, refl, sym, ◌∙◌, ap, subst, arith}
-use Rattle.std.specs.Prelude.{IfSome, IsSome, IsTrue, OnOk, ◌==◌}
+use Rattle.std.proofs.Common.{◌≡◌, ℕ, ◌+◌, ◌<◌, ◌^◌, Bool, true, false, Option, Some, None, Result, Ok, Err, refl, sym, ◌∙◌, ap, subst, arith}
+use Rattle.std.specs.Prelude.{IfSome, IsSome, OnOk, ◌==◌}
 use Rattle.std.specs.Int.NonZero.{non_zero_u32_get, non_zero_u64_get}
 use Rattle.std.proofs.lemmas.Bool.Decides.{nat_tests}
 use Rattle.dkg_ceremony.specs.Schedule.{epoch_of, last, midpoint}
@@ -12,15 +12,15 @@ use Rattle.dkg_store.specs.declared.devices.Devices.{Devices}
 use Rattle.dkg_store.specs.declared.player.Player.{Player}
 use Rattle.dkg_store.specs.declared.store.Store.{Store}
 use Rattle.dkg_core.specs.Sources.{Tip}
-use Rattle.dkg_reshare.specs.declared.config.Terms.{Terms}
-use Rattle.dkg_reshare.specs.declared.life.Life.{Life}
-use Rattle.dkg_reshare.specs.declared.life.Stage.{Stage}
-use Rattle.dkg_reshare.specs.declared.life.Stage.TheVariants.{Dealing, Including, Following}
-use Rattle.dkg_reshare.specs.declared.stop.Stop.{Stop}
-use Rattle.dkg_reshare.specs.Actors.{IsReadyLife}
-use Rattle.dkg_reshare.specs.LiveOf.{DealsIn, IsDealing, IsPlaced, IsSeated, IsToSign, IsWithin, Sits, SitsIn}
-use Rattle.dkg_reshare.specs.Moved.{IsFirm}
-use Rattle.dkg_reshare.specs.Rules.{AckOf, CheckAckOf, DealOf}
+use Rattle.dkg_dealing.specs.declared.config.Terms.{Terms}
+use Rattle.dkg_dealing.specs.declared.life.Life.{Life}
+use Rattle.dkg_dealing.specs.declared.life.Stage.{Stage}
+use Rattle.dkg_dealing.specs.declared.life.Stage.TheVariants.{Dealing, Including, Following}
+use Rattle.dkg_dealing.specs.declared.stop.Stop.{Stop}
+use Rattle.dkg_dealing.specs.Ready.{IsReadyLife}
+use Rattle.dkg_dealing.specs.LiveOf.{DealsIn, IsDealing, IsPlaced, IsSeated, IsToSign, IsWithin, Sits, SitsIn}
+use Rattle.dkg_dealing.specs.Moved.{IsFirm}
+use Rattle.dkg_dealing.specs.Rules.{AckOf, CheckAckOf, DealOf}
 use Rattle.dkg_reshare.proofs.Applying.{tip_at}
 use Rattle.dkg_reshare.proofs.Standing.{height_is, placed_behind, placed_following}
 

@@ -1,6 +1,6 @@
 -- Where a life stands, and where the blocks lie that it applies.
-use Rattle.std.proofs.Common.{◌≡◌, ◌⊎◌, inl, inr, ℕ, ◌+◌, ◌*◌, ◌/◌, ◌-◌, ◌<◌, ◌≤◌, ◌^◌, nat_lt, nat_le, Bool, true, false, Option, Some, None, Result, Ok, Err, refl, sym, ◌∙◌, ap, subst, arith}
-use Rattle.std.specs.Prelude.{IsSome, IsSomeAnd, List, ◌==◌, ◌&&◌, ◌||◌, is_some, not, if◌then◌else◌}
+use Rattle.std.proofs.Common.{◌≡◌, ℕ, ◌+◌, ◌*◌, ◌/◌, ◌-◌, ◌<◌, ◌≤◌, ◌^◌, nat_lt, nat_le, Bool, true, false, Option, Some, None, Ok, Err, refl, sym, ◌∙◌, ap, subst, arith}
+use Rattle.std.specs.Prelude.{IsSome, IsSomeAnd, List, ◌==◌, ◌&&◌, not, if◌then◌else◌}
 use Rattle.std.specs.Option.{option_map_or}
 use Rattle.std.specs.Str.{bytes_eq}
 use Rattle.std.proofs.lemmas.Bool.Decides.{nat_tests}
@@ -12,15 +12,14 @@ use Rattle.dkg_types.specs.Blocks.{Block}
 use Rattle.dkg_types.specs.declared.fault.Fault.{Fault}
 use Rattle.dkg_types.specs.declared.fault.Fault.TheVariants.{ConflictingBlock, DetachedBlock, SkippedHeight}
 use Rattle.dkg_core.specs.Sources.{Tip}
-use Rattle.dkg_reshare.specs.declared.life.Life.{Life}
-use Rattle.dkg_reshare.specs.declared.life.Stage.{Stage}
-use Rattle.dkg_reshare.specs.declared.life.Stage.TheVariants.{Dealing, Including, Following}
-use Rattle.dkg_reshare.specs.declared.tip.Judged.{Judged}
-use Rattle.dkg_reshare.specs.declared.tip.Judged.TheVariants.{New, Again}
+use Rattle.dkg_dealing.specs.declared.life.Life.{Life}
+use Rattle.dkg_dealing.specs.declared.life.Stage.{Stage}
+use Rattle.dkg_dealing.specs.declared.life.Stage.TheVariants.{Dealing, Including, Following}
+use Rattle.dkg_dealing.specs.declared.tip.Judged.TheVariants.{New, Again}
 use Rattle.dkg_reshare.specs.Actors.{IsApplied, is_early_in, is_in_window_by}
-use Rattle.dkg_reshare.specs.Judged.{judged, judged_over}
-use Rattle.dkg_reshare.specs.LiveOf.{IsPlaced, awaited_of}
-use Rattle.dkg_reshare.specs.Steps.{AreBoundsAt}
+use Rattle.dkg_dealing.specs.Judged.{judged, judged_over}
+use Rattle.dkg_dealing.specs.LiveOf.{IsPlaced, awaited_of}
+use Rattle.dkg_dealing.specs.Steps.{AreBoundsAt}
 
 -- EPOCHS
 

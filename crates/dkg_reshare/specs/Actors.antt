@@ -1,48 +1,41 @@
 -- An actor between two calls, by its state.
-use Rattle.std.specs.Prelude.{List, ◌≡◌, ◌==◌, ◌&&◌, not, nat_lt, ℕ, ⊤, Option, None, Bool, true, if◌then◌else◌, IsSome, IsTrue, Result, Ok, Err, IsErrOf}
-use Rattle.std.specs.Int.NonZero.{non_zero_u32_get, non_zero_u64_get}
+use Rattle.std.specs.Prelude.{List, ◌≡◌, ◌==◌, ◌&&◌, not, nat_lt, ℕ, ⊤, Option, None, Bool, true, Result, Ok, Err, IsErrOf}
 use Rattle.std.specs.declared.num.NonZeroU32.{NonZeroU32}
 use Rattle.std.specs.declared.num.NonZeroU64.{NonZeroU64}
 use Rattle.dkg_ceremony.specs.Schedule.{epoch_of, midpoint}
 use Rattle.dkg_ceremony.specs.declared.mode.Mode.{Mode}
 use Rattle.dkg_ceremony.specs.declared.mode.ModeVersion.{ModeVersion}
 use Rattle.dkg_ceremony.specs.declared.mode.Reveal.{Reveal}
-use Rattle.dkg_ceremony.specs.declared.phase.Phase.{Phase}
-use Rattle.dkg_journal.specs.Records.{entries}
 use Rattle.dkg_journal.specs.Names.{Files}
-use Rattle.dkg_store.specs.Acts.{Ended, went, broken, by_want, held_in, Stands}
+use Rattle.dkg_store.specs.Acts.{Ended, went, broken, by_want, held_in}
 use Rattle.dkg_secrets.specs.Secrets.{Secrets}
 use Rattle.dkg_store.specs.declared.devices.Devices.{Devices}
-use Rattle.dkg_store.specs.Corrupt.{IsCorruptAt}
-use Rattle.dkg_store.specs.Pairs.{IsWhole}
 use Rattle.dkg_types.specs.Blocks.{Block}
 use Rattle.dkg_types.specs.declared.fault.Fault.{Fault}
-use Rattle.dkg_types.specs.declared.fault.Fault.TheVariants.{Corrupt}
 use Rattle.dkg_core.specs.Agreeing.{AreAgreed}
 use Rattle.dkg_core.specs.Live as core
 use Rattle.dkg_core.specs.Live.{Live, Sent}
 use Rattle.dkg_reshare.specs.declared.actor.State.{State}
 use Rattle.dkg_reshare.specs.declared.actor.State.TheVariants.{New, Living, Failed as HadFailed}
-use Rattle.dkg_reshare.specs.declared.config.Terms.{Terms}
-use Rattle.dkg_reshare.specs.declared.inclusion.Inclusion.{Inclusion}
-use Rattle.dkg_reshare.specs.declared.life.Life.{Life}
-use Rattle.dkg_reshare.specs.declared.life.Stage.{Stage}
-use Rattle.dkg_reshare.specs.declared.life.Stage.TheVariants as stage
+use Rattle.dkg_dealing.specs.declared.config.Terms.{Terms}
+use Rattle.dkg_inclusion.specs.declared.inclusion.Inclusion.{Inclusion}
+use Rattle.dkg_dealing.specs.declared.life.Life.{Life}
+use Rattle.dkg_dealing.specs.declared.life.Stage.{Stage}
+use Rattle.dkg_dealing.specs.declared.life.Stage.TheVariants as stage
 use Rattle.dkg_reshare.specs.declared.message.Message.{Message}
 use Rattle.dkg_reshare.specs.declared.message.Message.TheVariants as message
-use Rattle.dkg_reshare.specs.declared.stop.Stop.{Stop}
-use Rattle.dkg_reshare.specs.declared.told.Told.{Told}
+use Rattle.dkg_dealing.specs.declared.stop.Stop.{Stop}
+use Rattle.dkg_inclusion.specs.declared.told.Told.{Told}
 use Rattle.dkg_artifact.specs.declared.job.Job.{Job}
 use Rattle.std.specs.FinMap as maps
-use Rattle.dkg_reshare.specs.declared.stop.Stop.TheVariants.{Cut, Failed, Fault as Faulted}
-use Rattle.dkg_reshare.specs.Ends.{by_stop, IsCaused}
-use Rattle.dkg_reshare.specs.declared.tip.Judged.TheVariants.{New as IsNewBlock}
+use Rattle.dkg_dealing.specs.declared.stop.Stop.TheVariants.{Failed}
+use Rattle.dkg_dealing.specs.Ends.{by_stop}
+use Rattle.dkg_dealing.specs.declared.tip.Judged.TheVariants.{New as IsNewBlock}
 use Rattle.dkg_reshare.specs.Carried.{CarriesWithin}
-use Rattle.dkg_reshare.specs.Judged.{judged}
-use Rattle.dkg_reshare.specs.LiveOf.{IsDealing, IsPlaced, IsSeated, IsWithin, records_of}
-use Rattle.dkg_reshare.specs.Moved.{IsFirm}
-use Rattle.dkg_reshare.specs.Rules.{AckOf, DealOf, CheckAckOf}
-use Rattle.dkg_reshare.specs.Steps.{stage_in}
+use Rattle.dkg_dealing.specs.Judged.{judged}
+use Rattle.dkg_dealing.specs.LiveOf.{records_of}
+use Rattle.dkg_dealing.specs.Ready.{IsReadyLife}
+use Rattle.dkg_dealing.specs.Rules.{AckOf, DealOf, CheckAckOf}
 
 -- STATES
 
@@ -83,35 +76,11 @@ told_in state request = None
 
 -- BETWEEN TWO CALLS
 
--- a life on these devices, as the call before left them
-pub record IsReadyLife {Dir D X : Type 0} (tells : Bool) (files : D → Files) (image : D → Files → Type 0) (ack_of : AckOf) (deal_of : DealOf) (check_ack_of : CheckAckOf)
-    (terms : Terms) (life : Life Dir) (devices : Devices D X) : Type 0 where
-  pub seated : IsSeated ack_of terms.me life
-  pub dealing : IsDealing deal_of check_ack_of terms.me life
-  pub placed : IsPlaced (non_zero_u64_get terms.blocks_per_epoch) life
-  pub within : IsWithin (non_zero_u32_get terms.limit) life.round
-  pub firm : IsTrue tells → IsFirm life.store.journal (files devices.disk.now) (image devices.disk.now)
-
--- .. of which this phase's setup is done
-pub record IsSetUp {Dir D X : Type 0} (tells : Bool) (files : D → Files) (image : D → Files → Type 0) (ack_of : AckOf) (deal_of : DealOf) (check_ack_of : CheckAckOf)
-    (me limit : ℕ) (phase : Phase) (life : Life Dir) (devices : Devices D X) : Type 0 where
-  pub seated : IsSeated ack_of me life
-  pub dealing : IsDealing deal_of check_ack_of me life
-  pub within : IsWithin limit life.round
-  pub joins : IsSome life.round
-  pub stage : life.stage ≡ stage_in phase
-  pub firm : IsTrue tells → IsFirm life.store.journal (files devices.disk.now) (image devices.disk.now)
-
 -- It was opened, and its life, if it goes on, stands on these devices.
 pub record IsAt {C Dir Signer Cfg D X : Type 0} (tells : Bool) (files : D → Files) (image : D → Files → Type 0) (ack_of : AckOf) (deal_of : DealOf) (check_ack_of : CheckAckOf)
     (terms : Terms) (state : State C Dir Signer Cfg) (devices : Devices D X) : Type 0 where
   pub opened : IsNew state → ⊥
   pub ready : IfLiving state (λ life. IsReadyLife tells files image ack_of deal_of check_ack_of terms life devices)
-
--- The devices are whole, and nothing of the disk is loose.
-pub record IsSoundAt {D X : Type 0} (files : D → Files) (image : D → Files → Type 0) (held : X → Secrets) (devices : Devices D X) : Type 0 where
-  pub stands : Stands (files devices.disk.now) (image devices.disk.now)
-  pub whole : IsWhole (entries (files devices.disk.now)) (held devices.secrets.now)
 
 -- Memory has what the devices give back.
 abbrev pub IsAgreed : {C Dir Signer Cfg : Type 0} → State C Dir Signer Cfg → Files → Secrets → Type 0
@@ -182,11 +151,3 @@ pub record AreTerms (terms : Terms) (me : ℕ) (blocks : NonZeroU64) (limit : No
   pub mode_is : terms.mode ≡ mode
   pub reveal_is : terms.reveal ≡ reveal
   pub namespace_is : terms.namespace ≡ namespace
-
--- WHAT IS BLAMED
-
--- A device is blamed where its count rose, a record where it is the first one out of its grammar, and a cut is the fuse's. What else is blamed, the course
--- says.
-abbrev pub IsFoundAt : (limit : ℕ) (tells : Bool) → Files → Stop → (disk_rose secrets_rose reached : Type 0) → Type 0
-IsFoundAt limit tells files (Faulted (Corrupt name place)) disk_rose secrets_rose reached = IsTrue tells → IsCorruptAt limit files name place
-IsFoundAt limit tells files stop disk_rose secrets_rose reached = IsCaused stop disk_rose secrets_rose reached

@@ -9,34 +9,28 @@ ghost use Rattle.dkg_core.specs.Blocks as blocks;
 ghost use Rattle.dkg_core.specs.Core.{no_inclusion, opening, step};
 ghost use Rattle.dkg_core.specs.Fixed.{Fixed};
 ghost use Rattle.dkg_core.specs.Including.{works};
-ghost use Rattle.dkg_reshare.specs.Actors.{AreTerms, BringsWithin, EndsAt, FailsStop, IfIncluding, IfLiving, IsAgreed, IsAt, IsFoundAt, IsNew, IsReadyLife, IsSoundAt, lives, message_of, running_in, told_in};
+ghost use Rattle.dkg_dealing.specs.Ready.{IsFoundAt, IsReadyLife, IsSoundAt};
+ghost use Rattle.dkg_dealing.specs.Configured.{config_fault};
+ghost use Rattle.dkg_dealing.specs.Ends.{IsCausedBy, IsCausedInStep, ends, ends_in};
+ghost use Rattle.dkg_dealing.specs.Given.{AreGivenFrom, HasRead, IsIn, IsLent, ReadsPlanless, reading};
+ghost use Rattle.dkg_dealing.specs.LiveOf.{Beside, EndsBeside, EndsWith, Took, live_of, no_fence, nothing_beside};
+ghost use Rattle.dkg_dealing.specs.Made.{Makes, Tells, UnlessBroken};
+ghost use Rattle.dkg_dealing.specs.Moved.{Moved, StaysAbove};
+ghost use Rattle.dkg_dealing.specs.Opened.{IsInGrammar, IsOpeningOf, OpensReadable, epoch_at};
+ghost use Rattle.dkg_dealing.specs.Rules.{IncludesBy, IsRuledBy, SameProvided};
+ghost use Rattle.dkg_dealing.specs.Planless.{IsBareOpening};
+ghost use Rattle.dkg_inclusion.specs.InclusionOf.{IsSeen, IsSettledInclusion, result_of};
+ghost use Rattle.dkg_reshare.specs.Actors.{AreTerms, BringsWithin, EndsAt, FailsStop, IfIncluding, IfLiving, IsAgreed, IsAt, IsNew, lives, message_of, running_in, told_in};
 ghost use Rattle.dkg_reshare.specs.Carried.{CarriesWithin};
-ghost use Rattle.dkg_reshare.specs.Configured.{config_fault};
-ghost use Rattle.dkg_reshare.specs.Ends.{IsCausedBy, IsCausedInStep, ends, ends_in};
-ghost use Rattle.dkg_reshare.specs.Given.{AreGivenFrom, HasRead, IsIn, IsLent, ReadsPlanless, reading};
-ghost use Rattle.dkg_reshare.specs.InclusionOf.{IsSeen, IsSettledInclusion, result_of};
-ghost use Rattle.dkg_reshare.specs.LiveOf.{Beside, EndsBeside, EndsWith, Took, live_of, no_fence, nothing_beside};
-ghost use Rattle.dkg_reshare.specs.Made.{Makes, Tells, UnlessBroken};
-ghost use Rattle.dkg_reshare.specs.Moved.{Moved, StaysAbove};
-ghost use Rattle.dkg_reshare.specs.Opened.{IsInGrammar, IsOpeningOf, OpensReadable, epoch_at};
-ghost use Rattle.dkg_reshare.specs.Rules.{IncludesBy, IsRuledBy, SameProvided};
-ghost use Rattle.dkg_reshare.specs.Planless.{IsBareOpening};
 
 use crate::blocks::take_block;
-use crate::config::{Config, Terms, check_config};
-use crate::dealing::hear_peer;
-use crate::inclusion::Inclusion;
-use crate::life::Life;
 use crate::logs::{release, serve};
 use crate::message::Message;
-use crate::opening::open_life;
-use crate::requests::{ask, cancel, end, feed, work};
-use crate::source::BlockSource;
-use crate::stop::Stop;
-use crate::told::Told;
 use dkg_artifact::{Job, VerifiedLogs};
 use dkg_ceremony::{Ceremony, Signer};
+use dkg_dealing::{BlockSource, Config, Life, Stop, Terms, check_config, hear_peer, open_life};
 use dkg_fence::Fence;
+use dkg_inclusion::{Inclusion, Told, ask, cancel, end, feed, work};
 use dkg_journal::Disk;
 use dkg_store::{Devices, SecretStore};
 use dkg_types::{Block, Directory, Fault, ParticipantsProvider, Registrar, Transcript};
@@ -308,7 +302,8 @@ impl<
     ) -> Result<(), Stop>
         requires at { IsAt D.tells D.files D.image C.ack_of C.deal_of C.check_ack_of self.old.terms self.old.state devices.old }
         requires within { BringsWithin (non_zero_u32_get self.old.terms.limit) message }
-        requires including { IfIncluding self.old.state (IsSettledInclusion C.check_log_of C.dealing_of C.finish_of (non_zero_u64_get self.old.terms.blocks_per_epoch)) }
+        requires including { IfIncluding self.old.state (IsSettledInclusion C.check_log_of C.dealing_of C.finish_of
+            (non_zero_u64_get self.old.terms.blocks_per_epoch)) }
         ensures including { OnOk result (IfIncluding self.new.state (IsSettledInclusion C.check_log_of C.dealing_of C.finish_of
             (non_zero_u64_get self.new.terms.blocks_per_epoch))) }
         // It is the relation's step, and each act was made, whatever image a crash leaves.
@@ -386,7 +381,8 @@ impl<
     ) -> Result<(), Stop>
         requires at { IsAt D.tells D.files D.image C.ack_of C.deal_of C.check_ack_of self.old.terms self.old.state devices.old }
         requires within { CarriesWithin (non_zero_u32_get self.old.terms.limit) block.now }
-        requires including { IfIncluding self.old.state (IsSettledInclusion C.check_log_of C.dealing_of C.finish_of (non_zero_u64_get self.old.terms.blocks_per_epoch)) }
+        requires including { IfIncluding self.old.state (IsSettledInclusion C.check_log_of C.dealing_of C.finish_of
+            (non_zero_u64_get self.old.terms.blocks_per_epoch)) }
         ensures including { OnOk result (IfIncluding self.new.state (IsSettledInclusion C.check_log_of C.dealing_of C.finish_of
             (non_zero_u64_get self.new.terms.blocks_per_epoch))) }
         // It is the relation's step, and each act was made, whatever image a crash leaves.
@@ -465,7 +461,8 @@ impl<
         out: &mut Transcript,
     ) -> Result<(), Stop>
         requires at { IsAt D.tells D.files D.image C.ack_of C.deal_of C.check_ack_of self.old.terms self.old.state devices.old }
-        requires including { IfIncluding self.old.state (IsSettledInclusion C.check_log_of C.dealing_of C.finish_of (non_zero_u64_get self.old.terms.blocks_per_epoch)) }
+        requires including { IfIncluding self.old.state (IsSettledInclusion C.check_log_of C.dealing_of C.finish_of
+            (non_zero_u64_get self.old.terms.blocks_per_epoch)) }
         ensures including { OnOk result (IfIncluding self.new.state (IsSettledInclusion C.check_log_of C.dealing_of C.finish_of
             (non_zero_u64_get self.new.terms.blocks_per_epoch))) }
         // It is the relation's step of that message, and each act was made, whatever image a crash leaves.

@@ -12,31 +12,29 @@ ghost use Rattle.dkg_journal.specs.Fuse.{Reached};
 ghost use Rattle.dkg_store.specs.Corrupt.{AreFit};
 ghost use Rattle.dkg_core.specs.Blocks as blocks;
 ghost use Rattle.dkg_core.specs.Fixed.{Fixed};
-ghost use Rattle.dkg_reshare.specs.Actors.{IsApplied, IsReadyLife, is_in_window_by};
+ghost use Rattle.dkg_dealing.specs.Ready.{IsReadyLife};
+ghost use Rattle.dkg_dealing.specs.Ends.{IsCaused, IsCausedBy, ends_in};
+ghost use Rattle.dkg_dealing.specs.Given.{IsIn, IsOf, ReadsPlanless};
+ghost use Rattle.dkg_dealing.specs.LiveOf.{Beside, EndsBeside, EndsWith, IsFresh, Took, live_of};
+ghost use Rattle.dkg_dealing.specs.Made.{Makes, Tells};
+ghost use Rattle.dkg_dealing.specs.Moved.{Moved};
+ghost use Rattle.dkg_dealing.specs.Rules.{IncludesBy, IsRuledBy, SameProvided};
+ghost use Rattle.dkg_dealing.specs.Steps.{AreBoundsAt, carried_in};
+ghost use Rattle.dkg_dealing.specs.declared.life.Stage.TheVariants.{Including};
+ghost use Rattle.dkg_inclusion.specs.Including.{IsNextBlock, applies_included};
+ghost use Rattle.dkg_inclusion.specs.InclusionOf.{IsReadyInclusion, IsSeen, IsSettledInclusion};
+ghost use Rattle.dkg_reshare.specs.Actors.{IsApplied, is_in_window_by};
 ghost use Rattle.dkg_reshare.specs.Carried.{CarriesWithin};
-ghost use Rattle.dkg_reshare.specs.Ends.{IsCaused, IsCausedBy, ends_in};
-ghost use Rattle.dkg_reshare.specs.Given.{IsIn, IsOf, ReadsPlanless};
-ghost use Rattle.dkg_reshare.specs.Including.{IsNextBlock, applies_included};
-ghost use Rattle.dkg_reshare.specs.InclusionOf.{IsReadyInclusion, IsSeen, IsSettledInclusion};
-ghost use Rattle.dkg_reshare.specs.LiveOf.{Beside, EndsBeside, EndsWith, IsFresh, Took, live_of};
-ghost use Rattle.dkg_reshare.specs.Made.{Makes, Tells};
-ghost use Rattle.dkg_reshare.specs.Moved.{Moved};
-ghost use Rattle.dkg_reshare.specs.Rules.{IncludesBy, IsRuledBy, SameProvided};
-ghost use Rattle.dkg_reshare.specs.Steps.{AreBoundsAt, carried_in};
-ghost use Rattle.dkg_reshare.specs.declared.life.Stage.TheVariants.{Including};
 
-use crate::config::Terms;
 use crate::final_block::{derive, take_over};
-use crate::inclusion::{Inclusion, begin_inclusion};
-use crate::life::{Life, Stage};
 use crate::logs::{observe, unserve};
-use crate::offers::deal;
-use crate::scanning::advance;
-use crate::setup::{commit_and_register, secrets_of, set_up_committed};
-use crate::stop::Stop;
-use crate::tip::{Judged, judge, tip_of};
 use dkg_ceremony::{Bounds, Ceremony, Epocher, Phase};
+use dkg_dealing::{
+    Judged, Life, Stage, Stop, Terms, begin_inclusion, commit_and_register, deal, judge,
+    secrets_of, set_up_committed, tip_of,
+};
 use dkg_fence::Fence;
+use dkg_inclusion::{Inclusion, advance};
 use dkg_journal::Disk;
 use dkg_store::{Devices, SecretStore};
 use dkg_types::{Block, Directory, EpochInfo, Fault, ParticipantsProvider, Registrar, Transcript};

@@ -11,42 +11,39 @@ ghost use Rattle.dkg_journal.specs.Disk.{Rose};
 ghost use Rattle.dkg_journal.specs.Fuse.{Reached};
 ghost use Rattle.dkg_core.specs.Fixed.{Fixed};
 ghost use Rattle.dkg_core.specs.Including as including;
-ghost use Rattle.dkg_reshare.specs.Actors.{IsReadyLife};
-ghost use Rattle.dkg_reshare.specs.Ends.{IsCaused, ends_in};
-ghost use Rattle.dkg_reshare.specs.Given.{IsOf, ReadsPlanless};
-ghost use Rattle.dkg_reshare.specs.LiveOf.{Beside, EndsWith, live_of};
-ghost use Rattle.dkg_reshare.specs.Made.{Makes, Tells};
-ghost use Rattle.dkg_reshare.specs.Moved.{IsFirm, Moved};
-ghost use Rattle.dkg_reshare.specs.Rules.{IncludesBy, IsRuledBy, SameProvided};
 ghost use Rattle.dkg_ceremony.specs.Schedule.{epoch_of, midpoint};
 ghost use Rattle.dkg_types.specs.declared.entry.Entry.{Entry as Line};
 ghost use Rattle.dkg_types.specs.declared.fault.Fault.TheVariants.{NoMemory as OutOfMemory};
 ghost use Rattle.dkg_core.specs.Same.{same_info};
 ghost use Rattle.dkg_store.specs.Corrupt.{AreFit};
 ghost use Rattle.dkg_core.specs.Blocks as blocks;
-ghost use Rattle.dkg_reshare.specs.Concluded.{FindsBy, HaveSameParts, canonical_in, sees_verified, verifies};
-ghost use Rattle.dkg_reshare.specs.Ends.{IsCausedBy, ends};
-ghost use Rattle.dkg_reshare.specs.Given.{IsIn};
-ghost use Rattle.dkg_reshare.specs.Including.{derives_by, derives_final, derives_now};
-ghost use Rattle.dkg_reshare.specs.InclusionOf.{IsReadyInclusion, IsSeen, IsSettledInclusion, artifact_of, cached_of};
-ghost use Rattle.dkg_reshare.specs.LiveOf.{Took};
-ghost use Rattle.dkg_reshare.specs.Made.{Speaks};
-ghost use Rattle.dkg_reshare.specs.declared.life.Life.{Life};
-ghost use Rattle.dkg_reshare.specs.declared.life.Stage.TheVariants.{Including};
-ghost use Rattle.dkg_reshare.specs.declared.stop.Stop.TheVariants.{Fault as Faulted};
+ghost use Rattle.dkg_dealing.specs.Ready.{IsReadyLife};
+ghost use Rattle.dkg_dealing.specs.Ends.{IsCaused, ends_in};
+ghost use Rattle.dkg_dealing.specs.Given.{IsOf, ReadsPlanless};
+ghost use Rattle.dkg_dealing.specs.LiveOf.{Beside, EndsWith, live_of};
+ghost use Rattle.dkg_dealing.specs.Made.{Makes, Tells};
+ghost use Rattle.dkg_dealing.specs.Moved.{IsFirm, Moved};
+ghost use Rattle.dkg_dealing.specs.Rules.{IncludesBy, IsRuledBy, SameProvided};
+ghost use Rattle.dkg_dealing.specs.Ends.{IsCausedBy, ends};
+ghost use Rattle.dkg_dealing.specs.Given.{IsIn};
+ghost use Rattle.dkg_dealing.specs.LiveOf.{Took};
+ghost use Rattle.dkg_dealing.specs.Made.{Speaks};
+ghost use Rattle.dkg_dealing.specs.declared.life.Life.{Life};
+ghost use Rattle.dkg_dealing.specs.declared.life.Stage.TheVariants.{Including};
+ghost use Rattle.dkg_dealing.specs.declared.stop.Stop.TheVariants.{Fault as Faulted};
+ghost use Rattle.dkg_inclusion.specs.Concluded.{FindsBy, HaveSameParts, canonical_in, sees_verified, verifies};
+ghost use Rattle.dkg_inclusion.specs.Including.{derives_by, derives_final, derives_now};
+ghost use Rattle.dkg_inclusion.specs.InclusionOf.{IsReadyInclusion, IsSeen, IsSettledInclusion, artifact_of, cached_of};
 
-use crate::answers::answer_none;
-use crate::artifacts::keep_artifact;
-use crate::config::Terms;
-use crate::inclusion::Inclusion;
-use crate::life::Life;
-use crate::setup::{EpochSecrets, commit_and_register, secrets_with, set_up_committed};
-use crate::stop::Stop;
-use crate::tip::tip_of;
-use crate::verifying::{canonical, end_verifying, job_for, retain, verify};
 use dkg_artifact::{Artifact, ArtifactCache};
 use dkg_ceremony::{Ceremony, DealerLog, Share, encode};
+use dkg_dealing::{
+    EpochSecrets, Life, Stop, Terms, commit_and_register, secrets_with, set_up_committed, tip_of,
+};
 use dkg_fence::Fence;
+use dkg_inclusion::{
+    Inclusion, answer_none, canonical, end_verifying, job_for, keep_artifact, retain, verify,
+};
 use dkg_journal::Disk;
 use dkg_store::{Devices, SecretStore};
 use dkg_types::{Block, Directory, EpochInfo, ParticipantsProvider, Registrar, Transcript, Why};
@@ -115,7 +112,8 @@ fn see_verified<C: Ceremony + Drop, Dir: Directory + Drop>(
     ensures speaks { (c : Fixed Dir) (round : Round) (beside : Beside Dir) (fence : Readiness) → c.me ≡ terms.now.me
         → FindsBy C.bears_ack_of C.dealing_of C.outcome_of C.finish_of c → midpoint c.blocks_per_epoch life.now.epoch ≡ life.now.midpoint
         → life.now.round ≡ Some round → IsSeen inclusion.old beside.inclusion → EndsWith beside (λ i. OnOk result (IsSeen inclusion.new i)) (λ more. more ≡ [])
-        (λ now. (out : List Line) → Speaks (sees_verified c round logs.now (live_of beside fence life.now)) (ends_in (live_of now fence life.now) result) out out) }
+        (λ now. (out : List Line) → Speaks (sees_verified c round logs.now (live_of beside fence life.now))
+        (ends_in (live_of now fence life.now) result) out out) }
     ensures causes { IfErr result (λ stop. IsCaused stop ⊥ ⊥ ⊥) }
 {
     if inclusion.verification.ready(logs).is_some() {
@@ -165,7 +163,8 @@ fn derive_now<
         (λ now. Makes D.files D.image X.held (derives_now c round logs.now (live_of beside fence life.old)) (ends
         (λ made. (artifact_of made, live_of now fence life.new)) result)
         devices.old devices.new out out) }
-    ensures tells { IsTrue P.tells → (c : Fixed Dir) (round : Round) (beside : Beside Dir) (fence : Readiness) (out : List Line) → IsOf terms.now c → ReadsPlanless c
+    ensures tells { IsTrue P.tells → (c : Fixed Dir) (round : Round) (beside : Beside Dir) (fence : Readiness) (out : List Line) → IsOf terms.now c
+        → ReadsPlanless c
         → IsRuledBy C.round_of C.deal_of C.dealing_of C.ack_of C.check_ack_of C.sign_log_of C.bears_ack_of C.share_public_of C.partial_public_of c.rules
         → IncludesBy C.check_log_of C.outcome_of C.finish_of (P.participants_of provider.old) (P.directory_of provider.old) Dir.spelling Dir.matches_of c
         → life.old.round ≡ Some round → IsSeen inclusion.old beside.inclusion → EndsWith beside (λ i. OnOk result (IsSeen inclusion.new i)) (λ more. more ≡ [])
@@ -238,7 +237,8 @@ fn artifact_by<
         (λ now. Makes D.files D.image X.held (derives_by c round logs.now (option_map artifact_of before) (live_of beside fence life.old)) (ends
         (λ made. (artifact_of made, live_of now fence life.new)) result)
         devices.old devices.new out out) }
-    ensures tells { IsTrue P.tells → (c : Fixed Dir) (round : Round) (beside : Beside Dir) (fence : Readiness) (out : List Line) → IsOf terms.now c → ReadsPlanless c
+    ensures tells { IsTrue P.tells → (c : Fixed Dir) (round : Round) (beside : Beside Dir) (fence : Readiness) (out : List Line) → IsOf terms.now c
+        → ReadsPlanless c
         → IsRuledBy C.round_of C.deal_of C.dealing_of C.ack_of C.check_ack_of C.sign_log_of C.bears_ack_of C.share_public_of C.partial_public_of c.rules
         → IncludesBy C.check_log_of C.outcome_of C.finish_of (P.participants_of provider.old) (P.directory_of provider.old) Dir.spelling Dir.matches_of c
         → life.old.round ≡ Some round → IsSeen inclusion.old beside.inclusion → EndsWith beside (λ i. OnOk result (IsSeen inclusion.new i)) (λ more. more ≡ [])

@@ -20,7 +20,7 @@ use Rattle.dkg_script.specs.Epochs.{IsAnchorIn}
 use Rattle.dkg_script.specs.Inclusion.{IsFormOfInclusion}
 use Rattle.dkg_store.specs.Acts.{Held}
 use Rattle.dkg_core.specs.Seen.{Seen}
-use Rattle.dkg_reshare.specs.Configured.{config_fault}
+use Rattle.dkg_dealing.specs.Configured.{config_fault}
 use Rattle.dkg_run.specs.Causes.{HasCause}
 use Rattle.dkg_run.specs.Epochs.{IsAnchorAbove, IsChecked, IsLifeInForm, refused_config}
 use Rattle.dkg_run.specs.Given.{IsUnplanned, lived}

@@ -28,9 +28,9 @@ use Rattle.dkg_core.specs.Heard.{recovered_in}
 use Rattle.dkg_core.specs.Live.{Faulted, Live, NodeStop}
 use Rattle.dkg_core.specs.Node.{node_opening}
 use Rattle.dkg_core.specs.Splitting.{named}
-use Rattle.dkg_reshare.specs.Ends.{by_fault}
-use Rattle.dkg_reshare.specs.declared.stop.Stop.{Stop}
-use Rattle.dkg_reshare.specs.declared.stop.Stop.TheVariants.{Cut, Failed, Fault as FaultOf}
+use Rattle.dkg_dealing.specs.Ends.{by_fault}
+use Rattle.dkg_dealing.specs.declared.stop.Stop.{Stop}
+use Rattle.dkg_dealing.specs.declared.stop.Stop.TheVariants.{Cut, Failed, Fault as FaultOf}
 use Rattle.dkg_run.specs.Blamed.{IsFromOutside}
 use Rattle.dkg_run.specs.Causes.{IfFault}
 use Rattle.dkg_run.specs.Ended.{by_node_stop}

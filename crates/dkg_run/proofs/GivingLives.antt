@@ -19,8 +19,8 @@ use Rattle.dkg_core.specs.Node.{node_opening}
 use Rattle.dkg_core.specs.Seen.{Seen}
 use Rattle.dkg_core.proofs.BlocksKept.{node_steps_keep_plans}
 use Rattle.dkg_core.proofs.Spared.{node_openings_keep_plans}
-use Rattle.dkg_reshare.specs.declared.stop.Stop.{Stop}
-use Rattle.dkg_reshare.specs.declared.stop.Stop.TheVariants.{Cut, Failed, Fault as FaultOf}
+use Rattle.dkg_dealing.specs.declared.stop.Stop.{Stop}
+use Rattle.dkg_dealing.specs.declared.stop.Stop.TheVariants.{Cut, Failed, Fault as FaultOf}
 use Rattle.dkg_run.specs.Epochs.{IsLifeInForm}
 use Rattle.dkg_run.specs.Given.{Lived, at_step, lived, step_of}
 use Rattle.dkg_run.specs.Lives.{AnyFiles, EndsLife, LivesFrom, LivesSo, RunsAllSo, RunsSo, Steps, TakesAll, TellsEnd, fuse_for}

@@ -37,7 +37,7 @@ use Rattle.dkg_core.proofs.BlocksKept.{blocks_keep}
 use Rattle.dkg_core.proofs.NodeKept.{node_openings_agree, node_peers_are_kept, node_steps_agree}
 use Rattle.dkg_core.proofs.Openings.{node_openings_lead_over}
 use Rattle.dkg_core.proofs.NodeThrough.{node_steps_lead_through_over}
-use Rattle.dkg_reshare.specs.declared.stop.Stop.{Stop}
+use Rattle.dkg_dealing.specs.declared.stop.Stop.{Stop}
 use Rattle.dkg_run.specs.Epochs.{IsAt, IsLifeInForm, any_shares}
 use Rattle.dkg_run.specs.Given.{AreBytes, Lived, at_step, lived, step_of}
 use Rattle.dkg_run.specs.Lives.{LivesSo, RunsOver, RunsSo, never}

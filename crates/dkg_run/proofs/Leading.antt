@@ -22,8 +22,8 @@ use Rattle.dkg_core.specs.Node.{node_opening}
 use Rattle.dkg_core.specs.Said.{Said}
 use Rattle.dkg_core.proofs.Counted.{cuts_fall}
 use Rattle.dkg_core.proofs.Said.{runs_say}
-use Rattle.dkg_reshare.specs.declared.stop.Stop.{Stop}
-use Rattle.dkg_reshare.specs.declared.stop.Stop.TheVariants.{Cut, Fault as FaultOf}
+use Rattle.dkg_dealing.specs.declared.stop.Stop.{Stop}
+use Rattle.dkg_dealing.specs.declared.stop.Stop.TheVariants.{Cut, Fault as FaultOf}
 use Rattle.dkg_run.specs.Ended.{by_node_stop}
 use Rattle.dkg_run.specs.Given.{Lived, at_step, step_of}
 use Rattle.dkg_run.specs.Lives.{LivesSo, Steps, TakesAll, fuse_for}

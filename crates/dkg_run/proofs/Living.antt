@@ -10,9 +10,9 @@ use Rattle.dkg_types.specs.declared.directory.Unit as directory
 use Rattle.dkg_types.specs.declared.fault.Fault.TheVariants as fault
 use Rattle.dkg_text.specs.declared.script.Life.{Life}
 use Rattle.dkg_store.specs.declared.devices.Devices.{Devices}
-use Rattle.dkg_reshare.specs.Ends.{IsCausedBy}
-use Rattle.dkg_reshare.specs.declared.stop.Stop.{Stop}
-use Rattle.dkg_reshare.specs.declared.stop.Stop.TheVariants.{Cut, Failed, Fault as FaultOf}
+use Rattle.dkg_dealing.specs.Ends.{IsCausedBy}
+use Rattle.dkg_dealing.specs.declared.stop.Stop.{Stop}
+use Rattle.dkg_dealing.specs.declared.stop.Stop.TheVariants.{Cut, Failed, Fault as FaultOf}
 use Rattle.dkg_run.specs.Causes.{StopHasCause}
 use Rattle.dkg_run.specs.Moving.{StepBlames}
 use Rattle.dkg_run.specs.Given.{Lived}

@@ -17,12 +17,12 @@ use Rattle.dkg_core.specs.Fixed.{Fixed}
 use Rattle.dkg_core.specs.Live.{Live, NodeStop}
 use Rattle.dkg_core.specs.Node.{node_opening}
 use Rattle.dkg_core.specs.Said.{Said}
-use Rattle.dkg_reshare.specs.Actors.{IsFoundAt}
-use Rattle.dkg_reshare.specs.Made.{MakesOn}
-use Rattle.dkg_reshare.specs.Opened.{IsInGrammar, StaysShut}
-use Rattle.dkg_reshare.specs.Planless.{seen_planless}
-use Rattle.dkg_reshare.specs.declared.stop.Stop.{Stop}
-use Rattle.dkg_reshare.specs.declared.stop.Stop.TheVariants.{Cut, Fault as FaultOf}
+use Rattle.dkg_dealing.specs.Ready.{IsFoundAt}
+use Rattle.dkg_dealing.specs.Made.{MakesOn}
+use Rattle.dkg_dealing.specs.Opened.{IsInGrammar, StaysShut}
+use Rattle.dkg_dealing.specs.Planless.{seen_planless}
+use Rattle.dkg_dealing.specs.declared.stop.Stop.{Stop}
+use Rattle.dkg_dealing.specs.declared.stop.Stop.TheVariants.{Cut, Fault as FaultOf}
 use Rattle.dkg_run.specs.Ended.{by_node_stop}
 use Rattle.dkg_run.specs.Epochs.{IsAt, IsChecked}
 use Rattle.dkg_run.specs.Given.{Lived, at_step, limits_of, lived}

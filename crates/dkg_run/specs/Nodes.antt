@@ -28,12 +28,12 @@ use Rattle.dkg_reshare.specs.declared.message.Message.TheVariants as message
 use Rattle.dkg_core.specs.Sources.{Source}
 use Rattle.dkg_core.specs.Endings.{OnInfo, first_epoch}
 use Rattle.dkg_reshare.specs.Actors.{IfIncluding, IfLiving, IsAt, IsLiving, message_of}
-use Rattle.dkg_reshare.specs.Given.{IsOf}
+use Rattle.dkg_dealing.specs.Given.{IsOf}
 use Rattle.dkg_reshare.specs.Carried.{CarriesWithin}
-use Rattle.dkg_reshare.specs.InclusionOf.{IsSeen, IsSettledInclusion}
-use Rattle.dkg_reshare.specs.LiveOf.{Beside, live_of}
-use Rattle.dkg_reshare.specs.declared.life.Life as reshare
-use Rattle.dkg_reshare.specs.declared.stop.Stop.{Stop}
+use Rattle.dkg_inclusion.specs.InclusionOf.{IsSeen, IsSettledInclusion}
+use Rattle.dkg_dealing.specs.LiveOf.{Beside, live_of}
+use Rattle.dkg_dealing.specs.declared.life.Life as reshare
+use Rattle.dkg_dealing.specs.declared.stop.Stop.{Stop}
 use Rattle.dkg_run.specs.Ended.{by_node_stop}
 use Rattle.dkg_script.specs.Players.{players_at}
 use Rattle.dkg_run.specs.Epochs.{IsAt as StandsAt, IsLifeInForm, MayStep}

@@ -16,9 +16,9 @@ ghost use Rattle.dkg_core.specs.Entering.{acked_at, delivered, delivered_in, is_
 ghost use Rattle.dkg_core.specs.Fixed.{Fixed};
 ghost use Rattle.dkg_core.specs.Live.{Live};
 ghost use Rattle.dkg_core.specs.Node.{kept_material};
-ghost use Rattle.dkg_reshare.specs.Ends.{IsCaused};
-ghost use Rattle.dkg_reshare.specs.Made.{Speaks};
-ghost use Rattle.dkg_reshare.specs.declared.stop.Stop.TheVariants.{Fault as FaultOf};
+ghost use Rattle.dkg_dealing.specs.Ends.{IsCaused};
+ghost use Rattle.dkg_dealing.specs.Made.{Speaks};
+ghost use Rattle.dkg_dealing.specs.declared.stop.Stop.TheVariants.{Fault as FaultOf};
 ghost use Rattle.dkg_types.specs.declared.fault.Fault.TheVariants.{NoMemory};
 ghost use Rattle.dkg_run.specs.Ended.{ends_node};
 ghost use Rattle.dkg_run.specs.Halves.{IsStartOf, beginning_of};

@@ -1,4 +1,4 @@
-use Rattle.std.proofs.Common.{◌≡◌, ◌+◌, ℕ, true, false, ap, refl, sym, ◌∙◌, arith}
+use Rattle.std.proofs.Common.{◌≡◌, ℕ, true, false, ap, refl, sym, ◌∙◌, arith}
 use Rattle.std.specs.Prelude.{◌==◌}
 use Rattle.std.proofs.lemmas.Bool.Decides.{nat_tests}
 use Rattle.std.proofs.lemmas.Grind.{common_steps}
@@ -8,19 +8,18 @@ use Rattle.dkg_ceremony.specs.Schedule.{epoch_of, last}
 use Rattle.dkg_ceremony.specs.declared.epocher.Bounds.{Bounds}
 use Rattle.dkg_store.specs.Acts.{by_want}
 use Rattle.dkg_store.specs.declared.call.StoreError.TheVariants.{NoMemory as Wanting}
-use Rattle.dkg_reshare.specs.declared.inclusion.Inclusion.{Inclusion}
-use Rattle.dkg_reshare.specs.declared.life.Stage.{Stage}
-use Rattle.dkg_reshare.specs.declared.life.Stage.TheVariants.{Including, Following}
-use Rattle.dkg_reshare.specs.LiveOf.{live_of}
-use Rattle.dkg_reshare.proofs.Beginning.{makes_as, tells_as}
-use Rattle.dkg_reshare.proofs.Beside.{none_with, took_nothing, with_as}
+use Rattle.dkg_dealing.specs.declared.life.Stage.{Stage}
+use Rattle.dkg_dealing.specs.declared.life.Stage.TheVariants.{Including, Following}
+use Rattle.dkg_dealing.specs.LiveOf.{live_of}
+use Rattle.dkg_dealing.proofs.Beginning.{makes_as, tells_as}
+use Rattle.dkg_dealing.proofs.Beside.{none_with, took_nothing, with_as}
 use Rattle.dkg_reshare.proofs.Blaming.{result_caused}
-use Rattle.dkg_reshare.proofs.Burning.{makes_none}
+use Rattle.dkg_dealing.proofs.Burning.{makes_none}
 use Rattle.dkg_reshare.proofs.Applied.{is_final, its_round, not_final}
-use Rattle.dkg_reshare.proofs.Included.{back_idle, back_ready, seen_back}
-use Rattle.dkg_reshare.proofs.Kept.{moved_none}
-use Rattle.dkg_reshare.proofs.Said.{said_none}
-use Rattle.dkg_reshare.proofs.Seated.{on_ok}
+use Rattle.dkg_inclusion.proofs.Included.{back_idle, back_ready, seen_back}
+use Rattle.dkg_dealing.proofs.Kept.{moved_none}
+use Rattle.dkg_dealing.proofs.Said.{said_none}
+use Rattle.dkg_dealing.proofs.Seated.{on_ok}
 use Rattle.dkg_reshare.proofs.Standing.{next_inside}
 use Rattle.dkg_reshare.proofs.blocks.apply_included.Goals as goal
 

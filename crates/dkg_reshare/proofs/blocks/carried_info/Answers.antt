@@ -1,5 +1,5 @@
-use Rattle.std.proofs.Common.{◌≡◌, ◌+◌, ℕ, true, false, Err, ap, sym, arith, ◌∙◌}
-use Rattle.std.specs.Prelude.{◌==◌, Result}
+use Rattle.std.proofs.Common.{◌≡◌, ◌+◌, true, false, ap, sym, arith, ◌∙◌}
+use Rattle.std.specs.Prelude.{◌==◌}
 use Rattle.std.specs.Option.{option_copied}
 use Rattle.std.proofs.lemmas.Bool.Decides.{nat_tests}
 use Rattle.std.proofs.lemmas.Grind.{common_steps}

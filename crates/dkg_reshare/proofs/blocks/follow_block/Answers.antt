@@ -1,30 +1,29 @@
-use Rattle.std.proofs.Common.{◌≡◌, ℕ, Some, true, false, ap, arith, sym, subst, refl, ◌∙◌}
+use Rattle.std.proofs.Common.{◌≡◌, Some, true, false, arith, sym, refl, ◌∙◌}
 use Rattle.std.specs.Prelude.{◌==◌, OnOk}
 use Rattle.std.proofs.lemmas.Bool.Decides.{nat_tests}
 use Rattle.std.proofs.lemmas.Grind.{common_steps}
 use Rattle.std.proofs.lemmas.Result.{err_from_is_err_and}
 use Rattle.std.specs.Int.NonZero.{non_zero_u64_get}
-use Rattle.dkg_ceremony.specs.declared.epocher.Bounds.{Bounds}
 use Rattle.dkg_store.specs.Acts.{went}
 use Rattle.dkg_core.specs.Blocks as blocks
 use Rattle.dkg_core.specs.Live.{with_tip}
-use Rattle.dkg_reshare.specs.declared.stop.Stop.TheVariants.{Fault as Faulted}
-use Rattle.dkg_reshare.specs.Ends.{by_stop, ends_in}
-use Rattle.dkg_reshare.specs.InclusionOf.{IsSeen}
-use Rattle.dkg_reshare.specs.LiveOf.{live_of}
-use Rattle.dkg_reshare.specs.declared.life.Stage.{Stage}
-use Rattle.dkg_reshare.specs.declared.life.Stage.TheVariants.{Including, Following}
+use Rattle.dkg_dealing.specs.declared.stop.Stop.TheVariants.{Fault as Faulted}
+use Rattle.dkg_dealing.specs.Ends.{by_stop, ends_in}
+use Rattle.dkg_inclusion.specs.InclusionOf.{IsSeen}
+use Rattle.dkg_dealing.specs.LiveOf.{live_of}
+use Rattle.dkg_dealing.specs.declared.life.Stage.{Stage}
+use Rattle.dkg_dealing.specs.declared.life.Stage.TheVariants.{Including, Following}
 use Rattle.dkg_reshare.proofs.Applying.{at_its_last, before_last, carried_caused, carried_next, follows_anew, not_carried, tipped}
-use Rattle.dkg_reshare.proofs.Beginning.{makes_as, tells_as}
-use Rattle.dkg_reshare.proofs.Beside.{emptied, emptied_fresh, none_with, then_well, took_none, with_in}
-use Rattle.dkg_reshare.proofs.Burning.{speaks_makes}
-use Rattle.dkg_reshare.proofs.Caused.{caused_around}
-use Rattle.dkg_reshare.proofs.Committing.{in_any}
-use Rattle.dkg_reshare.proofs.Included.{anew_settled, apart_settled, seen_anew}
-use Rattle.dkg_reshare.proofs.Kept.{moved_none}
+use Rattle.dkg_dealing.proofs.Beginning.{makes_as, tells_as}
+use Rattle.dkg_dealing.proofs.Beside.{emptied, emptied_fresh, none_with, then_well, took_none, with_in}
+use Rattle.dkg_dealing.proofs.Burning.{speaks_makes}
+use Rattle.dkg_dealing.proofs.Caused.{caused_around}
+use Rattle.dkg_dealing.proofs.Committing.{in_any}
+use Rattle.dkg_inclusion.proofs.Included.{anew_settled, apart_settled, seen_anew}
+use Rattle.dkg_dealing.proofs.Kept.{moved_none}
 use Rattle.dkg_reshare.proofs.Readying.{ready_following}
-use Rattle.dkg_reshare.proofs.Said.{speaks_tells}
-use Rattle.dkg_reshare.proofs.Speaking.{goes_speaks}
+use Rattle.dkg_dealing.proofs.Said.{speaks_tells}
+use Rattle.dkg_dealing.proofs.Speaking.{goes_speaks}
 use Rattle.dkg_reshare.proofs.Standing.{behind_last, epoch_below}
 use Rattle.dkg_reshare.proofs.blocks.follow_block.Goals as goal
 

@@ -1,20 +1,17 @@
-use Rattle.std.proofs.Common.{◌≡◌, ◌+◌, ◌∷◌, [], ℕ, ap, arith, sym, subst, refl, ◌∙◌}
-use Rattle.std.specs.Prelude.{IsTrue}
+use Rattle.std.proofs.Common.{◌≡◌, ◌+◌, ◌∷◌, [], ap, arith, sym, ◌∙◌}
 use Rattle.std.proofs.lemmas.Result.{err_from_is_err_and}
-use Rattle.std.specs.Int.NonZero.{non_zero_u32_get, non_zero_u64_get}
+use Rattle.std.specs.Int.NonZero.{non_zero_u64_get}
 use Rattle.dkg_ceremony.specs.Schedule.{epoch_of}
-use Rattle.dkg_store.specs.Corrupt.{AreFit}
-use Rattle.dkg_store.specs.declared.store.Store.{Store}
 use Rattle.dkg_store.proofs.Counts.{reached_behind}
 use Rattle.dkg_core.specs.Sources.{Tip}
-use Rattle.dkg_reshare.specs.declared.life.Life.{Life}
-use Rattle.dkg_reshare.specs.LiveOf.{live_of, scheme_by, with_scheme_of}
+use Rattle.dkg_dealing.specs.declared.life.Life.{Life}
+use Rattle.dkg_dealing.specs.LiveOf.{live_of, scheme_by, with_scheme_of}
 use Rattle.dkg_reshare.proofs.Applying.{as_it_was, can_read, firm_on, in_word, secrets_told, set_up_behind, took_over_makes, took_over_told, uncommitted_makes, uncommitted_told, unread_makes, unread_told}
-use Rattle.dkg_reshare.proofs.Beginning.{makes_as, tells_as}
-use Rattle.dkg_reshare.proofs.Beside.{none_beside, then_beside, then_well, took_then}
+use Rattle.dkg_dealing.proofs.Beginning.{makes_as, tells_as}
+use Rattle.dkg_dealing.proofs.Beside.{none_beside, then_beside, then_well, took_then}
 use Rattle.dkg_reshare.proofs.Blaming.{result_caused_by}
-use Rattle.dkg_reshare.proofs.Caused.{caused_around, rose_around}
-use Rattle.dkg_reshare.proofs.Kept.{moved_then}
+use Rattle.dkg_dealing.proofs.Caused.{caused_around, rose_around}
+use Rattle.dkg_dealing.proofs.Kept.{moved_then}
 use Rattle.dkg_reshare.proofs.blocks.follow_into.Goals as goal
 
 pub returns-in_err-secrets-clause-acts : goal.returns-in_err-secrets-clause-acts

@@ -1,4 +1,4 @@
-use Rattle.std.proofs.Common.{◌+◌, ℕ, Option, Some, ap, refl, sym, subst, ◌∙◌}
+use Rattle.std.proofs.Common.{Option, Some, ap, refl, sym, subst, ◌∙◌}
 use Rattle.std.specs.Prelude.{IsSome, option_and_then}
 use Rattle.std.specs.Int.NonZero.{non_zero_u32_get, non_zero_u64_get}
 use Rattle.std.proofs.lemmas.Result.{err_from_is_err_and}
@@ -6,18 +6,18 @@ use Rattle.dkg_types.specs.PayloadCodes.{its_log}
 use Rattle.dkg_types.specs.declared.info.EpochInfo.{EpochInfo}
 use Rattle.dkg_core.specs.Blocks as blocks
 use Rattle.dkg_core.specs.Sources.{Tip}
-use Rattle.dkg_reshare.specs.declared.life.Life.{Life}
-use Rattle.dkg_reshare.specs.Ends.{by_stop, ends_in}
-use Rattle.dkg_reshare.specs.LiveOf.{awaited_of, live_of}
-use Rattle.dkg_reshare.proofs.Beginning.{makes_as, tells_as}
-use Rattle.dkg_reshare.proofs.Beside.{none_with, with_as}
-use Rattle.dkg_reshare.proofs.Blamed.{blamed_behind}
+use Rattle.dkg_dealing.specs.declared.life.Life.{Life}
+use Rattle.dkg_dealing.specs.Ends.{ends_in}
+use Rattle.dkg_dealing.specs.LiveOf.{awaited_of, live_of}
+use Rattle.dkg_dealing.proofs.Beginning.{makes_as, tells_as}
+use Rattle.dkg_dealing.proofs.Beside.{none_with, with_as}
+use Rattle.dkg_dealing.proofs.Blamed.{blamed_behind}
 use Rattle.dkg_reshare.proofs.Applied.{behind_log, log_behind, still_served, unserved_seen, unserving_at}
-use Rattle.dkg_reshare.proofs.Included.{moved_ready, ready_as}
-use Rattle.dkg_reshare.proofs.Kept.{moved_then}
+use Rattle.dkg_inclusion.proofs.Included.{moved_ready, ready_as}
+use Rattle.dkg_dealing.proofs.Kept.{moved_then}
 use Rattle.dkg_reshare.proofs.Readying.{ready_at}
 use Rattle.dkg_reshare.proofs.Standing.{placed_included}
-use Rattle.dkg_reshare.proofs.Chained.{early_makes, early_told, then_makes, then_told}
+use Rattle.dkg_dealing.proofs.Chained.{early_makes, early_told, then_makes, then_told}
 use Rattle.dkg_reshare.proofs.blocks.include.Goals as goal
 
 pub observe-requires : goal.observe-requires

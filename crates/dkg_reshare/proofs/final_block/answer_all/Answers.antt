@@ -1,8 +1,7 @@
-use Rattle.std.proofs.Common.{◌≡◌, None, ap, arith, rules, length, refl, sym, ◌∙◌}
+use Rattle.std.proofs.Common.{◌≡◌, rules, refl}
 use Rattle.std.proofs.lemmas.Result.{err_from_is_err_and}
-use Rattle.dkg_reshare.specs.LiveOf.{live_of}
 use Rattle.dkg_reshare.proofs.Answering.{all_left, none_behind, none_more, one_less, with_its}
-use Rattle.dkg_reshare.proofs.Telling.{ends_beside}
+use Rattle.dkg_inclusion.proofs.Telling.{ends_beside}
 use Rattle.dkg_reshare.proofs.final_block.answer_all.Goals as goal
 
 pub loop-request-init : goal.loop-request-init

@@ -1,25 +1,22 @@
-use Rattle.std.proofs.Common.{◌≡◌, None, Option, Some, ap, is_some, refl, sym, subst, ◌∙◌}
+use Rattle.std.proofs.Common.{◌≡◌, None, Some, ap, is_some, refl, sym, subst, ◌∙◌}
 use Rattle.std.specs.Prelude.{option_map}
 use Rattle.std.specs.Option.{option_copied}
 use Rattle.std.specs.Int.NonZero.{non_zero_u64_get}
 use Rattle.std.proofs.lemmas.Result.{err_from_is_err_and}
 use Rattle.dkg_ceremony.specs.Outcomes.{LogMap}
-use Rattle.dkg_artifact.specs.Results.{Checked}
-use Rattle.dkg_store.specs.declared.store.Store.{Store}
 use Rattle.dkg_core.specs.Including as including
-use Rattle.dkg_core.specs.Live as core
 use Rattle.dkg_types.specs.declared.fault.Fault.TheVariants.{NoMemory}
-use Rattle.dkg_reshare.specs.Including.{caching}
-use Rattle.dkg_reshare.specs.InclusionOf.{artifact_of, cached_of, result_of}
-use Rattle.dkg_reshare.specs.LiveOf.{live_of}
-use Rattle.dkg_reshare.specs.declared.stop.Stop.TheVariants.{Fault as Faulted}
-use Rattle.dkg_reshare.proofs.Beside.{with_then}
-use Rattle.dkg_reshare.proofs.Blamed.{caused_more}
+use Rattle.dkg_inclusion.specs.Including.{caching}
+use Rattle.dkg_inclusion.specs.InclusionOf.{artifact_of, cached_of, result_of}
+use Rattle.dkg_dealing.specs.LiveOf.{live_of}
+use Rattle.dkg_dealing.specs.declared.stop.Stop.TheVariants.{Fault as Faulted}
+use Rattle.dkg_dealing.proofs.Beside.{with_then}
+use Rattle.dkg_dealing.proofs.Blamed.{caused_more}
 use Rattle.dkg_reshare.proofs.Concluding.{and_some, canonical_is, finds_by, has_round, kept_makes, kept_told, middle_in, none_apart, uncopied_makes, uncopied_told, unkept_makes, unkept_told, unseen_makes, unseen_told}
-use Rattle.dkg_reshare.proofs.Kept.{moved_none}
-use Rattle.dkg_reshare.proofs.Keeping.{cached_there}
-use Rattle.dkg_reshare.proofs.Telling.{ends_with, seen_cached}
-use Rattle.dkg_reshare.proofs.Within.{within_as}
+use Rattle.dkg_dealing.proofs.Kept.{moved_none}
+use Rattle.dkg_inclusion.proofs.Keeping.{cached_there}
+use Rattle.dkg_inclusion.proofs.Telling.{ends_with, seen_cached}
+use Rattle.dkg_inclusion.proofs.Within.{within_as}
 use Rattle.dkg_reshare.proofs.final_block.derive_now.Goals as goal
 
 pub see_verified-requires : goal.see_verified-requires

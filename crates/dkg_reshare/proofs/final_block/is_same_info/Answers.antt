@@ -1,4 +1,4 @@
-use Rattle.std.proofs.Common.{◌≡◌, sym, ◌∙◌, true, false, arith}
+use Rattle.std.proofs.Common.{◌≡◌, true, false, arith}
 use Rattle.std.proofs.lemmas.Grind.{common_steps}
 use Rattle.dkg_reshare.proofs.Alike.{parts_apart, spellings_tell}
 use Rattle.dkg_reshare.proofs.final_block.is_same_info.Goals as goal

@@ -1,7 +1,7 @@
 use Rattle.std.proofs.Common.{◌≡◌, Some, ap, is_some, sym, ◌∙◌, true, false}
 use Rattle.std.specs.Option.{option_copied}
-use Rattle.dkg_reshare.specs.InclusionOf.{artifact_of}
-use Rattle.dkg_reshare.proofs.Keeping.{cached_none, cached_some}
+use Rattle.dkg_inclusion.specs.InclusionOf.{artifact_of}
+use Rattle.dkg_inclusion.proofs.Keeping.{cached_none, cached_some}
 use Rattle.dkg_reshare.proofs.final_block.kept_for.Goals as goal
 
 pub returns-in-None : goal.returns-in-None

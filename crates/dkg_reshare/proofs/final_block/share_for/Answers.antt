@@ -1,7 +1,5 @@
-use Rattle.std.proofs.Common.{◌≡◌, sym, ◌∙◌, true, false, arith}
-use Rattle.std.proofs.lemmas.Grind.{common_steps}
-use Rattle.dkg_reshare.specs.InclusionOf.{artifact_of}
-use Rattle.dkg_reshare.proofs.Alike.{none_derived, share_left, share_taken}
+use Rattle.dkg_inclusion.specs.InclusionOf.{artifact_of}
+use Rattle.dkg_reshare.proofs.Alike.{none_derived}
 use Rattle.dkg_reshare.proofs.final_block.share_for.Goals as goal
 
 pub returns-in_default : goal.returns-in_default

@@ -1,18 +1,16 @@
-use Rattle.std.proofs.Common.{◌≡◌, inl, inr, Err, None, Ok, Option, Some, ap, refl, sym, subst, ◌∙◌, true, false, is_some}
+use Rattle.std.proofs.Common.{◌≡◌, inl, inr, None, Option, ap, refl, sym, subst, ◌∙◌, true, false, is_some}
 use Rattle.std.specs.Prelude.{IsSome}
 use Rattle.std.proofs.lemmas.Result.{err_from_is_err_and}
 use Rattle.dkg_ceremony.specs.declared.round.RoundParts.{RoundParts as Round}
 use Rattle.dkg_core.specs.Including as including
 use Rattle.dkg_core.specs.Live as core
-use Rattle.dkg_reshare.specs.Concluded.{verifies}
-use Rattle.dkg_reshare.specs.InclusionOf.{IsSeen, result_of}
-use Rattle.dkg_reshare.specs.LiveOf.{live_of}
-use Rattle.dkg_reshare.specs.Refusing.{refusal_for}
-use Rattle.dkg_reshare.proofs.Caused.{of_want}
+use Rattle.dkg_inclusion.specs.Concluded.{verifies}
+use Rattle.dkg_inclusion.specs.InclusionOf.{IsSeen}
+use Rattle.dkg_dealing.specs.LiveOf.{live_of}
 use Rattle.dkg_reshare.proofs.Concluding.{checked_logs, found_as, found_live, some_and, unmade_speaks, verified_speaks}
-use Rattle.dkg_reshare.proofs.Seated.{same_some}
-use Rattle.dkg_reshare.proofs.Speaking.{want_speaks}
-use Rattle.dkg_reshare.proofs.Telling.{ends_beside, ends_with}
+use Rattle.dkg_dealing.proofs.Seated.{same_some}
+use Rattle.dkg_dealing.proofs.Speaking.{want_speaks}
+use Rattle.dkg_inclusion.proofs.Telling.{ends_beside, ends_with}
 use Rattle.dkg_reshare.proofs.final_block.verify_now.Goals as goal
 
 none_some : (o : Option Round) → o ≡ None → IsSome o → ⊥

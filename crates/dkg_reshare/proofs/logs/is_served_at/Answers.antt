@@ -2,7 +2,7 @@ use Rattle.std.proofs.Common.{◌≡◌, true, arith}
 use Rattle.std.specs.Prelude.{◌==◌}
 use Rattle.std.proofs.lemmas.Bool.Decides.{nat_tests}
 use Rattle.std.proofs.lemmas.Grind.{common_steps}
-use Rattle.dkg_reshare.proofs.Telling.{served_for}
+use Rattle.dkg_inclusion.proofs.Telling.{served_for}
 use Rattle.dkg_reshare.proofs.logs.is_served_at.Goals as goal
 
 pub returns-in-Some : goal.returns-in-Some

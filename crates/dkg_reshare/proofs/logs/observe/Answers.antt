@@ -1,5 +1,5 @@
-use Rattle.std.proofs.Common.{arith, ◌≡◌, Bool, None, Option, Some, ap, refl, sym, subst, true, false, ◌∙◌}
-use Rattle.std.specs.Prelude.{IfSome, IsTrue, option_and_then}
+use Rattle.std.proofs.Common.{arith, ◌≡◌, None, Option, Some, ap, refl, sym, true, false, ◌∙◌}
+use Rattle.std.specs.Prelude.{option_and_then}
 use Rattle.std.specs.Option.{option_copied}
 use Rattle.std.proofs.lemmas.Grind.{common_steps}
 use Rattle.std.proofs.lemmas.Result.{err_from_is_err_and}
@@ -10,15 +10,14 @@ use Rattle.dkg_store.specs.Acts.{broken, by_want, went}
 use Rattle.dkg_store.specs.declared.store.Store.{Store}
 use Rattle.dkg_types.specs.PayloadCodes.{its_log}
 use Rattle.dkg_core.specs.Blocks as blocks
-use Rattle.dkg_reshare.specs.declared.life.Life.{Life}
 use Rattle.dkg_reshare.specs.Carried.{cleared_of}
-use Rattle.dkg_reshare.specs.LiveOf.{live_of}
-use Rattle.dkg_reshare.proofs.Burning.{speaks_makes}
-use Rattle.dkg_reshare.proofs.Kept.{moved_none}
+use Rattle.dkg_dealing.specs.LiveOf.{live_of}
+use Rattle.dkg_dealing.proofs.Burning.{speaks_makes}
+use Rattle.dkg_dealing.proofs.Kept.{moved_none}
 use Rattle.dkg_reshare.proofs.Observed.{bare_speaks, counts_as, observed_makes, observed_told, passed_over, ready_logged, unrecorded_makes, unrecorded_told}
-use Rattle.dkg_reshare.proofs.Said.{speaks_tells}
-use Rattle.dkg_reshare.proofs.Seated.{at_some, same_some}
-use Rattle.dkg_reshare.proofs.Speaking.{want_speaks}
+use Rattle.dkg_dealing.proofs.Said.{speaks_tells}
+use Rattle.dkg_dealing.proofs.Seated.{at_some, same_some}
+use Rattle.dkg_dealing.proofs.Speaking.{want_speaks}
 use Rattle.dkg_reshare.proofs.logs.observe.Goals as goal
 
 no_round : {A : Type 0} (o : Option Round) (round : Round) → o ≡ None → o ≡ Some round → A

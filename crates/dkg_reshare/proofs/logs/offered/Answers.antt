@@ -1,12 +1,10 @@
-use Rattle.std.proofs.Common.{◌≡◌, Bool, None, Option, Some, ap, refl, sym, ◌∙◌, is_some, true, false, arith}
-use Rattle.std.specs.Prelude.{OnOk, IfOk, option_map}
+use Rattle.std.proofs.Common.{◌≡◌, is_some, true, false, arith}
+use Rattle.std.specs.Prelude.{option_map}
 use Rattle.std.specs.Option.{option_copied}
 use Rattle.std.proofs.lemmas.Grind.{common_steps}
-use Rattle.dkg_reshare.specs.declared.life.Stage.{Stage}
-use Rattle.dkg_reshare.specs.declared.life.Stage.TheVariants.{Dealing, Following, Including}
 use Rattle.dkg_types.specs.PayloadCodes.{log_payload}
-use Rattle.dkg_reshare.specs.InclusionOf.{IsSeen}
-use Rattle.dkg_reshare.proofs.Telling.{copied_offers, own_offers, served_offers}
+use Rattle.dkg_inclusion.specs.InclusionOf.{IsSeen}
+use Rattle.dkg_inclusion.proofs.Telling.{copied_offers, own_offers, served_offers}
 use Rattle.dkg_reshare.proofs.logs.offered.Goals as goal
 
 pub returns-then-is_some-clause-made : goal.returns-then-is_some-clause-made

@@ -1,6 +1,6 @@
-use Rattle.std.proofs.Common.{◌≡◌, None, ap, refl, sym, ◌∙◌, true, false, arith}
+use Rattle.std.proofs.Common.{◌≡◌, sym, ◌∙◌, true, false, arith}
 use Rattle.std.proofs.lemmas.Grind.{common_steps}
-use Rattle.dkg_reshare.proofs.Telling.{back_seen, unserved_outside}
+use Rattle.dkg_inclusion.proofs.Telling.{back_seen, unserved_outside}
 use Rattle.dkg_reshare.proofs.logs.release.Goals as goal
 
 pub returns-then-not-is_served_at-clause-released : goal.returns-then-not-is_served_at-clause-released

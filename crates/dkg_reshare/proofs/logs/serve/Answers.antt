@@ -2,7 +2,7 @@ use Rattle.std.proofs.Common.{◌≡◌, Some, ap, refl, sym, ◌∙◌, is_some
 use Rattle.std.specs.Prelude.{if◌then◌else◌}
 use Rattle.std.proofs.lemmas.Grind.{common_steps}
 use Rattle.std.proofs.lemmas.Result.{err_from_is_err_and}
-use Rattle.dkg_reshare.proofs.Telling.{ends_beside, served_speaks, unserved_speaks, unspoken}
+use Rattle.dkg_inclusion.proofs.Telling.{ends_beside, served_speaks, unserved_speaks, unspoken}
 use Rattle.dkg_reshare.proofs.logs.serve.Goals as goal
 
 -- NOTHING WAS SAID

@@ -1,8 +1,8 @@
 use Rattle.std.proofs.Common.{refl}
 use Rattle.std.specs.Int.NonZero.{non_zero_u64_get}
-use Rattle.dkg_reshare.specs.declared.life.Life.{Life}
-use Rattle.dkg_reshare.proofs.Burning.{by_stop_alike}
-use Rattle.dkg_reshare.proofs.Included.{empty_settled}
+use Rattle.dkg_dealing.specs.declared.life.Life.{Life}
+use Rattle.dkg_dealing.proofs.Burning.{by_stop_alike}
+use Rattle.dkg_inclusion.proofs.Included.{empty_settled}
 use Rattle.dkg_reshare.proofs.actor.Actor.open.Goals as goal
 
 pub returns-in-Err-clause-acts : goal.returns-in-Err-clause-acts

@@ -1,0 +1,17 @@
+pub mod Advancing
+pub mod Asked
+pub mod Asking
+pub mod Caching
+pub mod Completed
+pub mod Completing
+pub mod Derived
+pub mod Deriving
+pub mod Included
+pub mod Keeping
+pub mod Posted
+pub mod Requesting
+pub mod Scans
+pub mod Staying
+pub mod Telling
+pub mod Verified
+pub mod Within

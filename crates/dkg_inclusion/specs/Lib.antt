@@ -1,0 +1,6 @@
+pub mod Concluded
+pub mod Derived
+pub mod Including
+pub mod InclusionOf
+pub mod Refusing
+pub mod Scanned
