@@ -28,7 +28,7 @@ use Rattle.dkg_text.specs.declared.script.Life.{Life}
 use Rattle.dkg_script.specs.Consistent.{IsConsistentScript}
 use Rattle.dkg_script.specs.Inclusion.{IsFormOfInclusion}
 use Rattle.dkg_script.specs.Position.{awaited_before, awaited_epoch, awaited_height, begun, begun_before, cut_of, events_taken}
-use Rattle.dkg_script.specs.Progress.{Progress, read}
+use Rattle.dkg_script.specs.Progress.{Progress}
 use Rattle.dkg_script.specs.Setting.{CutAt, Setting, blocks_per_epoch, is_oneshot, life_at, me}
 use Rattle.dkg_store.specs.Acts.{Cause, Ended, Held, World, broken, says, stopped, went}
 use Rattle.dkg_core.specs.Asked.{OfShares, Reads}

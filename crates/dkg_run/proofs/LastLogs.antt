@@ -1,7 +1,7 @@
 -- Before an epoch's last block what is recorded of it, and reached by the tip, are the chain's logs.
 use Rattle.std.proofs.Common.{◌≡◌, ◌<◌, ◌≤◌, ◌+◌, ◌^◌, ℕ, zero, suc, Bool, true, false, List, [], ◌∷◌, ◌++◌, Option, Some, None, arith, refl, sym, ◌∙◌, ap, map, filter_map}
 use Rattle.std.specs.Prelude.{◌-◌, filter, option_map, option_to_list, if◌then◌else◌}
-use Rattle.dkg_values.specs.Rising.{Rises, keys_of, lookup, map_of}
+use Rattle.dkg_values.specs.Rising.{Rises, keys_of, map_of}
 use Rattle.dkg_values.specs.RisingLaws.{map_of-lookup, map_of-rises, rises_from, rises_less, same_lookups}
 use Rattle.dkg_ceremony.specs.Outcomes.{LogMap}
 use Rattle.dkg_ceremony.specs.Schedule.{last, midpoint}
