@@ -1,6 +1,6 @@
 -- What a run's completed steps leave of requests, whatever the devices tell: its lines tell it.
 use Rattle.std.proofs.Common.{◌≡◌, ◌⊎◌, inl, inr, Bool, true, false, ℕ, suc, ◌+◌, ◌-◌, ◌<◌, ◌≤◌, ◌||◌, ◌++◌, ◌∷◌, [], List, Option, Some, None, Result, Ok, Err, arith, refl, sym, ◌∙◌, ap, subst, add-one, append_assoc, append-nil, drop, length}
-use Rattle.std.specs.Prelude.{⊤, fold, slice_get, IfSome, IsFalse, IsSomeAnd, nat_lt, ◌==◌, if◌then◌else◌}
+use Rattle.std.specs.Prelude.{⊤, fold, slice_get, IsFalse, IsSomeAnd, nat_lt, ◌==◌, if◌then◌else◌}
 use Rattle.std.specs.List.{AllByRecursion, list_any}
 use Rattle.std.proofs.lemmas.Bool.Decides.{nat_tests}
 use Rattle.std.proofs.lemmas.List.{append_cancel_left, length-drop}

@@ -1,32 +1,27 @@
 -- Each request of a life waits until it is answered, in the order in which they were made, and no longer; and a verification that runs is of the oldest one that was open as it was read, and that isn't answered.
 use Rattle.std.proofs.Common.{◌≡◌, ◌⊎◌, inl, inr, ℕ, zero, suc, ◌+◌, ◌-◌, ◌<◌, ◌≤◌, ◌==◌, ◌||◌, ◌++◌, List, [], ◌∷◌, Option, Some, None, Bool, true, false, arith, refl, sym, ◌∙◌, ap, append_assoc, subst}
-use Rattle.std.specs.Prelude.{⊤, filter, fold, map, nat_lt, not, slice_get, take, IfSome, IsSomeAnd, Ok, if◌then◌else◌}
+use Rattle.std.specs.Prelude.{⊤, filter, fold, map, nat_lt, not, slice_get, take, IfSome, if◌then◌else◌}
 use Rattle.std.specs.List.{AllByRecursion}
 use Rattle.std.specs.Option.{option_map_or}
 use Rattle.std.proofs.lemmas.Bool.Decides.{nat_tests}
 use Rattle.std.proofs.lemmas.List.{append_cancel_left}
-use Rattle.dkg_ceremony.specs.Outcomes.{LogMap}
-use Rattle.dkg_ceremony.specs.Schedule.{epoch_of, midpoint}
-use Rattle.dkg_ceremony.specs.declared.round.RoundParts.{RoundParts as Round}
+use Rattle.dkg_ceremony.specs.Schedule.{midpoint}
 use Rattle.dkg_types.specs.Blocks.{Block}
 use Rattle.dkg_types.specs.declared.directory.Unit as directory
 use Rattle.dkg_types.specs.declared.entry.AnswerLine.{AnswerLine}
 use Rattle.dkg_types.specs.declared.entry.AnswerLine.TheVariants.{Available, Unavailable}
 use Rattle.dkg_types.specs.declared.entry.Entry.{Entry}
-use Rattle.dkg_types.specs.declared.info.EpochInfo.{EpochInfo}
 use Rattle.dkg_types.specs.declared.entry.Entry.TheVariants as entry
 use Rattle.dkg_types.specs.declared.entry.Entry.TheVariants.{Answer}
 use Rattle.dkg_text.specs.Asked.{asks, is_asked}
 use Rattle.dkg_text.specs.declared.script.Event.{Event}
 use Rattle.dkg_text.specs.declared.script.Event.TheVariants as event
 use Rattle.dkg_store.specs.Acts.{went}
-use Rattle.dkg_script.specs.Epochs.{alone}
 use Rattle.dkg_core.specs.Asked.{InRound, IsStarted}
 use Rattle.dkg_core.specs.Behind.{event_of}
 use Rattle.dkg_core.specs.Courses.{on_devices}
 use Rattle.dkg_core.specs.Fixed.{Fixed}
-use Rattle.dkg_core.specs.Endings.{validity}
-use Rattle.dkg_core.specs.Forms.{Applied, Judged, Passed, Refusal, judged_block, round_for}
+use Rattle.dkg_core.specs.Forms.{Applied, Judged, Passed, Refusal, judged_block}
 use Rattle.dkg_core.specs.Including.{changed, is_served_at, releases}
 use Rattle.dkg_core.specs.Laws.{IsAmong}
 use Rattle.dkg_core.specs.Live as core
@@ -45,18 +40,16 @@ use Rattle.dkg_core.proofs.Splitting.{came_to}
 use Rattle.dkg_core.proofs.StepDealing as dealing
 use Rattle.dkg_run.specs.Answers.{IsAnsweredSo, IsAskedFor}
 use Rattle.dkg_run.specs.Asks.{Standing, Unmade, Open, Closed, Cancelled, IsUncancelled, WereAsked, standing_of, turns}
-use Rattle.dkg_run.specs.Blamed.{per_epoch, tip_in}
-use Rattle.dkg_run.specs.Epochs.{IsLifeInForm, StandsInScript, any_shares, awaited_by, epoch_by}
+use Rattle.dkg_run.specs.Blamed.{tip_in}
+use Rattle.dkg_run.specs.Epochs.{IsLifeInForm, StandsInScript, any_shares, epoch_by}
 use Rattle.dkg_run.specs.Given.{Lived, at_step}
 use Rattle.dkg_run.specs.Leaves.{IsOldest, IsOpen, IsSaidBy, IsVerified, Verifies}
 use Rattle.dkg_run.proofs.Accounting.{Before, IsAnsweredIn, IsKept, IsWaiting, among_both, among_last, among_left, at_first, cancelled_apart, kept_as, last_kept, none_in, step_kept}
 use Rattle.dkg_run.proofs.Answered.{IsSaidAt, answered_so}
 use Rattle.dkg_run.proofs.Apart.{IsApart, IsNewOne, LacksNumber, Reads, idle_work, queued_apart}
 use Rattle.dkg_run.proofs.Asking.{dealt_same, goes, heard_same, observed_same, same_epoch}
-use Rattle.dkg_run.proofs.Delivered.{epochs_rise}
 use Rattle.dkg_run.proofs.FedRequests.{asked_anew, stands_more}
 use Rattle.dkg_run.proofs.Former.{Brings, BringsBlock, BringsMail, IsMessage, brings_so, life_in, step_taken, through_at}
-use Rattle.dkg_run.proofs.HeightsRise.{awaited_rise}
 use Rattle.dkg_run.proofs.NextLives.{GoesOn, TakesOver, has_round}
 use Rattle.dkg_run.proofs.Requested.{AreHeld, AreReady, IsHeld, dealt_said, included_said, less_one, mail_said, sends_info, sent_new, stands_as, untold, were_asked}
 use Rattle.dkg_run.proofs.Unanswered.{IsUnanswered, block_lines}
