@@ -138,7 +138,6 @@ pub mod SaysOver
 pub mod Seated
 pub mod Seats
 pub mod SeenBlocks
-pub mod SetUpLines
 pub mod SetUps
 pub mod SharesFit
 pub mod SharesKnown
