@@ -33,7 +33,7 @@ use Rattle.dkg_core.specs.Forms.{Applied, judged_block, round_for}
 use Rattle.dkg_core.specs.Including.{Lacks}
 use Rattle.dkg_core.specs.Laws.{IsAmong}
 use Rattle.dkg_core.specs.Live as core
-use Rattle.dkg_core.specs.Live.{Cancel, Deals, Ends, EpochInfoOf, Feed, Finalized, Follows, Inclusion, Includes, Job, Live, Mail, Message, NextLog, NodeStop, Over, Peer, ReleaseLog, Request, Sent, Stage, VerifiedLogs, Work, is_last_height, phase_of}
+use Rattle.dkg_core.specs.Live.{Cancel, Deals, Ends, EpochInfoOf, Feed, Finalized, Follows, Includes, Job, Live, Mail, Message, NextLog, NodeStop, Over, Peer, ReleaseLog, Request, Sent, Stage, Work, is_last_height, phase_of}
 use Rattle.dkg_core.specs.Logs.{canonical, filled_by}
 use Rattle.dkg_core.specs.Node.{node_step}
 use Rattle.dkg_core.specs.NodeSaying.{IsHalfLine}
@@ -54,7 +54,7 @@ use Rattle.dkg_run.proofs.Awaiting.{IsReached}
 use Rattle.dkg_run.proofs.Causing.{above_by, taken}
 use Rattle.dkg_run.proofs.FedRequests.{becomes_open, stands_more}
 use Rattle.dkg_run.proofs.Former.{Brings, BringsBlock, BringsMail, IsMessage, brings_so, life_in, step_taken, through_at}
-use Rattle.dkg_run.proofs.Requested.{AreHeld, AreReady, IsAwaited, IsHeld, IsSamePart, asked_same, block_said, dealt_part, dealt_said, dealt_tip, included_said, keeps_final, keeps_work, less_one, mail_said, observed_part, read_here, sends_info, sends_work, stands_as, were_asked}
+use Rattle.dkg_run.proofs.Requested.{AreHeld, AreReady, IsAwaited, IsHeld, IsReadFor, IsSamePart, Knows, KnowsRead, asked_same, block_said, dealt_part, dealt_said, dealt_tip, included_said, keeps_final, keeps_work, less_one, mail_said, observed_part, read_here, sends_info, sends_work, stands_as, were_asked}
 use Rattle.dkg_run.proofs.Unanswered.{IsUnanswered, block_lines}
 
 abbrev U : Type 0
@@ -65,21 +65,29 @@ all_of P [] x among all = absurd among
 all_of P (y ∷ xs) x (inl is) all = subst P is all.0
 all_of P (y ∷ xs) x (inr among) all = all_of P xs x among all.1
 
--- what is said in a step of a life
-abbrev pub IsSaidIn : Script → (l : ℕ) → Life → (epoch j : ℕ) → Entry → Type 0
-IsSaidIn script l life epoch j (Answer request answer) = IsAnsweredSo script l life epoch j request answer
-IsSaidIn script l life epoch j line = Unit {0}
+-- what is said in a step of a life, where this is known of the recorded logs by which requests are read
+module _ (Known : Knows) where
+  abbrev pub IsSaidIn : Script → (l : ℕ) → Life → (epoch j : ℕ) → Entry → Type 0
+  IsSaidIn script l life epoch j (Answer request (Available payload)) =
+      IsAskedFor script l life epoch j request × ((made : IsMadeOf script l life epoch j request payload) × Known epoch made.at made.round made.recorded)
+  IsSaidIn script l life epoch j (Answer request (Unavailable why)) = IsAskedFor script l life epoch j request × IsUnavailable script l life epoch j request why
+  IsSaidIn script l life epoch j line = Unit {0}
 
-abbrev pub IsSaidAt : Script → (l : ℕ) → Life → (j : ℕ) → Entry → Type 0
-IsSaidAt script l life j line = IsSaidIn script l life (awaited_epoch (alone script) l life (j - 1)) j line
+  abbrev pub IsSaidAt : Script → (l : ℕ) → Life → (j : ℕ) → Entry → Type 0
+  IsSaidAt script l life j line = IsSaidIn script l life (awaited_epoch (alone script) l life (j - 1)) j line
 
-pub unanswered_so : (g : Lived) (j : ℕ) (line : Entry) → IsUnanswered line → IsSaidAt g.script g.number g.life j line
-unanswered_so g j (Answer request answer) none = absurd none
-unanswered_so g j line none = tt
+  pub unanswered_so : (g : Lived) (j : ℕ) (line : Entry) → IsUnanswered line → IsSaidAt g.script g.number g.life j line
+  unanswered_so g j (Answer request answer) none = absurd none
+  unanswered_so g j line none = tt
 
-module _ (g : Lived) (here : IsLifeInForm g) (i : ℕ) (its : Event) (is : slice_get g.life.events i ≡ Some its) (reached : IsReached g.life.cut (suc i)) (m : IsMessage g its) (st : Live U)
-    (live : IsLiveThrough (at_step g (suc i)) any_shares st) (stands : StandsInScript g i st) (tip : st.tip ≡ tip_in g.script g.life i) (carried : IsCarried g st) (held : AreHeld g i st)
-    (tip_next : tip_behind m.message st.tip ≡ tip_in g.script g.life (suc i)) where
+  -- each answer is of a request, by what it is made of or why there is none
+  pub answered_so : (script : Script) (l : ℕ) (life : Life) (epoch j request : ℕ) (answer : AnswerLine) → IsSaidIn script l life epoch j (Answer request answer) → IsAnsweredSo script l life epoch j request answer
+  answered_so script l life epoch j request (Available payload) said = (said.0, said.1.0)
+  answered_so script l life epoch j request (Unavailable why) said = said
+
+module _ {Known : Knows} (g : Lived) (here : IsLifeInForm g) (i : ℕ) (its : Event) (is : slice_get g.life.events i ≡ Some its) (reached : IsReached g.life.cut (suc i)) (m : IsMessage g its) (st : Live U)
+    (live : IsLiveThrough (at_step g (suc i)) any_shares st) (stands : StandsInScript g i st) (tip : st.tip ≡ tip_in g.script g.life i) (carried : IsCarried g st) (held : AreHeld g Known i st)
+    (tip_next : tip_behind m.message st.tip ≡ tip_in g.script g.life (suc i)) (known : KnowsRead g Known i st m.message) where
   abbrev c : Fixed U
   c = at_step g (suc i)
 
@@ -87,7 +95,7 @@ module _ (g : Lived) (here : IsLifeInForm g) (i : ℕ) (its : Event) (is : slice
   e = epoch_by g i
 
   abbrev IsSaidHere : Entry → Type 0
-  IsSaidHere line = IsSaidIn g.script g.number g.life e (suc i) line
+  IsSaidHere line = IsSaidIn Known g.script g.number g.life e (suc i) line
 
   itself : (a : ℕ) → a ≤ a
   itself a = omega arith
@@ -123,24 +131,28 @@ module _ (g : Lived) (here : IsLifeInForm g) (i : ℕ) (its : Event) (is : slice
 
       -- made of these logs
       made_of : (request read : ℕ) (recorded logs : LogMap) (payload : Option (List ℕ)) → read ≤ suc i → epoch_by g (read - 1) ≡ e → WereAsked g.script g.life e request read round recorded logs → payload ≡ payload_by c round info logs
-          → IsMadeOf g.script g.number g.life e (suc i) request payload
-      made_of request read recorded logs payload within same asked is = record {
-        takes_part = takes_part;
-        info = info;
-        info_is = info_is;
-        round = round;
-        round_is = round_is;
-        at = read;
-        within = within;
-        same = same;
-        recorded = recorded;
-        logs = logs;
-        asked = asked;
-        bytes = is ∙ bytes_are logs;
-      }
+          → Known e read round recorded → (made : IsMadeOf g.script g.number g.life e (suc i) request payload) × Known e made.at made.round made.recorded
+      made_of request read recorded logs payload within same asked is its_known = (
+        record {
+          takes_part = takes_part;
+          info = info;
+          info_is = info_is;
+          round = round;
+          round_is = round_is;
+          at = read;
+          within = within;
+          same = same;
+          recorded = recorded;
+          logs = logs;
+          asked = asked;
+          bytes = is ∙ bytes_are logs;
+        },
+        its_known,
+      )
 
     -- REQUESTS ARE READ in a life x
-    module _ (x : Live U) (same : IsSamePart c st x) (x_tip : x.tip ≡ tip_in g.script g.life (suc i)) (ready : AreReady g e (suc i) st.participation.round x.inclusion) where
+    module _ (x : Live U) (same : IsSamePart c st x) (x_tip : x.tip ≡ tip_in g.script g.life (suc i)) (ready : AreReady g Known e (suc i) st.participation.round x.inclusion)
+        (knows : (round : Round) → x.participation.round ≡ Some round → Known e (suc i) round (canonical c x)) where
       x_epoch : x.participation.epoch ≡ e
       x_epoch = same.epoch ∙ its_epoch
 
@@ -164,10 +176,10 @@ module _ (g : Lived) (here : IsLifeInForm g) (i : ℕ) (its : Event) (is : slice
       found_for : (number : ℕ) (answer : AnswerLine) → IsReadAnswer c x (Answer number answer) → IsSaidHere (Answer number answer)
       found_for number (Available payload) (round, info, of_round, of_info, (r, among, numbered, (found, read, is))) =
           let one : IsHeld g e (suc i) r = all_of (IsHeld g e (suc i)) x.inclusion.queue r among ready.queue in
-          subst (λ (n : ℕ). IsAskedFor g.script g.number g.life e (suc i) n × IsMadeOf g.script g.number g.life e (suc i) n payload) numbered (
+          subst (λ (n : ℕ). IsSaidHere (Answer n (Available payload))) numbered (
             of_held r one,
             made_of round info (sym same.round ∙ of_round) (sym same.current ∙ of_info) r.number (suc i) (canonical c x) (filled_by (canonical c x) found) payload (itself (suc i)) (ap (epoch_by g) (less_one i))
-                (were_asked g here (suc i) e x x_tip x_epoch round r found read one.fed) is,
+                (were_asked g here (suc i) e x x_tip x_epoch round r found read one.fed) is (knows round of_round),
           )
       found_for number (Unavailable why) (round, of_round, (r, among, numbered, lacks)) =
           let one : IsHeld g e (suc i) r = all_of (IsHeld g e (suc i)) x.inclusion.queue r among ready.queue in
@@ -181,15 +193,16 @@ module _ (g : Lived) (here : IsLifeInForm g) (i : ℕ) (its : Event) (is : slice
       found_so line read = absurd read
 
     -- A VERIFICATION ENDS
-    waited_for : (number : ℕ) (payload : Option (List ℕ)) → IsWaitedAnswer c st (Answer number (Available payload)) → ((awaited : IsAwaited g e i st.inclusion.running st.participation.round number) → IsUncancelled (standing_of g.life number (suc i)))
+    waited_for : (number : ℕ) (payload : Option (List ℕ)) → IsWaitedAnswer c st (Answer number (Available payload)) → ((awaited : IsAwaited g Known e i st.inclusion.running st.participation.round number) → IsUncancelled (standing_of g.life number (suc i)))
         → IsSaidHere (Answer number (Available payload))
     waited_for number payload (round, info, of_round, of_info, (job, runs, waits, is)) keeps =
-        let one : IsAwaited g e i st.inclusion.running st.participation.round number = subst (λ (o : Option ℕ). IfSome o (IsAwaited g e i st.inclusion.running st.participation.round)) waits held.ready.waiter in
+        let one : IsAwaited g Known e i st.inclusion.running st.participation.round number = subst (λ (o : Option ℕ). IfSome o (IsAwaited g Known e i st.inclusion.running st.participation.round)) waits held.ready.waiter in
         let of_job : one.job ≡ job = the_same (sym one.runs ∙ runs) in
         let of_its : one.its_round ≡ round = the_same (sym one.of_round ∙ of_round) in (
           record { at = one.at; before = more one.at one.before; made = one.made; same = one.same; uncancelled = keeps one },
           made_of round info of_round of_info number one.read one.recorded job.logs payload (upto one.read one.within) one.began
-              (subst (λ (x : Job). WereAsked g.script g.life e number one.read round one.recorded x.logs) of_job (subst (λ (x : Round). WereAsked g.script g.life e number one.read x one.recorded (one.job).logs) of_its one.asked)) is,
+              (subst (λ (x : Job). WereAsked g.script g.life e number one.read round one.recorded x.logs) of_job (subst (λ (x : Round). WereAsked g.script g.life e number one.read x one.recorded (one.job).logs) of_its one.asked)) is
+              (subst (λ (x : Round). Known e one.read x one.recorded) of_its one.known),
         )
       where
         the_same : {A : Type 0} {x y : A} → ◌≡◌ {A = Option A} (Some x) (Some y) → x ≡ y
@@ -201,7 +214,7 @@ module _ (g : Lived) (here : IsLifeInForm g) (i : ℕ) (its : Event) (is : slice
         upto : (a : ℕ) → a ≤ i → a ≤ suc i
         upto a low = omega (arith, low)
 
-    waited_so : (line : Entry) → IsWaitedAnswer c st line → ((number : ℕ) → IsAwaited g e i st.inclusion.running st.participation.round number → IsUncancelled (standing_of g.life number (suc i))) → IsSaidHere line
+    waited_so : (line : Entry) → IsWaitedAnswer c st line → ((number : ℕ) → IsAwaited g Known e i st.inclusion.running st.participation.round number → IsUncancelled (standing_of g.life number (suc i))) → IsSaidHere line
     waited_so (Answer number (Available payload)) waited keeps = waited_for number payload waited (keeps number)
     waited_so (Answer number (Unavailable why)) waited keeps = absurd waited
     waited_so line waited keeps = absurd waited
@@ -226,8 +239,11 @@ module _ (g : Lived) (here : IsLifeInForm g) (i : ℕ) (its : Event) (is : slice
   waited_round (Answer number (Unavailable why)) waited = absurd waited
   waited_round line waited = absurd waited
 
-  read_in : (x : Live U) → IsSamePart c st x → x.tip ≡ tip_in g.script g.life (suc i) → AreReady g e (suc i) st.participation.round x.inclusion → (line : Entry) → IsReadAnswer c x line → IsSaidHere line
-  read_in x same x_tip ready line read = let its_round = round_of x line read in found_so (apart_by its_round.0 (sym same.round ∙ its_round.1)) x same x_tip ready line read
+  read_in : (x : Live U) → IsReadFor c st m.message x → IsSamePart c st x → x.tip ≡ tip_in g.script g.life (suc i) → AreReady g Known e (suc i) st.participation.round x.inclusion → (line : Entry) → IsReadAnswer c x line → IsSaidHere line
+  read_in x in_it same x_tip ready line read =
+      let its_round = round_of x line read in
+      let apart : st.participation.stage ≡ Follows → ⊥ = apart_by its_round.0 (sym same.round ∙ its_round.1) in
+      found_so apart x same x_tip ready (known x in_it x_tip (same.epoch ∙ stands.epoch apart)) line read
 
   unasked_so : (line : Entry) → IsUnasked line → IsSaidHere line
   unasked_so (Answer number answer) none = absurd none
@@ -250,7 +266,7 @@ module _ (g : Lived) (here : IsLifeInForm g) (i : ℕ) (its : Event) (is : slice
     mail_tip = ap (λ (x : Live U). x.tip) (asked_same c mail st) ∙ ap (λ (x : Message U). tip_behind x st.tip) (sym sent) ∙ tip_next
 
     asked_so : (line : Entry) → IsReadAnswer c (asked_by mail st) line → IsSaidHere line
-    asked_so line read = read_in (asked_by mail st) part mail_tip (mail_said g here i its is st held mail its_brings) line read
+    asked_so line read = read_in (asked_by mail st) (subst (λ (y : Message U). IsReadFor c st y (asked_by mail st)) (sym sent) refl) part mail_tip (mail_said g here i its is st held mail its_brings) line read
 
   following : (number : ℕ) → its ≡ event.Info number → st.participation.stage ≡ Follows → IsSaidHere (Answer number (Unavailable Following))
   following number of follows =
@@ -263,7 +279,7 @@ module _ (g : Lived) (here : IsLifeInForm g) (i : ℕ) (its : Event) (is : slice
       next a = omega arith
 
   -- the one that waits stays, where the event doesn't cancel it
-  waits_on : (number : ℕ) → ((s : Standing) → IsUncancelled s → IsUncancelled (turns number s its)) → IsAwaited g e i st.inclusion.running st.participation.round number → IsUncancelled (standing_of g.life number (suc i))
+  waits_on : (number : ℕ) → ((s : Standing) → IsUncancelled s → IsUncancelled (turns number s its)) → IsAwaited g Known e i st.inclusion.running st.participation.round number → IsUncancelled (standing_of g.life number (suc i))
   waits_on number keeps one = subst IsUncancelled (sym (stands_more number g.life i its is)) (keeps (standing_of g.life number i) one.uncancelled)
 
   mail_answers : (mail : Mail U) → m.message ≡ Sent mail → (line : Entry) → IsMailLine c st mail line → IsSaidHere line
@@ -285,6 +301,9 @@ module _ (g : Lived) (here : IsLifeInForm g) (i : ℕ) (its : Event) (is : slice
   -- A BLOCK
 
   module _ (number : ℕ) (of : its ≡ event.Final number) (b : Block U) (there : slice_get (blocks_in g.script) number ≡ Some b) (sent : m.message ≡ Finalized b) (applied : judged_block c b st ≡ Applied) where
+    block_read : (x : Live U) → IsReadFor c st (Finalized b) x → IsReadFor c st m.message x
+    block_read x in_it = subst (λ (y : Message U). IsReadFor c st y x) (sym sent) in_it
+
     abbrev its_tip : Option Tip
     its_tip = Some (record { height = b.height; digest = b.digest })
 
@@ -315,12 +334,12 @@ module _ (g : Lived) (here : IsLifeInForm g) (i : ℕ) (its : Event) (is : slice
     includes_so true last_is stage line (inr (n, left)) = final_so stage last_is n line left
     includes_so false last_is stage line (round, of_round, read) =
         let same = observed_part c st round b in
-        read_in (included c round b st) (record { epoch = same.epoch; round = same.round; current = same.current }) block_tip (included_said g here i its is st held number of c round b) line read
+        read_in (included c round b st) (block_read (included c round b st) (applied, inr (stage, last_is, (round, of_round, refl)))) (record { epoch = same.epoch; round = same.round; current = same.current }) block_tip (included_said g here i its is st held number of c round b) line read
 
     deals_so : st.participation.stage ≡ Deals → (line : Entry) → IsReadAnswer c (dealt_behind c b (given_itself c st)) line → IsSaidHere line
     deals_so stage line read =
         let none : st.inclusion.running ≡ None = (live.asked.has.early (λ includes. let no : ◌≡◌ {A = Stage} Deals Includes = sym stage ∙ includes in cc)).0 in
-        read_in (dealt_behind c b (given_itself c st)) (dealt_part c st b) (dealt_tip c st b ∙ block_tip) (dealt_said g here i its is st held number of c b (live.asked.has.waits none)) line read
+        read_in (dealt_behind c b (given_itself c st)) (block_read (dealt_behind c b (given_itself c st)) (applied, inl (stage, refl))) (dealt_part c st b) (dealt_tip c st b ∙ block_tip) (dealt_said g here i its is st held number of c b (live.asked.has.waits none)) line read
 
     by_stage : (stage : Stage) → st.participation.stage ≡ stage → (line : Entry) → IsBlockAnswer c st b stage line → IsSaidHere line
     by_stage Deals stage line said = deals_so stage line said
@@ -383,7 +402,7 @@ module _ (g : Lived) (here : IsLifeInForm g) (i : ℕ) (its : Event) (is : slice
           of_block line (inl said) (inl applied) = block_answers number of b made.is sent applied line (subst (λ (x : Message U). IsLineThrough c any_shares st x line) sent said)
 
   pub step_answers : (ended : Ended NodeStop (Live U)) (old new : List Entry) → Said (on_devices (node_step c (event_of m.message) st)) ended old new
-      → (added : List Entry) × (new ≡ old ++ added) × AllByRecursion (IsSaidAt g.script g.number g.life (suc i)) added
+      → (added : List Entry) × (new ≡ old ++ added) × AllByRecursion (IsSaidAt Known g.script g.number g.life (suc i)) added
   step_answers ended old new said =
       let its_lines = step_said ended old new said in
-      (its_lines.0, its_lines.1, subst (λ (k : ℕ). AllByRecursion (IsSaidIn g.script g.number g.life k (suc i)) its_lines.0) (sym (ap (epoch_by g) (less_one i))) its_lines.2)
+      (its_lines.0, its_lines.1, subst (λ (k : ℕ). AllByRecursion (IsSaidIn Known g.script g.number g.life k (suc i)) its_lines.0) (sym (ap (epoch_by g) (less_one i))) its_lines.2)

@@ -1,5 +1,5 @@
 -- No two requests of a life have one number: not two that wait in its queue, nor one of them and the one whose verification runs.
-use Rattle.std.proofs.Common.{◌≡◌, inl, inr, ℕ, zero, suc, ◌+◌, ◌==◌, ◌++◌, List, [], ◌∷◌, Option, Some, None, Bool, true, false, refl, sym, ◌∙◌, subst, length}
+use Rattle.std.proofs.Common.{◌≡◌, inl, inr, ℕ, zero, suc, ◌+◌, ◌==◌, ◌++◌, List, [], ◌∷◌, Option, Some, None, Bool, true, false, refl, sym, ◌∙◌, ap, subst, length}
 use Rattle.std.specs.Prelude.{⊤, ◌⊎◌, ◌^◌, filter, is_some, map, not, nat_le, nat_lt, IfSome, if◌then◌else◌, option_map, option_and_then}
 use Rattle.std.specs.List.{AllByRecursion}
 use Rattle.std.specs.Option.{option_map_or}
@@ -70,7 +70,7 @@ as_apart its other queue waiter apart = record {
   waiter = subst (λ (o : Option ℕ). IfSome o (λ number. LacksNumber number other.queue)) (sym waiter) (subst (λ (rs : List (Request U)). IfSome its.waiter (λ number. LacksNumber number rs)) (sym queue) apart.waiter);
 }
 
-if_some : (P Q : ℕ → Type 0) (o : Option ℕ) → ((number : ℕ) → P number → Q number) → IfSome o P → IfSome o Q
+pub if_some : (P Q : ℕ → Type 0) (o : Option ℕ) → ((number : ℕ) → P number → Q number) → IfSome o P → IfSome o Q
 if_some P Q None so is = tt
 if_some P Q (Some number) so is = so number is
 
@@ -86,17 +86,17 @@ module _ (r : Request U) where
 
 -- others of the same numbers
 module _ (g : Request U → Request U) (same : (r : Request U) → (g r).number ≡ r.number) where
-  lacks_as : (number : ℕ) (rs : List (Request U)) → LacksNumber number rs → LacksNumber number (map g rs)
+  pub lacks_as : (number : ℕ) (rs : List (Request U)) → LacksNumber number rs → LacksNumber number (map g rs)
   lacks_as number [] lacks = tt
   lacks_as number (r ∷ rs) lacks = ((λ e. lacks.0 (sym (same r) ∙ e)), lacks_as number rs lacks.1)
 
-  apart_as : (rs : List (Request U)) → AreApart rs → AreApart (map g rs)
+  pub apart_as : (rs : List (Request U)) → AreApart rs → AreApart (map g rs)
   apart_as [] apart = tt
   apart_as (r ∷ rs) apart = (subst (λ (number : ℕ). LacksNumber number (map g rs)) (sym (same r)) (lacks_as r.number rs apart.0), apart_as rs apart.1)
 
 -- some of them
 module _ (keep : Request U → Bool) where
-  lacks_kept : (number : ℕ) (rs : List (Request U)) → LacksNumber number rs → LacksNumber number (filter keep rs)
+  pub lacks_kept : (number : ℕ) (rs : List (Request U)) → LacksNumber number rs → LacksNumber number (filter keep rs)
   lacks_kept number [] lacks = tt
   lacks_kept number (r ∷ rs) lacks = by_test (keep r) (lacks_kept number rs lacks.1)
     where
@@ -104,7 +104,7 @@ module _ (keep : Request U → Bool) where
       by_test true rest = (lacks.0, rest)
       by_test false rest = rest
 
-  apart_kept : (rs : List (Request U)) → AreApart rs → AreApart (filter keep rs)
+  pub apart_kept : (rs : List (Request U)) → AreApart rs → AreApart (filter keep rs)
   apart_kept [] apart = tt
   apart_kept (r ∷ rs) apart = by_test (keep r) (lacks_kept r.number rs apart.0) (apart_kept rs apart.1)
     where
@@ -255,7 +255,7 @@ module _ (c : Fixed U) (reshare : c.oneshot ≡ None) where
         by_test true = record { queue = apart.queue; waiter = apart.waiter }
         by_test false = apart
 
-    queued_apart : (request : ℕ) → LacksNumber request st.inclusion.queue → IfSome st.inclusion.waiter (λ number. request ≡ number → ⊥) → IsApart (i.queued request (with_used request st)).inclusion
+    pub queued_apart : (request : ℕ) → LacksNumber request st.inclusion.queue → IfSome st.inclusion.waiter (λ number. request ≡ number → ⊥) → IsApart (i.queued request (with_used request st)).inclusion
     queued_apart request lacks other =
         let r : Request U = record { number = request; blocks = []; ended = false } in
         record { queue = one_more r st.inclusion.queue apart.queue lacks; waiter = waits st.inclusion.waiter apart.waiter other }
@@ -530,3 +530,12 @@ module _ (c : Fixed U) (reshare : c.oneshot ≡ None) where
     node_apart (Sent (Over request)) new = read_mail (Over request) tt (λ from bytes e. cc)
     node_apart (Sent (Cancel request)) new = read_mail (Cancel request) tt (λ from bytes e. cc)
     node_apart (Sent (Work handed)) new = read_mail (Work handed) tt (λ from bytes e. cc)
+
+    -- Where none runs the end of a verification changes nothing of requests.
+    pub idle_work : (handed : Option VerifiedLogs) → st.inclusion.running ≡ None → ComesTo (λ (stop : NodeStop). ⊤) (λ end. end.inclusion ≡ st.inclusion) (node_step c (event_of (Sent (Work handed))) st)
+    idle_work handed idle =
+        comes_behind Any (λ end. end ≡ st) (λ end. end.inclusion ≡ st.inclusion) (under Faulted (step c (Sent (Work handed)) st)) (λ now. unless_once c (half.asks_again c now) (Goes now))
+        (any_under (λ end. end ≡ st) Faulted (step c (Sent (Work handed)) st)
+        (comes_if Any (λ end. end ≡ st) (is_some st.inclusion.running) (bind (i.ends_verifying c handed st) (λ now. i.advanced c now)) (Goes st)
+        (λ e. absurd (let no : ◌≡◌ {A = Bool} false true = sym (ap is_some idle) ∙ e in cc)) (λ e. refl)))
+        (λ now same. behind_mail st.inclusion now (ap (λ (x : Live U). x.inclusion) same))

@@ -1,5 +1,5 @@
 -- A run whose lives were begun, of a script whose configuration is not refused and whose payloads are bytes: what follows of its worlds for the entries that it adds.
-use Rattle.std.proofs.Common.{◌≡◌, ◌++◌, List, Option, None, Result}
+use Rattle.std.proofs.Common.{◌≡◌, ◌++◌, List, Option, None, Result, refl}
 use Rattle.std.specs.FinMap.{get}
 use Rattle.dkg_values.specs.declared.name.Name.TheVariants.{Plan}
 use Rattle.dkg_journal.specs.Disk.{Lands}
@@ -15,17 +15,19 @@ use Rattle.dkg_script.specs.AsCut.{as_cut, setting_as_cut}
 use Rattle.dkg_script.specs.Consistent.{IsConsistentScript}
 use Rattle.dkg_script.specs.Inclusion.{IsFormOfInclusion}
 use Rattle.dkg_script.specs.Progress.{progress}
+use Rattle.dkg_script.specs.Order.{InOrder}
 use Rattle.dkg_script.specs.Promise.{AnswersDealings, KeepsDealings, RunsAll, cuts_in}
 use Rattle.dkg_script.specs.SameOffers.{OffersTheSame}
 use Rattle.dkg_script.specs.Setting.{CutAt, Setting, setting_of}
 use Rattle.dkg_script.proofs.InclusionAsCut.{inclusion_as_cut}
+use Rattle.dkg_run.specs.Answers.{AnswersThePath}
 use Rattle.dkg_run.specs.Epochs.{IsChecked}
 use Rattle.dkg_run.specs.Given.{AreBytes}
 use Rattle.dkg_run.specs.GivesBack.{StaysValid}
 use Rattle.dkg_run.specs.Lives.{RunsOver, never}
 use Rattle.dkg_run.specs.Over.{Over}
 use Rattle.dkg_run.specs.Promised.{DoesRun}
-use Rattle.dkg_run.specs.SharesStand.{CommitsFit}
+use Rattle.dkg_run.specs.SharesStand.{CommitsExactly, CommitsFit}
 use Rattle.dkg_run.proofs.Checked.{anchor_above, long_epochs, supported_mode}
 use Rattle.dkg_run.proofs.CommitsFitting.{commits_fit}
 use Rattle.dkg_run.proofs.CutLives.{worlds_cut}
@@ -34,8 +36,10 @@ use Rattle.dkg_run.proofs.EachLife.{worlds_over}
 use Rattle.dkg_run.proofs.GivingLives.{run_keeps_plan}
 use Rattle.dkg_run.proofs.GivingValid.{stays_valid}
 use Rattle.dkg_run.proofs.GivingWhole.{stays_whole}
-use Rattle.dkg_run.proofs.Keeping.{IsBuiltSetting}
+use Rattle.dkg_run.proofs.Keeping.{IsBuiltSetting, IsGivenSetting}
 use Rattle.dkg_run.proofs.OfferingSame.{offers_the_same}
+use Rattle.dkg_run.proofs.ExactRun.{exactly_of}
+use Rattle.dkg_run.proofs.PathsRun.{paths_of}
 use Rattle.dkg_run.proofs.PlanlessReads.{planless_records, planless_secrets}
 
 pub built_setting : (script : Script) (files : Files) (secrets : Secrets) → IsFormOfInclusion script → IsChecked script → AreBytes script.blocks → get files Plan ≡ None → IsBuiltSetting (setting_of script files secrets)
@@ -45,6 +49,16 @@ built_setting script files secrets form checked bytes no_plan = record {
   supported = supported_mode script checked;
   long = long_epochs script checked;
   no_plan = no_plan;
+  bytes = bytes;
+  heights = form.placed;
+}
+
+given_setting : (script : Script) (files : Files) (secrets : Secrets) → IsFormOfInclusion script → IsChecked script → AreBytes script.blocks → IsGivenSetting (setting_of script files secrets)
+given_setting script files secrets form checked bytes = record {
+  form = form;
+  anchored = λ l life is. anchor_above script.blocks life.anchor (form.lives l life is).anchor;
+  supported = supported_mode script checked;
+  long = long_epochs script checked;
   bytes = bytes;
   heights = form.placed;
 }
@@ -90,11 +104,22 @@ module _ (script : Script) (form : IsFormOfInclusion script) (checked : IsChecke
       offers_the_same script o.before.files o.before.held added (λ l life seen files life_is reads. (worlds_over cut_script cut_form checked l life seen files life_is reads, planless_secrets seen reads))
       answered old new o.now.held o.now.files is (cut_runs told here o.now.files (left (disk_of told)))
 
+  -- ANSWERS
+
+  pub begun_paths : InOrder its_setting added → o.tells → Stands o.before.files o.before.image → AnswersThePath script o.before.files o.before.held added
+  begun_paths ordered told here of_form history devices =
+      paths_of its_setting (given_setting cut_script o.before.files o.before.held cut_form checked bytes) refl devices answered old new added o.now.held is history ordered o.now.files (cut_runs told here o.now.files (left (disk_of told)))
+
   -- SHARES
 
   pub begun_commits : o.tells → Stands o.before.files o.before.image → CommitsFit script o.before.files o.before.held added
   begun_commits told here =
       commits_fit script o.before.files o.before.held added (worlds_over cut_script cut_form checked) planless_secrets answered old new o.now.held o.now.files is (cut_runs told here o.now.files (left (disk_of told)))
+
+  pub begun_exactly : InOrder its_setting added → o.tells → Stands o.before.files o.before.image → CommitsExactly script o.before.files o.before.held added
+  begun_exactly ordered told here of_form history honest devices fit =
+      exactly_of its_setting (given_setting cut_script o.before.files o.before.held cut_form checked bytes) refl devices fit planless_secrets answered old new added o.now.held is history honest ordered o.now.files
+      (cut_runs told here o.now.files (left (disk_of told)))
 
   -- WHAT IS GIVEN BACK
 

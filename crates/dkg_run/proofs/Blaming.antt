@@ -61,7 +61,7 @@ use Rattle.dkg_run.specs.Epochs.{IsAt, IsChecked, IsLifeInForm, StandsInScript, 
 use Rattle.dkg_run.specs.Given.{Lived, anchor_in, at_step, blocks_in, lived, step_of}
 use Rattle.dkg_run.specs.Lives.{LivesSo, RunsAllSo, RunsSo, Steps, TakesAll, TellsEnd, fuse_for}
 use Rattle.dkg_run.specs.Ways.{ReadsSomething, Trace, by_lines}
-use Rattle.dkg_run.proofs.Answered.{IsSaidAt, step_answers, unanswered_so}
+use Rattle.dkg_run.proofs.Answered.{IsSaidAt, answered_so, step_answers, unanswered_so}
 use Rattle.dkg_run.proofs.Apart.{IsApart, Reads, node_apart}
 use Rattle.dkg_run.proofs.Asking.{AreMade, IsCarried, opening_carried, opening_made, step_carried, step_made}
 use Rattle.dkg_run.proofs.Awaiting.{IsBefore as IsUncut, IsReached, before_all, one_more, reached_lit}
@@ -73,7 +73,7 @@ use Rattle.dkg_run.proofs.LivesStand.{before_suc}
 use Rattle.dkg_run.proofs.NextLives.{next_tip}
 use Rattle.dkg_run.proofs.Ordered.{lit_begins, lit_within, opened_in, opening_added, step_is_quiet, tells_fault, unlit, went_opened}
 use Rattle.dkg_run.proofs.Places.{each_of_both, moves_none, moves_then, moves_within}
-use Rattle.dkg_run.proofs.Requested.{AreHeld, none_held, sent_new, step_apart, step_held}
+use Rattle.dkg_run.proofs.Requested.{AreHeld, Knows, KnowsRead, none_held, sent_new, step_apart, step_held, untold}
 use Rattle.dkg_run.proofs.Runs.{each_after, starts}
 use Rattle.dkg_run.proofs.Standing.{AddsOpening, AddsQuiet, Each, IsAtCut, IsBefore, IsBehind, IsBetween, IsBetweenOf, IsCutBefore, IsCutWithin, IsWithin, Moves, TellsFault}
 use Rattle.dkg_run.proofs.Steps.{Opening, opened_so_far, quiet_so_far}
@@ -117,7 +117,7 @@ module _ (g : Lived) (here : IsLifeInForm g) where
   -- .. with what it has of requests
   pub record Known (i : ℕ) (st : Live directory.Unit) : Type 0 where
     pub stood : Stood i st
-    pub held : AreHeld g i st
+    pub held : AreHeld g untold i st
 
   abbrev Came : (Fault → Type 0) → (Live directory.Unit → Type 0) → Ended NodeStop (Live directory.Unit) → Type 0
   Came P Next ended = CameTo (λ (stop : NodeStop). (own : Fault) × (stop ≡ Faulted own) × P own) Next ended
@@ -142,11 +142,11 @@ module _ (g : Lived) (here : IsLifeInForm g) where
         carried = opening_carried g here seen k st begun lives.0;
       }
 
-  opened_held : (seen : Seen) (k : Held) (st : Live directory.Unit) → IsNodeBegun (at_step g 0) seen k st → AreHeld g 0 st
-  opened_held seen k st begun =
+  pub opened_held : (Told : Knows) (seen : Seen) (k : Held) (st : Live directory.Unit) → IsNodeBegun (at_step g 0) seen k st → AreHeld g Told 0 st
+  opened_held Told seen k st begun =
       let same = (begun.entered).same in
       let idle = ((begun.opened).live).idle in
-      none_held g 0 st (ap (λ (x : Live directory.Unit). x.inclusion.queue) same ∙ ap (λ (x : Inclusion directory.Unit). x.queue) idle)
+      none_held g Told 0 st (ap (λ (x : Live directory.Unit). x.inclusion.queue) same ∙ ap (λ (x : Inclusion directory.Unit). x.queue) idle)
       (ap (λ (x : Live directory.Unit). x.inclusion.waiter) same ∙ ap (λ (x : Inclusion directory.Unit). x.waiter) idle)
 
   pub opening_comes : (ended : Ended NodeStop (Live directory.Unit)) (out now : List Entry) → Said (on_devices (node_opening (at_step g 0))) ended out now → Came (Why 0) (λ end. Known 0 end × Clear 0) ended
@@ -155,7 +155,7 @@ module _ (g : Lived) (here : IsLifeInForm g) where
       by_end : (ended : Ended NodeStop (Live directory.Unit))
           → CameTo (λ stop. (own : Fault) × (stop ≡ Faulted own) × ((h k : Held) × IsOpeningStop (at_step g 0) ((at_step g 0).seen h) k own)) (λ st. (h k : Held) × IsNodeBegun (at_step g 0) ((at_step g 0).seen h) k st) ended
           → Came (Why 0) (λ end. Known 0 end × Clear 0) ended
-      by_end (went end) (h, k, begun) = (record { stood = opened_stood ((at_step g 0).seen h) k end begun; held = opened_held ((at_step g 0).seen h) k end begun }, opening_clear g here ((at_step g 0).seen h) k end begun)
+      by_end (went end) (h, k, begun) = (record { stood = opened_stood ((at_step g 0).seen h) k end begun; held = opened_held untold ((at_step g 0).seen h) k end begun }, opening_clear g here ((at_step g 0).seen h) k end begun)
       by_end (stopped stop) (own, is, (h, k, why)) = (own, is, either (opening_cause g here ((at_step g 0).seen h) k own why))
         where
           either : IsCause g.script g.number g.life 0 own ⊎ IsOwn g.script g.number g.life 0 own → Why 0 own
@@ -268,8 +268,33 @@ module _ (g : Lived) (here : IsLifeInForm g) where
     abbrev its_step : Course directory.Unit NodeStop (Live directory.Unit)
     its_step = node_step (at_step g (suc i)) (event_of m.message) st
 
-    -- WHAT IT HAS OF REQUESTS
-    module _ (held : AreHeld g i st) where
+    -- WHAT IT HAS OF REQUESTS, where this is known of the recorded logs by which they are read
+    module _ {Told : Knows} (asked : AreHeld g Told i st) (told : KnowsRead g Told i st m.message) where
+      -- its lines
+      pub told_lines : (ended : Ended NodeStop (Live directory.Unit)) (out now : List Entry) → Said (on_devices (step_of g (suc i) e st)) ended out now
+          → (added : List Entry) × (now ≡ out ++ added) × AllByRecursion (IsSaidAt Told g.script g.number g.life (suc i)) added
+      told_lines ended out now said =
+          step_answers g here i e e_is reached m st its_live (stood.at).stands stood.tip stood.carried asked (behind ∙ ap (λ (o : Option Tip). tip_over (blocks_in g.script) o e) stood.tip ∙ sym tip_next) told ended out now
+          (subst (λ (k : Course directory.Unit NodeStop (Live directory.Unit)). Said (on_devices k) ended out now) (m.course (suc i) st) said)
+
+      -- their numbers stay apart where they are read
+      pub told_apart : (ended : Ended NodeStop (Live directory.Unit)) (out now : List Entry) → Said (on_devices (step_of g (suc i) e st)) ended out now
+          → CameTo (λ (stop : NodeStop). ⊤) (λ end. Reads (at_step g (suc i)) (form_at g here (suc i)).reshare st asked.apart m.message → IsApart end.inclusion) ended
+      told_apart ended out now said =
+          came_to (λ (stop : NodeStop). ⊤) (λ end. Reads (at_step g (suc i)) (form_at g here (suc i)).reshare st asked.apart m.message → IsApart end.inclusion) its_step ended out now
+          (node_apart (at_step g (suc i)) (form_at g here (suc i)).reshare st asked.apart m.message (λ mail sent. sent_new g here i e e_is st asked m (at_step g (suc i)) (form_at g here (suc i)).reshare mail sent))
+          (subst (λ (k : Course directory.Unit NodeStop (Live directory.Unit)). Said (on_devices k) ended out now) (m.course (suc i) st) said)
+
+      -- .. and what it has of them behind the step
+      pub told_next : (devices : Option Held) (end : Live directory.Unit) (left : Option Held) → IsNodeThrough (at_step g (suc i)) any_shares st m.message devices end left
+          → (Reads (at_step g (suc i)) (form_at g here (suc i)).reshare st asked.apart m.message → IsApart end.inclusion) → AreHeld g Told (suc i) end
+      told_next devices end left node apart =
+          let next : Stood (suc i) end = step_next devices end left node in
+          step_held g here i e e_is m st its_live (stood.at).stands asked devices end left node (next.at).stands next.tip told
+          (step_apart g here i e e_is m st its_live (stood.at).stands asked devices end left node (next.at).stands next.tip told (form_at g here (suc i)).reshare apart)
+
+    -- .. and where nothing is
+    module _ (held : AreHeld g untold i st) where
       abbrev c : Fixed directory.Unit
       c = at_step g (suc i)
 
@@ -280,18 +305,13 @@ module _ (g : Lived) (here : IsLifeInForm g) where
       on_course ended out now said = subst (λ (k : Course directory.Unit NodeStop (Live directory.Unit)). Said (on_devices k) ended out now) (m.course (suc i) st) said
 
       -- its lines
-      step_lines : (ended : Ended NodeStop (Live directory.Unit)) (out now : List Entry) → Said (on_devices (step_of g (suc i) e st)) ended out now → (added : List Entry) × (now ≡ out ++ added) × AllByRecursion (IsSaidAt g.script g.number g.life (suc i)) added
+      pub step_lines : (ended : Ended NodeStop (Live directory.Unit)) (out now : List Entry) → Said (on_devices (step_of g (suc i) e st)) ended out now → (added : List Entry) × (now ≡ out ++ added) × AllByRecursion (IsSaidAt untold g.script g.number g.life (suc i)) added
       step_lines ended out now said =
-          step_answers g here i e e_is reached m st its_live (stood.at).stands stood.tip stood.carried held (behind ∙ ap (λ (o : Option Tip). tip_over (blocks_in g.script) o e) stood.tip ∙ sym tip_next) ended out now (on_course ended out now said)
+          told_lines held (λ x read at of_epoch round of. tt) ended out now said
 
       pub next_known : (end : Live directory.Unit) → IsNodeThrough c any_shares st m.message None end None → (Reads c reshare st held.apart m.message → IsApart end.inclusion) → Known (suc i) end
       next_known end node apart =
-          let next : Stood (suc i) end = step_next None end None node in
-          record {
-            stood = next;
-            held = step_held g here i e e_is m st its_live (stood.at).stands held None end None node (next.at).stands next.tip
-                (step_apart g here i e e_is m st its_live (stood.at).stands held None end None node (next.at).stands next.tip reshare apart);
-          }
+          record { stood = step_next None end None node; held = told_next held (λ x read at of_epoch round of. tt) None end None node apart }
 
       step_comes : (ended : Ended NodeStop (Live directory.Unit)) (out now : List Entry) → Said (on_devices (step_of g (suc i) e st)) ended out now → Came (Why (suc i)) (λ end. Known (suc i) end × Clear (suc i)) ended
       step_comes ended out now said =
@@ -300,8 +320,7 @@ module _ (g : Lived) (here : IsLifeInForm g) where
           (node_steps_come_through c any_shares st m.message None (through_at g here (suc i)) (lacks_nobody g (suc i)) (λ h epoch found. tt)
           (step_taken g e m.message m.brings c st) its_live (stood.at).active))
           (on_course ended out now said))
-          (came_to (λ (stop : NodeStop). ⊤) (λ end. Reads c reshare st held.apart m.message → IsApart end.inclusion) its_step ended out now
-          (node_apart c reshare st held.apart m.message (λ mail sent. sent_new g here i e e_is st held m c reshare mail sent)) (on_course ended out now said))
+          (told_apart held (λ x read at of_epoch round of. tt) ended out now said)
         where
           by_end : (ended : Ended NodeStop (Live directory.Unit))
               → CameTo (IsFaultBy (IsStopThrough c any_shares st m.message None)) (λ end. IsNodeThrough c any_shares st m.message None end None) ended
@@ -341,7 +360,7 @@ one_quiet script p (entry.Fault its) quiet = absurd quiet
 one_quiet script p one quiet = tt
 
 -- it leaves the life and the step in hand
-same_place : (s : Setting) (p : Progress) (one : Entry) → IsQuiet one → ((read s p one).cuts ≡ p.cuts) × ((read s p one).step ≡ p.step)
+pub same_place : (s : Setting) (p : Progress) (one : Entry) → IsQuiet one → ((read s p one).cuts ≡ p.cuts) × ((read s p one).step ≡ p.step)
 same_place s p (entry.Opened life restored) quiet = absurd quiet
 same_place s p (entry.Cut step call) quiet = absurd quiet
 same_place s p (entry.Step step) quiet = absurd quiet
@@ -373,11 +392,11 @@ module _ (script : Script) (life : Life) (l : ℕ) (life_is : slice_get script.l
       subst (λ (n : ℕ). IsSomeAnd (slice_get script.lives n) (λ its. P n its p.step)) (sym lives)
       (subst (λ (o : Option Life). IsSomeAnd o (λ its. P l its p.step)) (sym life_is) (subst (λ (k : ℕ). P l life k) (sym step) so))
 
-  said_now : (j : ℕ) (p : Progress) (one : Entry) → length p.cuts ≡ l → p.step ≡ j → IsSaidAt script l life j one → IsAnswer script p one
-  said_now j p (entry.Answer request answer) lives step said = here_now (λ n x k. IsAnsweredSo script n x (awaited_epoch (alone script) n x (k - 1)) k request answer) j p lives step said
+  said_now : (j : ℕ) (p : Progress) (one : Entry) → length p.cuts ≡ l → p.step ≡ j → IsSaidAt untold script l life j one → IsAnswer script p one
+  said_now j p (entry.Answer request answer) lives step said = here_now (λ n x k. IsAnsweredSo script n x (awaited_epoch (alone script) n x (k - 1)) k request answer) j p lives step (answered_so untold script l life (awaited_epoch (alone script) l life (j - 1)) j request answer said)
   said_now j p one lives step said = tt
 
-  all_quiet : (j : ℕ) (s : Setting) (p : Progress) (added : List Entry) → AllByRecursion IsQuiet added → AllByRecursion (IsSaidAt script l life j) added → length p.cuts ≡ l → p.step ≡ j → Each s (Says script s) p added
+  all_quiet : (j : ℕ) (s : Setting) (p : Progress) (added : List Entry) → AllByRecursion IsQuiet added → AllByRecursion (IsSaidAt untold script l life j) added → length p.cuts ≡ l → p.step ≡ j → Each s (Says script s) p added
   all_quiet j s p [] quiet said lives step = tt
   all_quiet j s p (one ∷ added) quiet said lives step =
       let same = same_place s p one quiet.0 in
@@ -397,11 +416,11 @@ module _ (script : Script) (life : Life) (l : ℕ) (life_is : slice_get script.l
   wanted : (P : Setting → Progress → Type 0) (t new : Trace) → new ≡ t → Moves (Says script) P (Ends (Err (FaultOf NoMemory))) t.out new.out
   wanted P t new is = moves_none (Says script) P (Ends (Err (FaultOf NoMemory))) t.out new.out (ap (λ (x : Trace). x.out) is) (λ s p at. inl tt)
 
-  quiet_part : (j : ℕ) (out now : List Entry) → (IsCutBefore life.cut j → ⊥) → (adds : AddsQuiet out now) → AllByRecursion (IsSaidAt script l life j) adds.added → Moves (Says script) (IsBefore life l j) (IsWithin life l j false) out now
+  quiet_part : (j : ℕ) (out now : List Entry) → (IsCutBefore life.cut j → ⊥) → (adds : AddsQuiet out now) → AllByRecursion (IsSaidAt untold script l life j) adds.added → Moves (Says script) (IsBefore life l j) (IsWithin life l j false) out now
   quiet_part j out now not adds said =
       judged_by script (IsBefore life l j) (IsWithin life l j false) out now adds.added adds.parts (λ s p is. all_quiet j s p adds.added adds.quiet said is.lives is.step) (quiet_so_far life l j out now not adds)
 
-  opening_part : (out now : List Entry) → (IsCutBefore life.cut 0 → ⊥) → (adds : AddsOpening l out now) → AllByRecursion (IsSaidAt script l life 0) adds.more → Moves (Says script) (IsBefore life l 0) (IsWithin life l 0 true) out now
+  opening_part : (out now : List Entry) → (IsCutBefore life.cut 0 → ⊥) → (adds : AddsOpening l out now) → AllByRecursion (IsSaidAt untold script l life 0) adds.more → Moves (Says script) (IsBefore life l 0) (IsWithin life l 0 true) out now
   opening_part out now not adds said = judged_by script (IsBefore life l 0) (IsWithin life l 0 true) out now (entry.Opened l adds.restored ∷ adds.more) adds.parts
       (λ s p is. ((tt, tt), all_quiet 0 s (read s p (entry.Opened l adds.restored)) adds.more adds.quiet said is.lives is.step)) (opened_so_far life l out now not adds)
 
@@ -467,7 +486,7 @@ module _ (g : Lived) (here : IsLifeInForm g) where
           let adds : AddsQuiet out now = step_is_quiet g (suc i) e st ended out now said in
           let lines = step_lines g here i e e_is reached st known.stood known.held ended out now said in
           quiet_part g.script g.life g.number here.life_is (suc i) out now not adds
-          (subst (λ (xs : List Entry). AllByRecursion (IsSaidAt g.script g.number g.life (suc i)) xs) (append_cancel_left out lines.0 adds.added (sym lines.1 ∙ adds.parts)) lines.2)
+          (subst (λ (xs : List Entry). AllByRecursion (IsSaidAt untold g.script g.number g.life (suc i)) xs) (append_cancel_left out lines.0 adds.added (sym lines.1 ∙ adds.parts)) lines.2)
 
   takes_judged : (i : ℕ) (events : List Event) (st : Live directory.Unit) (t new : Trace) (how : Result (Unit {0}) Stop) → i ≤ length g.life.events → events ≡ drop i g.life.events → IsUncut g.life.cut (suc i) → Known g here i st
       → TakesAll by_lines g (suc i) events st t how new → Moves (Says g.script) (IsBehind g.life g.number i) (EndsHere how) t.out new.out
@@ -497,9 +516,9 @@ module _ (g : Lived) (here : IsLifeInForm g) where
       none : AllByRecursion IsUnanswered (entry.Opened g.number adds.restored ∷ adds.more)
       none = subst (λ (xs : List Entry). AllByRecursion IsUnanswered xs) (append_cancel_left out lines.0 (entry.Opened g.number adds.restored ∷ adds.more) (sym lines.1 ∙ adds.parts)) lines.2
 
-      all_said : (xs : List Entry) → AllByRecursion IsUnanswered xs → AllByRecursion (IsSaidAt g.script g.number g.life 0) xs
+      all_said : (xs : List Entry) → AllByRecursion IsUnanswered xs → AllByRecursion (IsSaidAt untold g.script g.number g.life 0) xs
       all_said [] all = tt
-      all_said (one ∷ xs) all = (unanswered_so g 0 one all.0, all_said xs all.1)
+      all_said (one ∷ xs) all = (unanswered_so untold g 0 one all.0, all_said xs all.1)
 
   opens_within : (IsCutBefore g.life.cut 0 → ⊥) → (ended : Ended NodeStop (Live directory.Unit)) (out now : List Entry) → Said (on_devices (node_opening (at_step g 0))) ended out now → Opening g.number out now
       → Moves (Says g.script) (IsBefore g.life g.number 0) (λ s p. (so : Bool) × IsWithin g.life g.number 0 so s p) out now

@@ -67,7 +67,7 @@ parent_is bs all (Some number) are = digest_at bs all number are
 abbrev units : (most version : ℕ) → Limits
 units most version = record { most = most; version = version; addressed = false }
 
-spelled_back : (most version : ℕ) (bytes : List ℕ) → IsBytes bytes → (read : Result (Payload directory.Unit) CodecError)
+pub spelled_back : (most version : ℕ) (bytes : List ℕ) → IsBytes bytes → (read : Result (Payload directory.Unit) CodecError)
     → whole (payload_at (λ peers. unit_at) (λ d peers. true) most version bytes) ≡ read → IsSome (result_ok read) → flagged_bytes unit_spelling (result_ok read) ≡ 1 ∷ bytes
 spelled_back most version bytes are (Err e) is some = absurd (let wrong : false ≡ true = some in cc)
 spelled_back most version bytes are (Ok payload) is some =

@@ -206,7 +206,7 @@ module _ (g : Lived) (here : IsLifeInForm g) where
       awaits_none : awaited_by g i ≡ 0
       awaits_none = sym stands.awaits ∙ ap awaited none
 
-      first_awaited : epoch_by g i ≡ 0
+      pub first_awaited : epoch_by g i ≡ 0
       first_awaited = ap (epoch_of n) awaits_none ∙ div-eq_of_lt (some n here.long)
         where
           some : (n : ℕ) → 2 ≤ n → 0 < n
@@ -311,7 +311,7 @@ module _ (g : Lived) (here : IsLifeInForm g) where
           by_range false = refl
 
       -- it is new where it is neither refused nor passed over
-      accepted_by : (j : Judged) → judged_block (at_step g (suc i)) b st ≡ j → refusal j ≡ None → refusal_in g.script g.number g.life i b ≡ None
+      pub accepted_by : (j : Judged) → judged_block (at_step g (suc i)) b st ≡ j → refusal j ≡ None → refusal_in g.script g.number g.life i b ≡ None
       accepted_by j is none = sym judged_so ∙ ap refusal is ∙ none
 
       pub above_by : judged_block (at_step g (suc i)) b st ≡ Applied → option_map_or (λ t. nat_le b.height t.height) (tip_in g.script g.life i) false ≡ false

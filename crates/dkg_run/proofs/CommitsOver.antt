@@ -1,11 +1,8 @@
 -- Which share is told as committed in an opening and in a step, over what the devices hold.
 use Rattle.std.proofs.Common.{◌≡◌, ℕ, Bool, true, false, List, [], ◌∷◌, Option, Some, None, refl, sym, ◌∙◌, ap, subst, arith}
-use Rattle.std.specs.Prelude.{◌+◌, ◌-◌, ◌==◌, ◌&&◌, ◌||◌, if◌then◌else◌, is_some, is_none, not, IsSomeAnd, Ok, Err, Result, option_and_then, nat_lt}
+use Rattle.std.specs.Prelude.{◌+◌, ◌-◌, ◌==◌, ◌&&◌, ◌||◌, if◌then◌else◌, is_some, is_none, not, IsSomeAnd, Ok, Err, Result, option_and_then}
 use Rattle.std.specs.Option.{option_map_or}
-use Rattle.std.specs.Result.{result_ok}
 use Rattle.std.proofs.lemmas.Bool.Decides.{nat_tests}
-use Rattle.dkg_values.specs.Codec.{whole}
-use Rattle.dkg_values.specs.Rising.{lookup}
 use Rattle.dkg_ceremony.specs.Outcomes.{LogMap}
 use Rattle.dkg_ceremony.specs.Schedule.{boundary, epoch_of, last, midpoint}
 use Rattle.dkg_ceremony.specs.declared.deal.DealError.{DealError}
@@ -14,40 +11,36 @@ use Rattle.dkg_ceremony.specs.declared.phase.Phase.{Phase}
 use Rattle.dkg_ceremony.specs.declared.round.RoundError.{RoundError}
 use Rattle.dkg_ceremony.specs.declared.round.RoundParts.{RoundParts as Round}
 use Rattle.dkg_ceremony.specs.declared.signed_log.SignedDealerLog.{SignedDealerLog}
-use Rattle.dkg_fence.specs.Fence.{waited}
-use Rattle.dkg_fence.specs.declared.fence.Waited.TheVariants as waits
-use Rattle.dkg_fence.specs.declared.fence.Waited.{Waited}
 use Rattle.dkg_secrets.specs.declared.secrets.SecretOp.TheVariants.{PutSeed, PutShare}
 use Rattle.dkg_store.specs.Acts.{Changes, Held, OnDisk, after}
 use Rattle.dkg_journal.specs.Operations.{Bars, Opens}
 use Rattle.dkg_types.specs.BlockCodes.{info_of}
 use Rattle.dkg_types.specs.Blocks.{Block}
 use Rattle.dkg_types.specs.PayloadCodes.{its_log}
-use Rattle.dkg_types.specs.declared.entry.Entry.TheVariants.{Acked, Committed, Entered}
+use Rattle.dkg_types.specs.declared.entry.Entry.TheVariants.{Acked, Committed}
 use Rattle.dkg_types.specs.declared.entry.Entry.{Entry as Line}
 use Rattle.dkg_types.specs.declared.entry.Why.TheVariants.{Finished}
-use Rattle.dkg_types.specs.declared.fault.Fault.TheVariants.{HeightRange, LocalState, MissingEpochInfo, SkippedHeight, WrongEpoch}
+use Rattle.dkg_types.specs.declared.fault.Fault.TheVariants.{HeightRange, LocalState, MissingEpochInfo, WrongEpoch}
 use Rattle.dkg_types.specs.declared.fault.Fault.{Fault}
 use Rattle.dkg_types.specs.declared.fault.LocalCause.TheVariants.{OutcomeOmitted}
 use Rattle.dkg_types.specs.declared.info.EpochInfo.{EpochInfo}
 use Rattle.dkg_types.specs.declared.participants.Participants.{Participants}
 use Rattle.dkg_types.specs.declared.participants.ParticipantsError.{ParticipantsError}
-use Rattle.dkg_types.specs.declared.scheme.SchemeInfo.{SchemeInfo}
 use Rattle.dkg_core.specs.Asked.{HasAsked, IsArtifactIn, IsAskStop, IsJobIn, IsResultIn, OfShares, Reads}
 use Rattle.dkg_core.specs.Behind.{event_of}
 use Rattle.dkg_core.specs.Blocks as b
 use Rattle.dkg_core.specs.Core.{begun, opening, opens_in, step}
-use Rattle.dkg_core.specs.Courses.{Certified, Course, Genesis, Goes, Say, Stops, bind, under}
+use Rattle.dkg_core.specs.Courses.{Course, Goes, Say, Stops, bind, under}
 use Rattle.dkg_core.specs.Dealing as d
 use Rattle.dkg_core.specs.Endings.{first_epoch, validity}
 use Rattle.dkg_core.specs.Entering as half
-use Rattle.dkg_core.specs.Entering.{Acknowledges, Half, HalfAnswer, Withholds, active, delivered}
+use Rattle.dkg_core.specs.Entering.{delivered}
 use Rattle.dkg_core.specs.Fixed.{Fixed, Material, OneShot, has, start}
 use Rattle.dkg_core.specs.Forms.{IsForm, round_for, seed_read, share_read}
 use Rattle.dkg_core.specs.Idle.{IsAskedLine}
 use Rattle.dkg_core.specs.Including as i
 use Rattle.dkg_core.specs.Including.{cached_for, can_finish, job_for, retained_for, retains, verified}
-use Rattle.dkg_core.specs.Live.{Artifact, Deals, Dealer, Ends, Faulted, Finalized, Follows, GaveNone, Includes, Inclusion, Job, Live, NodeStop, Orchestrator, Peer, Plays, Request, Seat, Sent, Stage, VerifiedLogs, Waiting, Watches, awaited_height, is_last_height, of_epoch, phase_of, recorded_at, with_inclusion, with_participation, with_tip, with_told}
+use Rattle.dkg_core.specs.Live.{Artifact, Deals, Dealer, Ends, Faulted, Finalized, Follows, GaveNone, Includes, Inclusion, Job, Live, Peer, Plays, Request, Seat, Sent, Stage, VerifiedLogs, Watches, awaited_height, is_last_height, of_epoch, phase_of, recorded_at, with_inclusion, with_participation, with_tip, with_told}
 use Rattle.dkg_core.specs.Logs.{canonical, is_accepted, log_event, logs_of}
 use Rattle.dkg_core.specs.Node.{kept_material, node_opening, node_step, unless_once}
 use Rattle.dkg_core.specs.Plans as p
@@ -63,9 +56,10 @@ use Rattle.dkg_core.proofs.Concluding.{retained_logs}
 use Rattle.dkg_core.proofs.Counting.{some_is}
 use Rattle.dkg_core.proofs.Heights.{next_last}
 use Rattle.dkg_core.proofs.Idle as idle
-use Rattle.dkg_core.proofs.SayingThrough.{deals_so, hears_so, so_behind, so_if, so_option}
+use Rattle.dkg_core.proofs.SayingThrough.{deals_so, hears_so, so_behind, so_if}
 use Rattle.dkg_core.proofs.Verifying as verifying
 use Rattle.dkg_core.proofs.Verifying.{IsEndedIn, verified_is, verifying_ends}
+use Rattle.dkg_run.proofs.HalfLines as halves
 use Rattle.dkg_run.proofs.SaysOver.{SaysOver, anywhere, only_so, over_behind, over_if, over_only, over_option, over_under}
 
 none_apart : {A : Type 0} (a : A) → ◌≡◌ {A = Option A} None (Some a) → ⊥
@@ -176,90 +170,15 @@ module _ {Dir : Type 0} (c : Fixed Dir) (So : ℕ → Option ℕ → Type 0) whe
 
   -- THE ORCHESTRATOR'S HALF commits nothing
 
-  abbrev Half_so : Course Dir NodeStop (Half Dir) → Type 0
-  Half_so course = SaysSo P course
-
-  starts : (o : Orchestrator Dir) (w : Waiting Dir) (found : Option SchemeInfo) (now : Live Dir) → Half_so (half.starts_engine o w found now)
-  starts o w None now = tt
-  starts o w (Some scheme) now = stopped o.entered
-    where
-      stopped : (old : Option ℕ) → SaysSo P (half.stops_engine old (Say (Entered w.epoch) (half.leaves (half.with_entered w.epoch o) Acknowledges now)))
-      stopped None = (tt, tt)
-      stopped (Some old) = (tt, tt)
-
-  tracks : (o : Orchestrator Dir) (w : Waiting Dir) (lacking : Option ℕ) (now : Live Dir) → Half_so (half.tracks_peers o w lacking now)
-  tracks o w (Some peer) now = tt
-  tracks o w None now = starts o w (lookup w.epoch o.schemes) now
-
-  waits_so : (o : Orchestrator Dir) (w : Waiting Dir) (answer : Waited) (now : Live Dir) → Half_so (half.waited_for c o w answer now)
-  waits_so o w waits.Ready now = tracks o w (c.directories.lacking w.info.directory (half.peers_for w)) now
-  waits_so o w waits.Pending now = tt
-  waits_so o w waits.Closed now = (tt, tt)
-
-  enters : (w : Waiting Dir) (now : Live Dir) → Half_so (half.enters c w now)
-  enters w now =
-      let answer = half.wait_for now.orchestrator.fence w.epoch in waits_so (record now.orchestrator { fence = waited w.epoch answer now.orchestrator.fence }) w answer now
-
-  enters_at : (block : Block Dir) (epoch : ℕ) (height : Option ℕ) (now : Live Dir) → Half_so (half.enters_at c block epoch height now)
-  enters_at block epoch height now =
-      let goes : EpochInfo Dir → Course Dir NodeStop (Half Dir) = λ info. half.enters c (record { epoch = epoch; info = info; floor = Genesis block.digest; block = height }) now in
-      let wrong : EpochInfo Dir → Course Dir NodeStop (Half Dir) = λ info. Stops (Faulted (WrongEpoch epoch info.epoch)) in
-      so_option P (λ (info : EpochInfo Dir). if info.epoch == epoch then goes info else wrong info) (info_of block.payload) (Stops (Faulted (MissingEpochInfo block.height)))
-      (λ info e. so_if P (info.epoch == epoch) (goes info) (wrong info) (λ e. enters (record { epoch = epoch; info = info; floor = Genesis block.digest; block = height }) now) (λ e. tt)) tt
-
-  acked : (height : ℕ) (answer : HalfAnswer) (now : Live Dir) → SaysSo P (half.acked_at height answer now)
-  acked height Acknowledges now = (tt, tt)
-  acked height Withholds now = tt
-
-  acked_late : (height : Option ℕ) (left : Half Dir) → SaysSo P (half.acked_late height left)
-  acked_late None left = tt
-  acked_late (Some height) left = acked height left.answer left.live
-
-  again : (now : Live Dir) → SaysSo P (half.asks_again c now)
-  again now =
-      so_option P (λ (w : Waiting Dir). bind (half.enters c w now) (half.acked_late w.block)) now.orchestrator.waiting (Goes now)
-      (λ w e. so_behind P (half.enters c w now) (half.acked_late w.block) (enters w now) (λ left. acked_late w.block left)) tt
-
-  delivers_in : (block : Block Dir) (now : Live Dir) (found : Option ℕ) → Half_so (half.delivered_in c block now found)
-  delivers_in block now None = tt
-  delivers_in block now (Some epoch) =
-      so_if P (nat_lt (last c.blocks_per_epoch epoch) block.height) (Stops (Faulted (SkippedHeight (last c.blocks_per_epoch epoch) block.height)))
-      (if nat_lt block.height (last c.blocks_per_epoch epoch) then half.leaves now.orchestrator Acknowledges now else half.enters_at c block (epoch + 1) (Some block.height) now) (λ e. tt)
-      (λ e. so_if P (nat_lt block.height (last c.blocks_per_epoch epoch)) (half.leaves now.orchestrator Acknowledges now) (half.enters_at c block (epoch + 1) (Some block.height) now) (λ e. tt)
-      (λ e. enters_at block (epoch + 1) (Some block.height) now))
-
   behind_block : (block : Block Dir) (now : Live Dir) → SaysSo P (unless_once c (bind (delivered c block now) (λ left. half.acked_at block.height left.answer left.live)) (Say (Acked block.height) (Goes now)))
-  behind_block block now =
-      so_if P (is_some c.oneshot) (Say (Acked block.height) (Goes now)) (bind (delivered c block now) (λ left. half.acked_at block.height left.answer left.live)) (λ e. (tt, tt))
-      (λ e. so_behind P (delivered c block now) (λ left. half.acked_at block.height left.answer left.live)
-      (so_behind P (half.asks_again c now) (λ mid. half.delivered_in c block mid (active mid.orchestrator)) (again now) (λ mid. delivers_in block mid (active mid.orchestrator))) (λ left. acked block.height left.answer left.live))
-
-  behind_mail : (now : Live Dir) → SaysSo P (unless_once c (half.asks_again c now) (Goes now))
-  behind_mail now = so_if P (is_some c.oneshot) (Goes now) (half.asks_again c now) (λ e. tt) (λ e. again now)
+  behind_block = halves.behind_block c P (λ epoch. tt) tt (λ height. tt)
 
   -- A PEER'S MESSAGE commits nothing
   pub peer_over : (from : ℕ) (bytes : List ℕ) (now : Live Dir) (h : Held) → SaysOver P (node_step c (event_of (Sent (Peer from bytes))) now) h
   peer_over from bytes now h =
       over_behind P (under Faulted (step c (Sent (Peer from bytes)) now)) (λ end. unless_once c (half.asks_again c end) (Goes end)) h
-      (over_under P Faulted (step c (Sent (Peer from bytes)) now) h (anywhere P (step c (Sent (Peer from bytes)) now) h (hears_so c P plain from bytes now now.participation.stage))) behind_mail
-
-  opens_so : (now : Live Dir) (m : Option (Material Dir)) → Half_so (half.opens_half c m now)
-  opens_so now (Some m) = enters (record { epoch = m.info.epoch; info = m.info; floor = Certified m.floor; block = None }) now
-  opens_so now None =
-      let epoch = epoch_of c.blocks_per_epoch (half.start_height c) in
-      so_if P (s.is_past_range c (half.start_height c)) (Stops (Faulted HeightRange)) (half.opens_at c epoch (c.source.block (boundary c.blocks_per_epoch epoch)) now) (λ e. tt)
-      (λ e. at epoch (c.source.block (boundary c.blocks_per_epoch epoch)))
-    where
-      at : (epoch : ℕ) (found : Option (Block Dir)) → Half_so (half.opens_at c epoch found now)
-      at epoch None = (tt, tt)
-      at epoch (Some block) = enters_at block epoch None now
-
-  behind_opening : (now : Live Dir) → SaysSo P (unless_once c (kept_material c now) (Goes now))
-  behind_opening now =
-      so_if P (is_some c.oneshot) (Goes now) (kept_material c now) (λ e. tt) (λ e h. opens_by (option_and_then (λ bytes. result_ok (whole (p.material_at c bytes))) (c.seen h).plan))
-    where
-      opens_by : (m : Option (Material Dir)) → SaysSo P (bind (half.opens_half c m now) (λ left. Goes left.live))
-      opens_by m = so_behind P (half.opens_half c m now) (λ left. Goes left.live) (opens_so now m) (λ left. tt)
+      (over_under P Faulted (step c (Sent (Peer from bytes)) now) h (anywhere P (step c (Sent (Peer from bytes)) now) h (hears_so c P plain from bytes now now.participation.stage)))
+      (halves.behind_mail c P (λ epoch. tt) tt (λ height. tt))
 
   -- AN OPENING of the form commits what is recovered for the info of its first epoch's boundary block, over the devices once the journal is open.
 
@@ -282,7 +201,7 @@ module _ {Dir : Type 0} (c : Fixed Dir) (So : ℕ → Option ℕ → Type 0) whe
     pub opening_over : SaysOver P (node_opening c) h
     opening_over =
         over_behind P (under Faulted (opening c)) (λ now. unless_once c (kept_material c now) (Goes now)) h
-        (over_under P Faulted (opening c) h (tt, opens (begun (c.seen (opened_held h))))) behind_opening
+        (over_under P Faulted (opening c) h (tt, opens (begun (c.seen (opened_held h))))) (halves.behind_opening c P (λ epoch. tt) tt (λ height. tt))
 
 -- A BLOCK
 

@@ -1,5 +1,5 @@
 -- How a request stands behind one event more, and what it was fed.
-use Rattle.std.proofs.Common.{◌≡◌, ℕ, zero, suc, ◌++◌, ◌==◌, ◌||◌, Bool, true, false, List, [], ◌∷◌, Option, Some, None, refl, sym, ◌∙◌, ap, subst, arith, append-nil, append_assoc}
+use Rattle.std.proofs.Common.{◌≡◌, ℕ, zero, suc, ◌+◌, ◌<◌, ◌++◌, ◌==◌, ◌||◌, Bool, true, false, List, [], ◌∷◌, Option, Some, None, refl, sym, ◌∙◌, ap, subst, arith, append-nil, append_assoc}
 use Rattle.std.specs.Prelude.{fold, slice_get, take, if◌then◌else◌}
 use Rattle.std.specs.List.{cons_option}
 use Rattle.std.proofs.lemmas.Bool.Decides.{nat_tests}
@@ -163,3 +163,27 @@ fed_nothing script life i request anew there =
     fed_more request life i (event.Info request) there script
     ∙ ap (λ (s : Standing). fed_in script life request i ++ numbered (blocks_in script) (adds request s (event.Info request))) (made_anew life i request anew there)
     ∙ append-nil (fed_in script life request i) ∙ ap (numbered (blocks_in script)) (unfed request (take i life.events) (anew_at [] life.events i request anew there))
+
+-- What a request is fed grows at its end alone.
+pub fed_grows : (request : ℕ) (script : Script) (life : Life) (read more : ℕ) → ((i : ℕ) → i < read + more → (e : Event) × (slice_get life.events i ≡ Some e))
+    → (rest : List (Block U)) × (fed_in script life request (read + more) ≡ fed_in script life request read ++ rest)
+fed_grows request script life read zero all = ([], ap (fed_in script life request) (none read) ∙ sym (append-nil (fed_in script life request read)))
+  where
+    none : (a : ℕ) → a + 0 ≡ a
+    none a = omega arith
+fed_grows request script life read (suc more) all =
+    let before = fed_grows request script life read more (λ i low. all i (later i low)) in
+    let last = all (read + more) (next (read + more) (read + suc more) (one read more)) in
+    let added = numbered (blocks_in script) (adds request (standing_of life request (read + more)) last.0) in (
+      before.0 ++ added,
+      ap (fed_in script life request) (one read more) ∙ fed_more request life (read + more) last.0 last.1 script ∙ ap (λ (bs : List (Block U)). bs ++ added) before.1 ∙ append_assoc (fed_in script life request read) before.0 added,
+    )
+  where
+    one : (a b : ℕ) → a + suc b ≡ suc (a + b)
+    one a b = omega arith
+
+    next : (a b : ℕ) → b ≡ suc a → a < b
+    next a b same = omega (arith, same)
+
+    later : (i : ℕ) → i < read + more → i < read + suc more
+    later i low = omega (arith, low)

@@ -78,9 +78,21 @@ pub record IsBuiltSetting (s : Setting) : Type 0 where
   pub bytes : AreBytes s.script.blocks
   pub heights : AllByRecursion (λ (line : BlockLine). line.height < 2 ^ 64) s.script.blocks
 
+-- .. whatever plan is stored
+pub record IsGivenSetting (s : Setting) : Type 0 where
+  pub form : IsFormOfInclusion s.script
+  pub anchored : (l : ℕ) (life : Life) → life_at s l ≡ Some life → IfSome life.anchor (IsAnchorAbove s.script.blocks)
+  pub supported : supports_of s.script.config.max_mode.0 s.script.config.mode ≡ true
+  pub long : 2 ≤ non_zero_u64_get s.script.config.blocks_per_epoch
+  pub bytes : AreBytes s.script.blocks
+  pub heights : AllByRecursion (λ (line : BlockLine). line.height < 2 ^ 64) s.script.blocks
+
+pub given_of : (s : Setting) → IsBuiltSetting s → IsGivenSetting s
+given_of s built = record { form = built.form; anchored = built.anchored; supported = built.supported; long = built.long; bytes = built.bytes; heights = built.heights }
+
 -- WHAT A LIFE IS GIVEN
 
-module _ (s : Setting) (ends : List (Option CutAt)) (built : IsBuiltSetting s) (no_plans : s.plans ≡ []) (consistent : IsConsistentScript s ends) where
+module _ (s : Setting) (ends : List (Option CutAt)) (built : IsGivenSetting s) (no_plans : s.plans ≡ []) (consistent : IsConsistentScript s ends) where
   module _ (l : ℕ) (life : Life) (files : Files) (life_is : life_at s l ≡ Some life) where
     abbrev g : Lived
     g = lived s.script l life seen_planless files
@@ -130,7 +142,7 @@ module _ (s : Setting) (ends : List (Option CutAt)) (built : IsBuiltSetting s) (
       brings = brings_given;
     }
 
-  given : (l : ℕ) (life : Life) (seen : Held → Seen) (files : Files) → life_at s l ≡ Some life → by_worlds.reads seen → IsLifeInForm (lived s.script l life seen files) × IsLifeOfSetting s ends (lived s.script l life seen files)
+  pub given : (l : ℕ) (life : Life) (seen : Held → Seen) (files : Files) → life_at s l ≡ Some life → by_worlds.reads seen → IsLifeInForm (lived s.script l life seen files) × IsLifeOfSetting s ends (lived s.script l life seen files)
   given l life seen files life_is reads = subst (λ (x : Held → Seen). IsLifeInForm (lived s.script l life x files) × IsLifeOfSetting s ends (lived s.script l life x files)) (sym reads) (here l life files life_is, meant l life files life_is)
 
 -- A SCRIPT AS IT WAS CUT is built where it is of the form
@@ -179,7 +191,7 @@ plain_history s cuts built no_plans = history_of s cuts built.form built.no_plan
 
 -- THE FIRST LIFE IS STILL TO COME
 
-rests_at_start : (s : Setting) (h : Held) → notes h ≡ entries s.files → h.secrets ≡ s.secrets → IsWhole (entries s.files) s.secrets → RestsIn h s (at_start s)
+pub rests_at_start : (s : Setting) (h : Held) → notes h ≡ entries s.files → h.secrets ≡ s.secrets → IsWhole (entries s.files) s.secrets → RestsIn h s (at_start s)
 rests_at_start s h notes_are secrets_are whole = record {
   whole = rw (notes_are, secrets_are) whole;
   may = record {
@@ -235,7 +247,7 @@ module _ (s : Setting) (built : IsBuiltSetting s) (no_plans : s.plans ≡ []) (w
       end_so its out = ap (λ (xs : List Entry). (fold (read s) (at_start s) xs).cuts) (same_behind old_out its added (sym out ∙ is))
 
       gone : Comes s (AreKnownHandedIn s) (at_start s) old_out new_out (λ marks q. LeavesRun (at (moment new_out secrets_now never) c).held s q)
-      gone = run_kept s ends (ap is_some built.form.reshares) consistent (given s ends built no_plans consistent)
+      gone = run_kept s ends (ap is_some built.form.reshares) consistent (given s ends (given_of s built) no_plans consistent)
           (λ its. its ≡ s.files) (AreKnownHandedIn s) w answered new (at_start s) (lives_of s [] s.script.lives refl) (record { lives = refl; step = refl; nothing = refl }) (rests_at_start s w.held refl refl whole)
           (handed_known s _) end_so run.so
 

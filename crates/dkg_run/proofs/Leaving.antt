@@ -1,6 +1,6 @@
 -- What a run's completed steps leave of requests, whatever the devices tell: its lines tell it.
 use Rattle.std.proofs.Common.{◌≡◌, ◌⊎◌, inl, inr, Bool, true, false, ℕ, suc, ◌+◌, ◌-◌, ◌<◌, ◌≤◌, ◌||◌, ◌++◌, ◌∷◌, [], List, Option, Some, None, Result, Ok, Err, arith, refl, sym, ◌∙◌, ap, subst, add-one, append_assoc, append-nil, drop, length}
-use Rattle.std.specs.Prelude.{⊤, fold, slice_get, IfSome, IsFalse, IsSomeAnd, nat_lt, ◌==◌, if◌then◌else◌}
+use Rattle.std.specs.Prelude.{⊤, fold, slice_get, IsFalse, IsSomeAnd, nat_lt, ◌==◌, if◌then◌else◌}
 use Rattle.std.specs.List.{AllByRecursion, list_any}
 use Rattle.std.proofs.lemmas.Bool.Decides.{nat_tests}
 use Rattle.std.proofs.lemmas.List.{append_cancel_left, length-drop}
@@ -46,27 +46,29 @@ use Rattle.dkg_core.proofs.Setups.{comes_anywhere}
 use Rattle.dkg_core.proofs.Splitting.{came_to}
 use Rattle.dkg_dealing.specs.declared.stop.Stop.{Stop}
 use Rattle.dkg_dealing.specs.declared.stop.Stop.TheVariants.{Cut as AtCut, Failed, Fault as FaultOf}
-use Rattle.dkg_run.specs.Asks.{bounds_in, scan_tip}
+use Rattle.dkg_run.specs.Asks.{IsUncancelled, bounds_in, scan_tip}
 use Rattle.dkg_run.specs.Blamed.{per_epoch}
 use Rattle.dkg_run.specs.Ended.{by_node_stop}
 use Rattle.dkg_run.specs.Epochs.{IsChecked, IsLifeInForm, any_shares, awaited_by, epoch_by}
 use Rattle.dkg_run.specs.Given.{Lived, at_step, lived, step_of}
-use Rattle.dkg_run.specs.Leaves.{IsOpen, MayVerify, LeavesNone, LeavesSo, NeedsBlocks}
+use Rattle.dkg_run.specs.Leaves.{IsOldest, IsOpen, LeavesNone, LeavesSo, NeedsBlocks, Verifies}
 use Rattle.dkg_run.specs.Lives.{AnyFiles, EndsLife, LivesFrom, LivesSo, RunsAllSo, RunsSo, Steps, TakesAll, TellsEnd, fuse_for}
 use Rattle.dkg_run.specs.Ways.{ReadsSomething, Trace, by_lines}
-use Rattle.dkg_run.proofs.Accounting.{IsAnsweredIn, IsWaiting, among_left}
+use Rattle.dkg_run.proofs.Accounting.{IsAnsweredIn, IsWaiting, none_in}
+use Rattle.dkg_run.proofs.Answered.{IsSaidAt}
 use Rattle.dkg_run.proofs.Apart.{IsApart, Reads, node_apart}
 use Rattle.dkg_run.proofs.Ancestry.{IsRead}
 use Rattle.dkg_run.proofs.Awaiting.{IsBefore as IsUncut, IsReached, before_all, reached_lit}
-use Rattle.dkg_run.proofs.Blaming.{Known, its_live, m, next_known, opening_comes, reshare}
+use Rattle.dkg_run.proofs.Blaming.{Known, its_live, m, next_known, opening_comes, reshare, step_lines}
 use Rattle.dkg_run.proofs.Following.{item_at, rest_at}
 use Rattle.dkg_run.proofs.Former.{IsMessage, form_at, lacks_nobody, step_taken, through_at}
 use Rattle.dkg_run.proofs.LivesStand.{before_suc}
 use Rattle.dkg_run.proofs.Ordered.{opened_in, opening_added, step_is_quiet, tells_fault, went_opened}
-use Rattle.dkg_run.proofs.Requested.{IsHeld, read_here, sent_new, stands_as}
+use Rattle.dkg_run.proofs.Requested.{IsHeld, read_here, sent_new, stands_as, untold}
 use Rattle.dkg_run.proofs.Standing.{AddsOpening, AddsQuiet, TellsFault}
 use Rattle.dkg_run.proofs.Steps.{Opening}
-use Rattle.dkg_run.proofs.Tracking.{AreTracked, InOrder, IsRun, made_once, order_first, step_tracked}
+use Rattle.dkg_run.proofs.Tracking.{AreTracked, InOrder, made_once, order_first, step_tracked}
+use Rattle.dkg_run.proofs.Unanswered.{IsUnanswered, opening_lines}
 
 abbrev U : Type 0
 U = directory.Unit
@@ -89,7 +91,7 @@ module _ (g : Lived) (here : IsLifeInForm g) (j : ℕ) (st : Live U) (said : Lis
   live : IsLiveThrough (at_step g j) any_shares st
   live = ((known.stood).at).live
 
-  module _ (takes : follows (alone g.script) g.number g.life e ≡ false) (late : midpoint (per_epoch g.script) e ≤ awaited_by g j) (request : ℕ) (its : IsOpen g.script g.number g.life j said request) where
+  module _ (takes : follows (alone g.script) g.number g.life e ≡ false) (late : midpoint (per_epoch g.script) e ≤ awaited_by g j) (request : ℕ) (its : IsOpen g.life j said request) where
     apart : st.participation.stage ≡ Follows → ⊥
     apart follows = let no : ◌≡◌ {A = Bool} true false = sym (((known.stood).at).stands.blind follows) ∙ takes in cc
 
@@ -111,34 +113,51 @@ module _ (g : Lived) (here : IsLifeInForm g) (j : ℕ) (st : Live U) (said : Lis
         by_tests false false test = refl
 
     waiting : IsWaiting request st.inclusion ⊎ IsAnsweredIn request said
-    waiting = tracked.all apart request its.at its.before its.made its.same its.uncancelled
-
-    verifying : (job : Job) → IsRun g e j job → MayVerify g.script g.number g.life e j
-    verifying job run = record {
-      request = run.request;
-      read = run.read;
-      within = run.within;
-      began = run.began;
-      round = run.round;
-      recorded = run.recorded;
-      logs = job.logs;
-      asked = run.asked;
-      unended = run.unended;
-    }
+    waiting = tracked.all request its.at its.before its.made its.uncancelled
 
     abbrev Needs : Type 0
-    Needs = (first : ℕ) × (needs : NeedsBlocks g.script g.number g.life e j first) × (needs.at ≤ its.at)
+    Needs = (oldest : ℕ) × IsOldest g.script g.number g.life j said oldest × NeedsBlocks g.script g.life e j oldest
 
-    -- the first request needs blocks
-    of_first : (round : Round) → (r : Request U) (rs : List (Request U)) → st.inclusion.queue ≡ r ∷ rs → is_need (read_of c round st r) ≡ true → ((x : Request U) × IsAmong x (r ∷ rs) × (x.number ≡ request)) → Needs
-    of_first round r rs queue needs (x, among, same) =
-        (r.number, needing, subst (λ (k : ℕ). k ≤ its.at) (made_once g here one.at (first.0) r.number one.made (first.3)) (earlier among))
+    -- the first request needs blocks, where none is waited for
+    of_first : (round : Round) → st.inclusion.waiter ≡ None → (r : Request U) (rs : List (Request U)) → st.inclusion.queue ≡ r ∷ rs → is_need (read_of c round st r) ≡ true → Needs
+    of_first round none r rs queue needs = (r.number, oldest, needing)
       where
         one : IsHeld g e j r
         one = (subst (λ (q : List (Request U)). AllByRecursion (IsHeld g e j) q) queue ((known.held).ready).queue).0
 
-        first : InOrder g j 0 (r ∷ rs)
-        first = subst (InOrder g j 0) queue tracked.order
+        order : InOrder g j 0 (r ∷ rs)
+        order = subst (InOrder g j 0) queue tracked.order
+
+        oldest : IsOldest g.script g.number g.life j said r.number
+        oldest = record {
+          its = record {
+            at = one.at;
+            before = one.before;
+            made = one.made;
+            uncancelled = subst IsUncancelled (sym one.stands) (uncut r.ended);
+            unanswered = λ answer among. tracked.absent r.number (inl (r, subst (IsAmong r) (sym queue) (inl refl), refl)) (answer, among);
+          };
+          of_epoch = one.same;
+          first = λ other one_open. by_waiting other one_open (tracked.all other one_open.at one_open.before one_open.made one_open.uncancelled);
+        }
+          where
+            uncut : (ended : Bool) → IsUncancelled (stands_as ended)
+            uncut true = tt
+            uncut false = tt
+
+            itself : (a b : ℕ) → a ≡ b → a ≤ b
+            itself a b same = omega (arith, same)
+
+            earlier : (other : ℕ) (one_open : IsOpen g.life j said other) (x : Request U) → x.number ≡ other → IsAmong x (r ∷ rs) → order.0 ≤ one_open.at
+            earlier other one_open x same (inl is) =
+                itself (order.0) one_open.at (made_once g here one_open.at (order.0) other one_open.made (order.3 ∙ ap (λ (k : ℕ). Some (event.Info k)) (ap (λ (y : Request U). y.number) is ∙ same)))
+            earlier other one_open x same (inr rest) = order_first g j (order.0) other one_open.at rs (λ k made. made_once g here one_open.at k other one_open.made made) (order.4) x rest same
+
+            by_waiting : (other : ℕ) (one_open : IsOpen g.life j said other) → IsWaiting other st.inclusion ⊎ IsAnsweredIn other said → one.at ≤ one_open.at
+            by_waiting other one_open (inr (answer, among)) = absurd (one_open.unanswered answer among)
+            by_waiting other one_open (inl (inr waits)) = absurd (none_some (sym none ∙ waits))
+            by_waiting other one_open (inl (inl (x, among, same))) =
+                subst (λ (k : ℕ). k ≤ one_open.at) (made_once g here one.at (order.0) r.number one.made (order.3)) (earlier other one_open x same (subst (IsAmong x) queue among))
 
         need_is : (f : Fed) → is_need f ≡ true → f ≡ Need
         need_is Need is = refl
@@ -149,43 +168,28 @@ module _ (g : Lived) (here : IsLifeInForm g) (j : ℕ) (st : Live U) (said : Lis
         on = subst (IsRead check_log_of round (bounds_in g.script e) (scan_tip g.script g.life j) r.blocks r.ended) (need_is (read_of c round st r) needs)
             (read_here g here j e st (known.stood).tip its_epoch round r)
 
-        needing : NeedsBlocks g.script g.number g.life e j r.number
-        needing = record {
-          at = one.at;
-          before = one.before;
-          made = one.made;
-          same = one.same;
-          is_open = one.stands ∙ ap stands_as on.1;
-          path = (on.0).path;
-          fed = sym one.fed ∙ (on.0).fed;
-          under_way = (on.0).under_way;
-        }
-
-        itself : (a b : ℕ) → a ≡ b → a ≤ b
-        itself a b same = omega (arith, same)
-
-        earlier : IsAmong x (r ∷ rs) → first.0 ≤ its.at
-        earlier (inl is) = itself (first.0) its.at (made_once g here its.at (first.0) request its.made (first.3 ∙ ap (λ (k : ℕ). Some (event.Info k)) (ap (λ (y : Request U). y.number) is ∙ same)))
-        earlier (inr rest) = order_first g j (first.0) request its.at rs (λ k made. made_once g here its.at k request its.made made) (first.4) x rest same
+        needing : NeedsBlocks g.script g.life e j r.number
+        needing = record { goes_on = one.stands ∙ ap stands_as on.1; path = (on.0).path; fed = sym one.fed ∙ (on.0).fed; under_way = (on.0).under_way }
 
     -- where none runs
     idle : st.inclusion.running ≡ None → (round : Round) → st.participation.round ≡ Some round → IsWaiting request st.inclusion → Needs
-    idle none round of (inr waited) = absurd (none_some (sym (live.asked.has.waits none) ∙ waited))
-    idle none round of (inl (x, among, same)) = by_queue st.inclusion.queue refl (live.asked.read (includes round of) none round of) among
+    idle none round of waits = by_queue waits st.inclusion.queue refl (live.asked.read (includes round of) none round of)
       where
-        by_queue : (queue : List (Request U)) → st.inclusion.queue ≡ queue → FirstNeeds c round st queue → IsAmong x queue → Needs
-        by_queue [] is needs among = absurd among
-        by_queue (r ∷ rs) is needs among = of_first round r rs is needs (x, among, same)
+        by_queue : IsWaiting request st.inclusion → (queue : List (Request U)) → st.inclusion.queue ≡ queue → FirstNeeds c round st queue → Needs
+        by_queue (inr waited) queue is needs = absurd (none_some (sym (live.asked.has.waits none) ∙ waited))
+        by_queue (inl (x, among, same)) [] is needs = absurd (subst (IsAmong x) is among)
+        by_queue (inl (x, among, same)) (r ∷ rs) is needs = of_first round (live.asked.has.waits none) r rs is needs
 
-    leaves : MayVerify g.script g.number g.life e j ⊎ Needs
+    leaves : Verifies g.script g.number g.life e j said ⊎ Needs
     leaves = by_round st.participation.round refl
       where
-        by_running : (round : Round) → st.participation.round ≡ Some round → (o : Option Job) → st.inclusion.running ≡ o → IsWaiting request st.inclusion ⊎ IsAnsweredIn request said → MayVerify g.script g.number g.life e j ⊎ Needs
+        by_running : (round : Round) → st.participation.round ≡ Some round → (o : Option Job) → st.inclusion.running ≡ o → IsWaiting request st.inclusion ⊎ IsAnsweredIn request said
+            → Verifies g.script g.number g.life e j said ⊎ Needs
         by_running round of o running (inr (answer, among)) = absurd (its.unanswered answer among)
-        by_running round of (Some job) running (inl waits) = inl (verifying job (subst (λ (o : Option Job). IfSome o (IsRun g e j)) running (tracked.runs apart)))
+        by_running round of (Some job) running (inl waits) = inl (tracked.runs job running).verifies
         by_running round of None running (inl waits) = inr (idle running round of waits)
 
-        by_round : (o : Option Round) → st.participation.round ≡ o → MayVerify g.script g.number g.life e j ⊎ Needs
+        by_round : (o : Option Round) → st.participation.round ≡ o → Verifies g.script g.number g.life e j said ⊎ Needs
         by_round None nothing = absurd (apart ((live.stands).without nothing).0)
         by_round (Some round) of = by_running round of st.inclusion.running refl waiting
 
@@ -310,15 +314,14 @@ module _ (g : Lived) (here : IsLifeInForm g) where
           (came_to (λ (stop : NodeStop). ⊤) (λ end. Reads the_step bare st (known.held).apart sent.message → IsApart end.inclusion) course (went end) out now
           (node_apart the_step bare st (known.held).apart sent.message (λ mail mail_sent. sent_new g here i its is st known.held sent the_step bare mail mail_sent)) lines)
 
-      next_tracked : AreTracked g (suc i) end (said ++ lines.lines)
-      next_tracked = step_tracked g here i its is sent st (its_live g here i its is reached st known.stood) ((known.stood).at).stands known.held end node ((next.stood).at).stands (next.stood).tip said tracked bare out now lines
+      -- its lines say so of requests
+      says : AllByRecursion (IsSaidAt untold g.script g.number g.life (suc i)) lines.lines
+      says =
+          let all = step_lines g here i its is reached st known.stood known.held (went end) out now (subst (λ (k : Course U NodeStop (Live U)). Said (on_devices k) (went end) out now) (sym (sent.course (suc i) st)) lines) in
+          subst (AllByRecursion (IsSaidAt untold g.script g.number g.life (suc i))) (append_cancel_left out all.0 lines.lines (sym all.1 ∙ lines.added)) all.2
 
-  tracked_more : (j : ℕ) (st : Live U) (said more : List Entry) → AreTracked g j st said → AreTracked g j st (said ++ more)
-  tracked_more j st said more tracked = record { all = λ apart n at low made same left_open. right n (tracked.all apart n at low made same left_open); order = tracked.order; runs = tracked.runs }
-    where
-      right : (n : ℕ) → IsWaiting n st.inclusion ⊎ IsAnsweredIn n said → IsWaiting n st.inclusion ⊎ IsAnsweredIn n (said ++ more)
-      right n (inl waits) = inl waits
-      right n (inr (answer, among)) = inr (answer, among_left (entry.Answer n answer) said more among)
+      next_tracked : AreTracked g (suc i) end ((said ++ entry.Step i ∷ []) ++ lines.lines)
+      next_tracked = step_tracked g here i its is sent st (its_live g here i its is reached st known.stood) ((known.stood).at).stands known.held end node ((next.stood).at).stands (next.stood).tip said tracked bare out now lines says
 
   -- the step's entry
   left_at : (j : ℕ) (st : Live U) (said : List Entry) → Known g here j st → AreTracked g j st said → IsLeftAt g.script (Some (g.number, said)) (entry.Step j)
@@ -342,29 +345,33 @@ module _ (g : Lived) (here : IsLifeInForm g) where
   quiet_on : (now : Now) (old mid new : List Entry) → AddsQuiet old mid → new ≡ mid → GrowsOn g.script now old new
   quiet_on now old mid new adds same = record { added = adds.added; parts = same ∙ adds.parts; scan = quiet_scan g.script now adds.added adds.quiet }
 
+  -- .. with the step's entry
+  abbrev past : ℕ → List Entry → List Entry
+  past i said = said ++ entry.Step i ∷ []
+
   event_leaves : (i : ℕ) (its : Event) (st : Live U) (said : List Entry) → slice_get g.life.events i ≡ Some its → IsUncut g.life.cut (suc i) → Known g here i st → AreTracked g i st said → (fuse : Option Burn) → fuse_for g.life.cut (suc i) ≡ fuse
       → (t new : Trace) (how : Result (Unit {0}) Stop) (goes_on : Live U → Trace → Type 0)
-      → (IsReached g.life.cut (suc i) → (end : Live U) (mid : Trace) (more : List Entry) → Known g here (suc i) end → AreTracked g (suc i) end more → goes_on end mid → GrowsOn g.script (Mine more) mid.out new.out)
-      → Steps by_lines (entry.Step (suc i)) fuse (step_of g (suc i) its st) t how new goes_on → GrowsOn g.script (Mine said) t.out new.out
-  event_leaves i its st said is uncut known tracked None none t new how goes_on more steps = grows_none g.script (Mine said) t.out new.out (ap (λ (x : Trace). x.out) steps.1)
-  event_leaves i its st said is uncut known tracked (Some f) lit t new how goes_on more (inl wants) = grows_none g.script (Mine said) t.out new.out (ap (λ (x : Trace). x.out) wants.1)
+      → (IsReached g.life.cut (suc i) → (end : Live U) (mid : Trace) (more : List Entry) → Known g here (suc i) end → AreTracked g (suc i) end more → goes_on end mid → GrowsOn g.script (Mine (past (suc i) more)) mid.out new.out)
+      → Steps by_lines (entry.Step (suc i)) fuse (step_of g (suc i) its st) t how new goes_on → GrowsOn g.script (Mine (past i said)) t.out new.out
+  event_leaves i its st said is uncut known tracked None none t new how goes_on more steps = grows_none g.script (Mine (past i said)) t.out new.out (ap (λ (x : Trace). x.out) steps.1)
+  event_leaves i its st said is uncut known tracked (Some f) lit t new how goes_on more (inl wants) = grows_none g.script (Mine (past i said)) t.out new.out (ap (λ (x : Trace). x.out) wants.1)
   event_leaves i its st said is uncut known tracked (Some f) lit t new how goes_on more (inr (inl (stop, ended, goes))) =
-      quiet_on (Mine said) t.out new.out new.out (step_is_quiet g (suc i) its st (by_node_stop stop) t.out new.out goes.0) refl
+      quiet_on (Mine (past i said)) t.out new.out new.out (step_is_quiet g (suc i) its st (by_node_stop stop) t.out new.out goes.0) refl
   event_leaves i its st said is uncut known tracked (Some f) lit t new how goes_on more (inr (inr (end, mid, goes, inl wants))) =
-      quiet_on (Mine said) t.out mid.out new.out (step_is_quiet g (suc i) its st (went end) t.out mid.out goes.0) (ap (λ (x : Trace). x.out) wants.1)
+      quiet_on (Mine (past i said)) t.out mid.out new.out (step_is_quiet g (suc i) its st (went end) t.out mid.out goes.0) (ap (λ (x : Trace). x.out) wants.1)
   event_leaves i its st said is uncut known tracked (Some f) lit t new how goes_on more (inr (inr (end, mid, goes, inr so))) =
       let reached : IsReached g.life.cut (suc i) = reached_lit g.life.cut (suc i) f lit uncut in
       let adds : AddsQuiet t.out mid.out = step_is_quiet g (suc i) its st (went end) t.out mid.out goes.0 in
       let lines : Said (on_devices (course i its is reached st said known tracked)) (went end) t.out mid.out
       = subst (λ (k : Course U NodeStop (Live U)). Said (on_devices k) (went end) t.out mid.out) ((sent i its is reached st said known tracked).course (suc i) st) goes.0 in
       let known_end : Known g here (suc i) end = next i its is reached st said known tracked end t.out mid.out lines in
-      let tracked_end : AreTracked g (suc i) end (said ++ lines.lines) = next_tracked i its is reached st said known tracked end t.out mid.out lines in
-      said_then (suc i) end said lines.lines t.out mid.out new.out lines.added (subst (AllByRecursion IsQuiet) (append_cancel_left t.out adds.added lines.lines (sym adds.parts ∙ lines.added)) adds.quiet) known_end tracked_end
-      (more reached end (by_lines.says mid (entry.Step (suc i))) ((said ++ lines.lines) ++ entry.Step (suc i) ∷ []) known_end (tracked_more (suc i) end (said ++ lines.lines) (entry.Step (suc i) ∷ []) tracked_end) so)
+      let tracked_end : AreTracked g (suc i) end (past i said ++ lines.lines) = next_tracked i its is reached st said known tracked end t.out mid.out lines in
+      said_then (suc i) end (past i said) lines.lines t.out mid.out new.out lines.added (subst (AllByRecursion IsQuiet) (append_cancel_left t.out adds.added lines.lines (sym adds.parts ∙ lines.added)) adds.quiet) known_end tracked_end
+      (more reached end (by_lines.says mid (entry.Step (suc i))) (past i said ++ lines.lines) known_end tracked_end so)
 
   takes_leave : (i : ℕ) (events : List Event) (st : Live U) (said : List Entry) (t new : Trace) (how : Result (Unit {0}) Stop) → i ≤ length g.life.events → events ≡ drop i g.life.events → IsUncut g.life.cut (suc i) → Known g here i st
-      → AreTracked g i st said → TakesAll by_lines g (suc i) events st t how new → GrowsOn g.script (Mine said) t.out new.out
-  takes_leave i [] st said t new how within rest uncut known tracked its = grows_none g.script (Mine said) t.out new.out (ap (λ (x : Trace). x.out) its.1)
+      → AreTracked g i st said → TakesAll by_lines g (suc i) events st t how new → GrowsOn g.script (Mine (past i said)) t.out new.out
+  takes_leave i [] st said t new how within rest uncut known tracked its = grows_none g.script (Mine (past i said)) t.out new.out (ap (λ (x : Trace). x.out) its.1)
   takes_leave i (x ∷ events) st said t new how within rest uncut known tracked takes =
       event_leaves i x st said (item_at g.life.events i x events rest) uncut known tracked (fuse_for g.life.cut (suc i)) refl t new how (λ end mid. TakesAll by_lines g (suc i + 1) events end mid how new)
       (λ reached end mid more known_end tracked_end so. takes_leave (suc i) events end more mid new how (omega (arith, below)) (rest_at g.life.events i x events rest) (before_suc g.life.cut (suc i) reached) known_end tracked_end
@@ -383,16 +390,27 @@ module _ (g : Lived) (here : IsLifeInForm g) where
       let idle = ((begun.opened).live).idle in
       ((opening_comes g here (went end) out now said).0, ap (λ (x : Live U). x.inclusion.running) same ∙ ap (λ (x : Inclusion U). x.running) idle)
 
-  opened_tracked : (st : Live U) (said : List Entry) → Known g here 0 st → st.inclusion.running ≡ None → AreTracked g 0 st said
-  opened_tracked st said known running = record {
-    all = λ apart n at low made same left_open. absurd (omega (arith, low));
+  opened_tracked : (st : Live U) (said : List Entry) → Known g here 0 st → st.inclusion.running ≡ None → AllByRecursion IsUnanswered said → AreTracked g 0 st said
+  opened_tracked st said known running unanswered = record {
+    all = λ n at low made left_open. absurd (none at low);
+    absent = λ n waits answered. none_in n said unanswered answered;
+    asked = λ n answered. absurd (none_in n said unanswered answered);
     order = by_queue st.inclusion.queue ((known.held).ready).queue;
-    runs = λ apart. subst (λ (o : Option Job). IfSome o (IsRun g (epoch_by g 0) 0)) (sym running) tt;
+    runs = λ job runs. absurd (none_some (sym running ∙ runs));
   }
     where
+      none : (a : ℕ) → a < 0 → ⊥
+      none a low = omega (arith, low)
+
       by_queue : (queue : List (Request U)) → AllByRecursion (IsHeld g (epoch_by g 0) 0) queue → InOrder g 0 0 queue
       by_queue [] held = tt
-      by_queue (r ∷ rs) held = absurd (let low = (held.0).before in omega (arith, low))
+      by_queue (r ∷ rs) held = absurd (none (held.0).at (held.0).before)
+
+  -- an opening answers none
+  opened_lines : (end : Live U) (out now : List Entry) (adds : AddsOpening g.number out now) → Said (on_devices (node_opening (at_step g 0))) (went end) out now → AllByRecursion IsUnanswered adds.more
+  opened_lines end out now adds said =
+      let lines = opening_lines (at_step g 0) (form_at g here 0).reshare (went end) out now said in
+      (subst (λ (xs : List Entry). AllByRecursion IsUnanswered xs) (append_cancel_left out lines.0 (entry.Opened g.number adds.restored ∷ adds.more) (sym lines.1 ∙ adds.parts)) lines.2).1
 
   opened_scan : (now : Now) (restored : List Restored) (more : List Entry) → Scan g.script (Mine []) more → Scan g.script now (entry.Opened g.number restored ∷ more)
   opened_scan None restored more scan = (tt, scan)
@@ -421,12 +439,12 @@ module _ (g : Lived) (here : IsLifeInForm g) where
       let reached : IsReached g.life.cut 0 = reached_lit g.life.cut 0 f lit (before_all g.life.cut) in
       let adds : AddsOpening g.number t.out mid.out = went_opened g.number t.out mid.out end (opened_in g (went end) t.out mid.out goes.0) in
       let known = opened_known end t.out mid.out goes.0 in
+      let tracked : AreTracked g 0 end adds.more = opened_tracked end adds.more known.0 known.1 (opened_lines end t.out mid.out adds goes.0) in
       let one : List Entry = entry.Opened g.number adds.restored ∷ [] in
       grows_then g.script now t.out (t.out ++ one) new.out one refl (opened_scan now adds.restored [] tt)
       (subst (λ (x : Now). GrowsOn g.script x (t.out ++ one) new.out) (sym (opened_after now adds.restored))
-      (said_then 0 end [] adds.more (t.out ++ one) mid.out new.out (adds.parts ∙ sym (append_assoc t.out one adds.more)) adds.quiet known.0 (opened_tracked end adds.more known.0 known.1)
-      (takes_leave 0 g.life.events end (adds.more ++ entry.Step 0 ∷ []) (by_lines.says mid (entry.Step 0)) new how (omega arith) refl (before_suc g.life.cut 0 reached) known.0
-      (opened_tracked end (adds.more ++ entry.Step 0 ∷ []) known.0 known.1) so)))
+      (said_then 0 end [] adds.more (t.out ++ one) mid.out new.out (adds.parts ∙ sym (append_assoc t.out one adds.more)) adds.quiet known.0 tracked
+      (takes_leave 0 g.life.events end adds.more (by_lines.says mid (entry.Step 0)) new how (omega arith) refl (before_suc g.life.cut 0 reached) known.0 tracked so)))
 
   life_leaves : (files : Files) (t new : Trace) (how : Result (Unit {0}) Stop) → LivesSo by_lines g files t how new → (now : Now) → GrowsOn g.script now t.out new.out
   life_leaves files t new how (inl steps) now = opening_leaves now (fuse_for g.life.cut 0) refl t new how steps

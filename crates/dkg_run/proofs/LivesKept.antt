@@ -83,7 +83,7 @@ module _ (s : Setting) (l : ℕ) (life : Life) (cuts : List (Option CutAt)) (j :
   last_is : is_last_step s q ≡ (j == length life.events)
   last_is = rw (lives, life_is, step) refl
 
-  behind : (events : List script.Event) → Rest life (j + 1) events → StandsAt l life cuts (j + 1) events s (read s q (entry.Step j))
+  pub behind : (events : List script.Event) → Rest life (j + 1) events → StandsAt l life cuts (j + 1) events s (read s q (entry.Step j))
   behind [] rest = subst (λ (last : Bool). StandsAt l life cuts (j + 1) [] s (cond last (with_life_ended q None) (record q { step = suc q.step; written = [] }))) (sym (last_is ∙ eq-eqb j (length life.events) (omega (arith, rest))))
       (record { lives = length-more q.cuts None ∙ ap (λ (n : ℕ). n + 1) lives; step = refl; nothing = refl }, ap (λ (x : List (Option CutAt)). x ++ None ∷ []) cuts_are)
   behind (event ∷ events) rest = subst (λ (last : Bool). StandsAt l life cuts (j + 1) (event ∷ events) s (cond last (with_life_ended q None) (record q { step = suc q.step; written = [] }))) (sym (last_is ∙ differs))
@@ -154,13 +154,13 @@ abbrev pub LeavesLife : ℕ → Life → Result (Unit {0}) Stop → Held → Set
 LeavesLife l life (Ok done) h s marks p = IsBetween (l + 1) s p × RestsIn h s p × (marks → LogsKnown s (begun_before s p.cuts (length p.cuts)) p.recorded (logs_in (notes h)))
 LeavesLife l life (Err stop) h s marks p = IsStopped l life stop h s marks p
 
-logs_later : (s : Setting) (b c : ℕ) (pairs : List Restored) (logs : Notes RecordedLog) → b ≤ c → LogsKnown s b pairs logs → LogsKnown s c pairs logs
+pub logs_later : (s : Setting) (b c : ℕ) (pairs : List Restored) (logs : Notes RecordedLog) → b ≤ c → LogsKnown s b pairs logs → LogsKnown s c pairs logs
 logs_later s b c pairs logs low known = λ key noted now there. known key noted (omega (arith, low, now)) there
 
-may_later : (b c : ℕ) (s : Setting) (p : Progress) (m : _) → b ≤ c → MayBeKept b s p m → MayBeKept c s p m
+pub may_later : (b c : ℕ) (s : Setting) (p : Progress) (m : _) → b ≤ c → MayBeKept b s p m → MayBeKept c s p m
 may_later b c s p m low may = record { given = current_later b c (Gives m) low p.recorded may.given; known = may.known; first = may.first }
 
-stops_saved : (Call : ℕ → Type 0) (b l : ℕ) (life : Life) (j : ℕ) (stop : Stop) (h : Held) (s : Setting) (marks : Type 0) (p : Progress) → length p.cuts ≡ l → p.step ≡ j → b ≤ begun s p.cuts l j
+pub stops_saved : (Call : ℕ → Type 0) (b l : ℕ) (life : Life) (j : ℕ) (stop : Stop) (h : Held) (s : Setting) (marks : Type 0) (p : Progress) → length p.cuts ≡ l → p.step ≡ j → b ≤ begun s p.cuts l j
     → (stop ≡ Cut → (its : cut.Cut) → life.cut ≡ Some its → (its.step ≡ j) × Call its.call × (b ≤ begun s p.cuts l (taken_by life its)))
     → ((its : cut.Cut) → Call its.call → (marks × IsKnownAt s p (entry.Cut its.step its.call)) → LogsKnown s b p.recorded (logs_in (notes h))) → IsSaved Call b h s p → IsStopped l life stop h s marks p
 stops_saved Call b l life j stop h s marks p lives step low is_cut logs saved = record {
@@ -183,16 +183,16 @@ memory_no_cut P e = absurd (apart e)
 -- DEVICES that stay as they were
 
 module _ (old new : Held) (stays : StaysHeld old new) where
-  held_whole : IsWhole (notes old) old.secrets → IsWhole (notes new) new.secrets
+  pub held_whole : IsWhole (notes old) old.secrets → IsWhole (notes new) new.secrets
   held_whole whole = rw (stays.entries, stays.secrets) whole
 
-  held_pairs : recovered_in new ≡ recovered_in old
+  pub held_pairs : recovered_in new ≡ recovered_in old
   held_pairs = rw (stays.entries, stays.secrets) refl
 
 -- FUSES
 
 -- a step that isn't begun is the one before which the script cuts
-cut_before : (o : Option cut.Cut) (j : ℕ) → fuse_for o j ≡ None → (its : cut.Cut) → o ≡ Some its → (its.step ≡ j) × ((its.call == 0) ≡ true)
+pub cut_before : (o : Option cut.Cut) (j : ℕ) → fuse_for o j ≡ None → (its : cut.Cut) → o ≡ Some its → (its.step ≡ j) × ((its.call == 0) ≡ true)
 cut_before None j fuse its is = absurd (none_some its is)
 cut_before (Some at) j fuse its is = subst (λ (x : cut.Cut). (x.step ≡ j) × ((x.call == 0) ≡ true)) (some_is at its is) (by_step (at.step == j) refl fuse)
   where
@@ -205,7 +205,7 @@ cut_before (Some at) j fuse its is = subst (λ (x : cut.Cut). (x.step ≡ j) × 
     by_step false e fuse = absurd (none_some never (sym fuse))
 
 -- a step with a fuse that can burn is the one within which it does
-cut_within : (o : Option cut.Cut) (j : ℕ) (f : Burn) → fuse_for o j ≡ Some f → f.spent < f.call → (its : cut.Cut) → o ≡ Some its → (its.step ≡ j) × (0 < its.call)
+pub cut_within : (o : Option cut.Cut) (j : ℕ) (f : Burn) → fuse_for o j ≡ Some f → f.spent < f.call → (its : cut.Cut) → o ≡ Some its → (its.step ≡ j) × (0 < its.call)
 cut_within None j f fuse burns its is = absurd (none_some its is)
 cut_within (Some at) j f fuse burns its is = subst (λ (c : cut.Cut). (c.step ≡ j) × (0 < c.call)) (some_is at its is) (by_step (at.step == j) refl fuse)
   where
@@ -221,10 +221,10 @@ cut_within (Some at) j f fuse burns its is = subst (λ (c : cut.Cut). (c.step �
     by_step false e fuse = absurd (cold (some_is never f fuse))
 
 -- how many events a cut leaves taken
-taken_before : (life : Life) (its : cut.Cut) (j : ℕ) → its.step ≡ j → (its.call == 0) ≡ true → taken_by life its ≡ j - 1
+pub taken_before : (life : Life) (its : cut.Cut) (j : ℕ) → its.step ≡ j → (its.call == 0) ≡ true → taken_by life its ≡ j - 1
 taken_before life its j step none = ap (λ (t : Bool). cond t (its.step - 1) its.step) none ∙ ap (λ (n : ℕ). n - 1) step
 
-taken_within : (life : Life) (its : cut.Cut) (j : ℕ) → its.step ≡ j → 0 < its.call → taken_by life its ≡ j
+pub taken_within : (life : Life) (its : cut.Cut) (j : ℕ) → its.step ≡ j → 0 < its.call → taken_by life its ≡ j
 taken_within life its j step some = ap (λ (t : Bool). cond t (its.step - 1) its.step) (is_some its.call some) ∙ step
   where
     is_some : (n : ℕ) → 0 < n → (n == 0) ≡ false
@@ -254,7 +254,7 @@ module _ (s : Setting) (ends : List (Option CutAt)) (l : ℕ) (life : Life) (see
     burns {S} course f w new stop run is = (cuts_fall course (broken by_cut) (record w { fuse = f }) new (subst (λ (x : Stop). EndsSo course (by_node_stop {S = S} x) (record w { fuse = f }) new) is run)).0
 
     -- behind a step's entry, by which more is known
-    told_going : (marks later : Type 0) (i j : ℕ) (end : Live U) (h : Held) (q : Progress) → (later → marks) → length q.cuts ≡ l → q.step ≡ j → q.cuts ≡ cuts → Going marks i end h q
+    pub told_going : (marks later : Type 0) (i j : ℕ) (end : Live U) (h : Held) (q : Progress) → (later → marks) → length q.cuts ≡ l → q.step ≡ j → q.cuts ≡ cuts → Going marks i end h q
         → Going later i end h (read s q (entry.Step j))
     told_going marks later i j end h q before lives step cuts_are going = record {
       carries = record {
@@ -278,7 +278,7 @@ module _ (s : Setting) (ends : List (Option CutAt)) (l : ℕ) (life : Life) (see
     }
 
     -- what has begun, over the cuts of this progress
-    at_cuts : (p : Progress) (i j : ℕ) → p.cuts ≡ cuts → b i ≤ b j → b i ≤ begun s p.cuts l j
+    pub at_cuts : (p : Progress) (i j : ℕ) → p.cuts ≡ cuts → b i ≤ b j → b i ≤ begun s p.cuts l j
     at_cuts p i j are low = subst (λ (x : List (Option CutAt)). b i ≤ begun s x l j) (sym are) low
 
     same_or : (a c : ℕ) → a ≡ c → a ≤ c

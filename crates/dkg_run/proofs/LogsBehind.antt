@@ -89,7 +89,7 @@ module _ {Dir : Type 0} (c : Fixed Dir) (st : Live Dir) where
       by_test false = refl
   asked_logs (Work handed) = refl
 
-  dealt_logs : (b : Block Dir) (x : Live Dir) → (dealt_behind c b x).records.logs ≡ x.records.logs
+  pub dealt_logs : (b : Block Dir) (x : Live Dir) → (dealt_behind c b x).records.logs ≡ x.records.logs
   dealt_logs b x = by_test (b.height + 1 == midpoint c.blocks_per_epoch x.participation.epoch)
     where
       by_test : (t : Bool) → (if t then begins_inclusion c (with_tip b x) else with_tip b x).records.logs ≡ x.records.logs

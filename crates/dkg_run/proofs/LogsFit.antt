@@ -14,6 +14,7 @@ use Rattle.dkg_types.specs.declared.directory.Unit as directory
 use Rattle.dkg_types.specs.declared.payload.Payload.{Payload}
 use Rattle.dkg_types.specs.declared.payload.Payload.TheVariants as payload
 use Rattle.dkg_text.specs.declared.script.BlockLine.{BlockLine}
+use Rattle.dkg_text.specs.declared.script.ScriptConfig.{ScriptConfig}
 use Rattle.dkg_script.specs.Readings.{Limits, unit_payload}
 use Rattle.dkg_store.specs.Events.{no_limit}
 use Rattle.dkg_core.specs.Agreeing.{BringsRecords}
@@ -54,23 +55,24 @@ read_fits limits bytes log are is =
     ((payload_grammar (λ peers u. ⊤) unit_spelling (λ _. unit_at) (λ _ _. true) (λ peers. unit_grammar) limits.most limits.version).found bytes (payload.DealerLog log) [] are
     (whole_is (payload_at (λ _. unit_at) (λ _ _. true) limits.most limits.version bytes) (payload.DealerLog log) (ok_of (whole (payload_at (λ _. unit_at) (λ _ _. true) limits.most limits.version bytes)) (payload.DealerLog log) is))).0
 
+-- the log that a line's payload is
+pub log_read : (config : ScriptConfig) (o : Option (List ℕ)) → IfSome o IsBytes → (log : SignedDealerLog) → option_and_then its_log (payload_in config o) ≡ Some log → SignedFits (non_zero_u32_get config.limit) log
+log_read config None are log is = absurd (none_some log is)
+log_read config (Some its) are log is = by_payload (unit_payload limits its) refl is
+  where
+    limits : Limits
+    limits = record { most = non_zero_u32_get config.limit; version = config.max_mode.0; addressed = false }
+
+    by_payload : (o : Option (Payload directory.Unit)) → unit_payload limits its ≡ o → option_and_then its_log o ≡ Some log → SignedFits (non_zero_u32_get config.limit) log
+    by_payload None read is = absurd (none_some log is)
+    by_payload (Some (payload.EpochInfo info)) read is = absurd (none_some log is)
+    by_payload (Some (payload.DealerLog x)) read is = subst (λ (y : SignedDealerLog). SignedFits (non_zero_u32_get config.limit) y) (some_is is) (read_fits limits its x are read)
+
 -- WHAT A BLOCK BRINGS
 module _ (g : Lived) (bytes : AreBytes g.script.blocks) (heights : AllByRecursion (λ (line : BlockLine). line.height < 2 ^ 64) g.script.blocks) (few : non_zero_u32_get g.script.config.limit ≤ 2 ^ 30) (i number : ℕ) (made_it : IsMadeOf g.script number) where
-  log_read : (o : Option (List ℕ)) → IfSome o IsBytes → (log : SignedDealerLog) → option_and_then its_log (payload_in g.script.config o) ≡ Some log → SignedFits (non_zero_u32_get g.script.config.limit) log
-  log_read None are log is = absurd (none_some log is)
-  log_read (Some its) are log is = by_payload (unit_payload limits its) refl is
-    where
-      limits : Limits
-      limits = record { most = non_zero_u32_get g.script.config.limit; version = g.script.config.max_mode.0; addressed = false }
-
-      by_payload : (o : Option (Payload directory.Unit)) → unit_payload limits its ≡ o → option_and_then its_log o ≡ Some log → SignedFits (non_zero_u32_get g.script.config.limit) log
-      by_payload None read is = absurd (none_some log is)
-      by_payload (Some (payload.EpochInfo info)) read is = absurd (none_some log is)
-      by_payload (Some (payload.DealerLog x)) read is = subst (λ (y : SignedDealerLog). SignedFits (non_zero_u32_get g.script.config.limit) y) (some_is is) (read_fits limits its x are read)
-
   pub block_fits : BringsRecords (at_step g i) (Finalized made_it.block)
   block_fits = λ log is.
-      let fits = log_read (made_it.line).payload (holds_at (λ (line : BlockLine). IfSome line.payload IsBytes) g.script.blocks number made_it.line bytes made_it.line_is) log (ap (option_and_then its_log) (sym made_it.payload) ∙ is) in
+      let fits = log_read g.script.config (made_it.line).payload (holds_at (λ (line : BlockLine). IfSome line.payload IsBytes) g.script.blocks number made_it.line bytes made_it.line_is) log (ap (option_and_then its_log) (sym made_it.payload) ∙ is) in
       record {
         one = fits.one;
         other = record {
@@ -92,4 +94,4 @@ module _ (g : Lived) (bytes : AreBytes g.script.blocks) (heights : AllByRecursio
           each : (o : Option SignedDealerLog) → option_and_then its_log (payload_in g.script.config (made_it.line).payload) ≡ o → IfSome o Within
           each None is = tt
           each (Some log) is =
-              (log_read (made_it.line).payload (holds_at (λ (line : BlockLine). IfSome line.payload IsBytes) g.script.blocks number made_it.line bytes made_it.line_is) log is).other.one
+              (log_read g.script.config (made_it.line).payload (holds_at (λ (line : BlockLine). IfSome line.payload IsBytes) g.script.blocks number made_it.line bytes made_it.line_is) log is).other.one

@@ -1,9 +1,10 @@
 -- What a node's opening of the form leaves on the devices of dealings, wherever it ends: those from before, and all of them of the epoch that it starts in and of the one before on,
 -- whatever blocks its source has.
-use Rattle.std.proofs.Common.{◌≡◌, inl, inr, ◌≤◌, ℕ, Bool, true, false, cond, nat_le, List, [], ◌∷◌, ◌++◌, map, Option, Some, None, refl, sym, ◌∙◌, ap, subst, arith, append_assoc, append-nil}
+use Rattle.std.proofs.Common.{◌≡◌, ◌⊎◌, inl, inr, ◌<◌, ◌≤◌, ℕ, Bool, true, false, cond, nat_le, List, [], ◌∷◌, ◌++◌, map, Option, Some, None, refl, sym, ◌∙◌, ap, subst, arith, append_assoc, append-nil}
 use Rattle.std.specs.Prelude.{◌+◌, ◌-◌}
 use Rattle.std.specs.Option.{option_map_or}
 use Rattle.std.specs.FinMap.{get, get-retain_keys}
+use Rattle.std.proofs.lemmas.Bool.Decides.{nat_tests}
 use Rattle.std.proofs.lemmas.List.{append_cancel_left}
 use Rattle.dkg_values.specs.Rising.{lookup}
 use Rattle.dkg_ceremony.specs.Schedule.{epoch_of}
@@ -123,27 +124,41 @@ module _ {Dir : Type 0} (c : Fixed Dir) (form : IsForm c) (w : World) where
   keeps : Throughout K (opening c) w
   keeps = opening_walks c form K (λ x line q. q) (λ x new is_es is_t q key above. ap (λ (m : Pairs). get m key) (same_given x new is_es is_t) ∙ q key above) sets_kept w (λ key above. refl)
 
-  -- ITS LOGS: those from before
+  -- ITS LOGS: those from before, without some of epochs that are pruned
+
+  abbrev IsLogLeft : World → (key : ℕ × ℕ) → Type 0
+  IsLogLeft x key = (get (logs_in (notes x.held)) key ≡ get (logs_in (notes w.held)) key) ⊎ ((key.0 < most) × (get (logs_in (notes x.held)) key ≡ None))
 
   abbrev L : World → Type 0
-  L x = (key : ℕ × ℕ) (log : RecordedLog) → get (logs_in (notes x.held)) key ≡ Some log → get (logs_in (notes w.held)) key ≡ Some log
-
-  logs_pruned : (min : ℕ) (es : List Entry) (key : ℕ × ℕ) (log : RecordedLog) → get (logs_in (from_section min es)) key ≡ Some log → get (logs_in es) key ≡ Some log
-  logs_pruned min es key log got = by_test (nat_le min key.0) (sym at_key ∙ got)
-    where
-      at_key : get (logs_in (from_section min es)) key ≡ cond (nat_le min key.0) (get (logs_in es) key) None
-      at_key = ap (λ (m : Notes RecordedLog). get m key) (logs_from min es)
-          ∙ get-retain_keys (logs_in es) (λ (x : ℕ × ℕ). nat_le min x.0) key (λ x tied. ap (λ (y : ℕ × ℕ). nat_le min y.0) (sym (exact_keys key x tied)))
-
-      by_test : (t : Bool) → cond t (get (logs_in es) key) None ≡ Some log → get (logs_in es) key ≡ Some log
-      by_test true is = is
-      by_test false is = absurd (let no : ◌≡◌ {A = Option RecordedLog} None (Some log) = is in cc)
+  L x = (key : ℕ × ℕ) → IsLogLeft x key
 
   same_logs : (x new : World) → notes new.held ≡ notes x.held → L x → L new
-  same_logs x new is_es q key log got = q key log (subst (λ (es : List Entry). get (logs_in es) key ≡ Some log) is_es got)
+  same_logs x new is_es q key = elim (q key) [
+    | inl is ↦ inl (ap (λ (es : List Entry). get (logs_in es) key) is_es ∙ is)
+    | inr none ↦ inr (none.0, ap (λ (es : List Entry). get (logs_in es) key) is_es ∙ none.1)
+  ]
 
-  from_logs : (min : ℕ) (x new : World) → notes new.held ≡ from_section min (notes x.held) → L x → L new
-  from_logs min x new is_es q key log got = q key log (logs_pruned min (notes x.held) key log (subst (λ (es : List Entry). get (logs_in es) key ≡ Some log) is_es got))
+  from_logs : (min : ℕ) → min ≤ most → (x new : World) → notes new.held ≡ from_section min (notes x.held) → L x → L new
+  from_logs min low x new is_es q key = by_test (nat_le min key.0) refl
+    where
+      under : (a b : ℕ) → nat_le a b ≡ false → b < a
+      under a b e = grind (arith, nat_tests)
+
+      at_key : get (logs_in (notes new.held)) key ≡ cond (nat_le min key.0) (get (logs_in (notes x.held)) key) None
+      at_key = ap (λ (es : List Entry). get (logs_in es) key) is_es ∙ ap (λ (m : Notes RecordedLog). get m key) (logs_from min (notes x.held))
+          ∙ get-retain_keys (logs_in (notes x.held)) (λ (x : ℕ × ℕ). nat_le min x.0) key (λ x tied. ap (λ (y : ℕ × ℕ). nat_le min y.0) (sym (exact_keys key x tied)))
+
+      by_test : (t : Bool) → nat_le min key.0 ≡ t → IsLogLeft new key
+      by_test true is =
+          let same = at_key ∙ ap (λ (t : Bool). cond t (get (logs_in (notes x.held)) key) None) is in
+          elim (q key) [
+            | inl was ↦ inl (same ∙ was)
+            | inr none ↦ inr (none.0, same ∙ none.1)
+          ]
+      by_test false is = inr (
+        (let below = under min key.0 is in omega (arith, below, low)),
+        at_key ∙ ap (λ (t : Bool). cond t (get (logs_in (notes x.held)) key) None) is,
+      )
 
   logs_commits : (info : EpochInfo Dir) (seed : List ℕ) (share : Option ℕ) (st : Live Dir) (x : World) → L x → Throughout {Dir = Dir} L (s.commits info seed share st) x
   logs_commits info seed None st x q = (λ cause new tears. same_logs x new (ap (λ (j : Journaled). j.entries) tears.torn.0) q, (q, q))
@@ -152,21 +167,24 @@ module _ {Dir : Type 0} (c : Fixed Dir) (form : IsForm c) (w : World) where
     (λ cause new tears. same_logs (does x (Changes (PutShare info.epoch share))) new (ap (λ (j : Journaled). j.entries) tears.torn.0) q, (q, q)),
   )
 
-  logs_prune : (min : ℕ) (st : Live Dir) (x : World) → L x → Throughout L (s.prunes min st) x
-  logs_prune min st x q =
-      let done : L (does x (OnDisk (Prunes min))) = from_logs min x (does x (OnDisk (Prunes min))) refl q in
+  logs_prune : (min : ℕ) → min ≤ most → (st : Live Dir) (x : World) → L x → Throughout L (s.prunes min st) x
+  logs_prune min low st x q =
+      let done : L (does x (OnDisk (Prunes min))) = from_logs min low x (does x (OnDisk (Prunes min))) refl q in
       (λ cause new tears. left new tears.torn.1, (λ cause new tears. same_logs (does x (OnDisk (Prunes min))) new (ap (λ (j : Journaled). j.entries) tears.torn.0) done, done))
     where
       left : (new : World) → IsLeft (Prunes min) x.held.journaled new.held.journaled → L new
       left new (inl is) = same_logs x new (ap (λ (j : Journaled). j.entries) is) q
-      left new (inr (inl is)) = from_logs min x new (ap (λ (j : Journaled). j.entries) is) q
-      left new (inr (inr part)) = from_logs part.0 x new (ap (λ (j : Journaled). j.entries) part.2) q
+      left new (inr (inl is)) = from_logs min low x new (ap (λ (j : Journaled). j.entries) is) q
+      left new (inr (inr part)) = let under = part.1 in from_logs part.0 (omega (arith, under, low)) x new (ap (λ (j : Journaled). j.entries) part.2) q
 
   logs_before : Throughout L (opening c) w
   logs_before = opening_walks c form L (λ x line q. q) (λ x new is_es is_t q. same_logs x new is_es q)
-      (λ st x is q. walk.setup c L (λ x line aside q. q) (epoch_of c.blocks_per_epoch (awaited_height st) - 1)
+      (λ st x is q. walk.setup c L (λ x line aside q. q) most
       (λ info at x q. logs_commits info (s.seed_for c info.epoch (lookup info.epoch (c.seen x.held).seeds)) (s.recovered_share c (c.seen x.held) info) at x q)
-      (λ min low at x q. logs_prune min at x q) None st x (omega arith) q) w (λ key log got. got)
+      (λ min low at x q. logs_prune min low at x q) None st x (less (epoch_of c.blocks_per_epoch (awaited_height st)) (first_epoch c) is) q) w (λ key. inl refl)
+    where
+      less : (a b : ℕ) → a ≡ b → a - 1 ≤ b - 1
+      less a b is = omega (arith, is)
 
   -- AN OPENING THAT SAID NOTHING left what the devices give back
   longer : (x : Line) (front back : List Line) → w.out ≡ (front ++ x ∷ []) ++ back → front ≡ w.out → ⊥
@@ -220,8 +238,21 @@ module _ {Dir : Type 0} (c : Fixed Dir) (form : IsForm c) (w : World) where
       | inr none ↦ absurd none
     ]
 
+    logs_left : L new
+    logs_left key = subst (λ (h : Held). IsLogLeft (record new { held = h }) key) (sym half.held) (along_runs L (on_devices (opening c)) half.half w half.mid logs_before half.run key)
+
     pub opening_logs : (key : ℕ × ℕ) (log : RecordedLog) → get (logs_in (notes new.held)) key ≡ Some log → get (logs_in (notes w.held)) key ≡ Some log
-    opening_logs key log got = along_runs L (on_devices (opening c)) half.half w half.mid logs_before half.run key log (subst (λ (h : Held). get (logs_in (notes h)) key ≡ Some log) half.held got)
+    opening_logs key log got = elim (logs_left key) [
+      | inl same ↦ sym same ∙ got
+      | inr none ↦ absurd (let no : ◌≡◌ {A = Option RecordedLog} None (Some log) = sym none.1 ∙ got in cc)
+    ]
+
+    -- .. and of the epoch before that in which it starts, and of later ones, all of them
+    pub opening_notes : (key : ℕ × ℕ) → first_epoch c - 1 ≤ key.0 → get (logs_in (notes new.held)) key ≡ get (logs_in (notes w.held)) key
+    opening_notes key high = elim (logs_left key) [
+      | inl same ↦ same
+      | inr none ↦ absurd (let low = none.0 in omega (arith, low, high))
+    ]
 
     pub opening_unsaid : new.out ≡ w.out → recovered_in new.held ≡ recovered_in w.held
     opening_unsaid silent =

@@ -1,5 +1,5 @@
 -- The promise of a run, of what its lines and its worlds are and of what is known of the devices.
-use Rattle.std.proofs.Common.{◌≡◌, ◌⊎◌, inl, inr, true, false, ◌++◌, ◌∷◌, [], ℕ, List, Option, Some, None, Result, Ok, Err, sym, ◌∙◌, subst}
+use Rattle.std.proofs.Common.{◌≡◌, ◌⊎◌, inl, inr, true, false, ◌+◌, ◌++◌, ◌∷◌, [], ℕ, List, Option, Some, None, Result, Ok, Err, sym, ◌∙◌, subst}
 use Rattle.std.specs.Prelude.{IfErr, OnOk}
 use Rattle.std.proofs.lemmas.List.{append_cancel_left}
 use Rattle.std.specs.List.{AllByRecursion}
@@ -13,11 +13,12 @@ use Rattle.dkg_types.specs.declared.fault.Fault.TheVariants.{NoMemory}
 use Rattle.dkg_text.specs.declared.script.Script.{Script}
 use Rattle.dkg_script.specs.Ends.{EndsInFault, EndsWell}
 use Rattle.dkg_script.specs.Inclusion.{IsFormOfInclusion}
+use Rattle.dkg_script.specs.Order.{InOrder}
 use Rattle.dkg_script.specs.Promise.{Adds, AnswersDealings, KeepsDealings, RunsAll, RunsInOrder, cuts_in}
 use Rattle.dkg_script.specs.AsCut.{setting_as_cut}
 use Rattle.dkg_script.specs.SameOffers.{OffersTheSame}
 use Rattle.dkg_script.specs.Setting.{Setting, setting_of}
-use Rattle.dkg_run.specs.Answers.{AnswersSo}
+use Rattle.dkg_run.specs.Answers.{AnswersSo, AnswersThePath}
 use Rattle.dkg_run.specs.Blamed.{BlamesSo}
 use Rattle.dkg_run.specs.Causes.{HasCause}
 use Rattle.dkg_run.specs.Complete.{IsSoundRun, IsValidAsCut}
@@ -31,9 +32,9 @@ use Rattle.dkg_run.specs.Lives.{AnyFiles, RunsSo, TellsEnd}
 use Rattle.dkg_run.specs.Over.{Over}
 use Rattle.dkg_run.specs.Promised.{DoesRun, Promised}
 use Rattle.dkg_run.specs.Refusals.{BlamesOnlySkips}
-use Rattle.dkg_run.specs.SharesStand.{CommitsFit, Fits}
+use Rattle.dkg_run.specs.SharesStand.{CommitsExactly, CommitsFit, Fits}
 use Rattle.dkg_run.specs.Ways.{by_lines, trace}
-use Rattle.dkg_run.proofs.Begun.{begun_answers, begun_commits, begun_keeps, begun_offers, begun_plans, begun_valid, begun_valid_uncut, begun_whole, cut_form, cut_runs, cut_script}
+use Rattle.dkg_run.proofs.Begun.{begun_answers, begun_commits, begun_exactly, begun_keeps, begun_offers, begun_paths, begun_plans, begun_valid, begun_valid_uncut, begun_whole, cut_form, cut_runs, cut_script}
 use Rattle.dkg_run.proofs.Blaming.{run_answers, run_blames}
 use Rattle.dkg_run.proofs.Completing.{unblamed}
 use Rattle.dkg_run.proofs.Finishing.{completes}
@@ -45,7 +46,7 @@ use Rattle.dkg_run.proofs.Ordered.{run_all_lives, run_in_order}
 use Rattle.dkg_run.proofs.Places.{all_of_both}
 use Rattle.dkg_run.proofs.Skipping.{run_skips}
 use Rattle.dkg_run.proofs.Telling.{run_ends}
-use Rattle.dkg_run.proofs.Unbegun.{ToldNone, Unmoved, none_answered, none_answers, none_commits, none_completes, none_ends, none_keeps, none_left, none_offers, none_plans, none_shows, none_skips, none_valid, none_whole}
+use Rattle.dkg_run.proofs.Unbegun.{ToldNone, Unmoved, none_answered, none_answers, none_commits, none_committed, none_completes, none_ends, none_keeps, none_left, none_offers, none_paths, none_plans, none_shows, none_skips, none_valid, none_whole}
 
 -- WHAT IS KNOWN OF WHAT ENDED THE LIVES is known where it is told
 pub known_told : (F : Fault → Type 0) (its answered : Fault) (mid new : List Entry) (picks : List ℕ) → F NoMemory → TellsEnd by_lines (Err its) (Err answered) (trace mid picks) (trace new picks) → F its → F answered
@@ -122,7 +123,9 @@ module _ (script : Script) (form : IsFormOfInclusion script) (o : Over) (disk_of
     pub offers : o.tells → Stands o.before.files o.before.image → OffersTheSame script o.before.files o.before.held added
     pub requests : AnswersSo script added
     pub leaves : LeavesSo script added
+    pub paths : o.tells → Stands o.before.files o.before.image → AnswersThePath script o.before.files o.before.held added
     pub shares : o.tells → Stands o.before.files o.before.image → CommitsFit script o.before.files o.before.held added
+    pub exactly : o.tells → Stands o.before.files o.before.image → CommitsExactly script o.before.files o.before.held added
     pub complete : IfErr answered (λ its. IsSoundRun o (IsValidAsCut script added) → its ≡ NoMemory)
     pub gives_back : o.tells → GivesBack script answered o.before o.now added
 
@@ -152,7 +155,9 @@ module _ (script : Script) (form : IsFormOfInclusion script) (o : Over) (disk_of
         offers = λ told here form consistent. none_offers script o answered old new added is none;
         requests = none_answered script o answered old new added is none;
         leaves = none_left script o answered old new added is none;
+        paths = λ told here form history devices. none_paths script o answered old new added is none (setting_as_cut script o.before.files o.before.held added);
         shares = λ told here form consistent fit. none_commits script o answered old new added is none (Fits (setting_as_cut script o.before.files o.before.held added));
+        exactly = λ told here form history honest devices fit before after epoch share parts own ends_it. absurd (none_committed script o answered old new added is none before after (epoch + 1) share parts);
         complete = none_completes script o answered old new added is none;
         gives_back = λ told. record {
           fit = fits told;
@@ -198,6 +203,9 @@ module _ (script : Script) (form : IsFormOfInclusion script) (o : Over) (disk_of
     completed (Ok done) so = tt
     completed (Err its) so = λ sound. so sound.tells sound.valid sound.no_disk_rose sound.no_secrets_rose
 
+    in_its_order : InOrder its_setting added
+    in_its_order = added_so old new added (RunsInOrder its_script) is (run_in_order its_script AnyFiles (trace old []) (trace new picks) answered as_it_was) o.before.files o.before.held
+
     begun_shown : Shown added
     begun_shown = record {
       ends = subst (λ (c : Option Fault). EndsScript c answered added o.disk_rose o.secrets_rose) (sym checked) run_ended;
@@ -209,7 +217,9 @@ module _ (script : Script) (form : IsFormOfInclusion script) (o : Over) (disk_of
       offers = begun_offers script form checked bytes o disk_of answered old new added is runs itself left;
       requests = added_so old new added (AnswersSo script) is (run_answers script checked (lives_over script form checked) AnyFiles (trace old []) (trace new picks) answered run);
       leaves = added_so old new added (LeavesSo script) is (run_leaves script checked (lives_over script form checked) AnyFiles (trace old []) (trace new picks) answered run);
+      paths = begun_paths script form checked bytes o disk_of answered old new added is runs itself left in_its_order;
       shares = begun_commits script form checked bytes o disk_of answered old new added is runs itself left;
+      exactly = begun_exactly script form checked bytes o disk_of answered old new added is runs itself left in_its_order;
       complete = completed answered all_completed;
       gives_back = λ told. record {
         fit = fits told;
@@ -241,7 +251,9 @@ module _ (script : Script) (form : IsFormOfInclusion script) (o : Over) (disk_of
     offers = its.offers;
     answers = its.requests;
     leaves = its.leaves;
+    paths = its.paths;
     shares = its.shares;
+    exactly = its.exactly;
     complete = its.complete;
     gives_back = its.gives_back;
   }

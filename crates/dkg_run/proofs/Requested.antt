@@ -21,14 +21,14 @@ use Rattle.dkg_text.specs.declared.script.Event.{Event}
 use Rattle.dkg_text.specs.declared.script.Event.TheVariants as event
 use Rattle.dkg_store.specs.Acts.{Held}
 use Rattle.dkg_script.specs.Asked.{AskAnew}
-use Rattle.dkg_core.specs.Asked.{IsEmptied}
+use Rattle.dkg_core.specs.Asked.{InRound, IsEmptied}
 use Rattle.dkg_core.specs.Blocks.{unoffered, with_log, without_own_log}
 use Rattle.dkg_core.specs.Fixed.{Fixed}
 use Rattle.dkg_core.specs.Forms.{Applied, Judged, Passed, Refusal, judged_block}
 use Rattle.dkg_core.specs.Including.{Found, read_of, releases, is_served_at}
 use Rattle.dkg_core.specs.Laws.{IsAmong}
 use Rattle.dkg_core.specs.Live as core
-use Rattle.dkg_core.specs.Live.{Cancel, Deals, Dealer, Ends, EpochInfoOf, Feed, Finalized, Follows, Inclusion, Includes, Job, Live, Mail, Message, NextLog, Over, Peer, ReleaseLog, Request, Sent, Stage, VerifiedLogs, Work, is_last_height, recorded_at, with_inclusion, with_participation, with_tip}
+use Rattle.dkg_core.specs.Live.{Cancel, Deals, Ends, EpochInfoOf, Feed, Finalized, Follows, Inclusion, Includes, Job, Live, Mail, Message, NextLog, Over, Peer, ReleaseLog, Request, Sent, Stage, VerifiedLogs, Work, is_last_height, recorded_at, with_inclusion, with_participation, with_tip}
 use Rattle.dkg_core.specs.Logs.{canonical, filled_by, is_accepted}
 use Rattle.dkg_core.specs.NodeThrough.{IsNodeThrough}
 use Rattle.dkg_core.specs.Setup.{begins_inclusion}
@@ -199,6 +199,22 @@ module _ (c : Fixed U) where
       by_test false = refl
   asked_same (Work handed) st = refl
 
+-- WHAT IS KNOWN of the recorded logs by which requests are read: by the epoch that is awaited then, the step, and the round
+abbrev pub Knows : Type 1
+Knows = (epoch read : ℕ) → Round → LogMap → Type 0
+
+-- nothing
+abbrev pub untold : Knows
+untold epoch read round recorded = Unit {0}
+
+-- The life in which requests are read in a step.
+abbrev pub IsReadFor : Fixed U → Live U → Message U → Live U → Type 0
+IsReadFor c st (Sent mail) x = x ≡ asked_by mail st
+IsReadFor c st (Finalized b) x =
+    (judged_block c b st ≡ Applied)
+    × (((st.participation.stage ≡ Deals) × (x ≡ dealt_behind c b (given_itself c st)))
+    ⊎ ((st.participation.stage ≡ Includes) × (is_last_height c b.height ≡ false) × InRound st (λ round. x ≡ included c round b st)))
+
 -- IN A LIFE OF A SCRIPT
 
 module _ (g : Lived) where
@@ -211,6 +227,7 @@ module _ (g : Lived) where
     pub stands : standing_of g.life r.number j ≡ stands_as r.ended
     pub fed : r.blocks ≡ fed_in g.script g.life r.number j
 
+module _ (g : Lived) (Known : Knows) where
   -- .. and the one whose verification runs
   pub record IsAwaited (e j : ℕ) (running : Option Job) (round : Option Round) (number : ℕ) : Type 0 where
     pub at : ℕ
@@ -226,11 +243,12 @@ module _ (g : Lived) where
     pub within : read ≤ j
     pub began : epoch_by g (read - 1) ≡ e
     pub recorded : LogMap
+    pub known : Known e read its_round recorded
     pub asked : WereAsked g.script g.life e number read its_round recorded job.logs
 
   -- all of them
   pub record AreReady (e j : ℕ) (round : Option Round) (its : Inclusion U) : Type 0 where
-    pub queue : AllByRecursion (IsHeld e j) its.queue
+    pub queue : AllByRecursion (IsHeld g e j) its.queue
     pub waiter : IfSome its.waiter (IsAwaited e j its.running round)
 
   pub record AreHeld (j : ℕ) (st : Live U) : Type 0 where
@@ -240,7 +258,7 @@ module _ (g : Lived) where
   pub none_held : (j : ℕ) (st : Live U) → st.inclusion.queue ≡ [] → st.inclusion.waiter ≡ None → AreHeld j st
   none_held j st queue waiter = record {
     ready = record {
-      queue = subst (AllByRecursion (IsHeld (epoch_by g j) j)) (sym queue) tt;
+      queue = subst (AllByRecursion (IsHeld g (epoch_by g j) j)) (sym queue) tt;
       waiter = subst (λ (o : Option ℕ). IfSome o (IsAwaited (epoch_by g j) j st.inclusion.running st.participation.round)) (sym waiter) tt;
     };
     apart = none_apart st.inclusion queue waiter;
@@ -248,6 +266,12 @@ module _ (g : Lived) where
 
   emptied : (j : ℕ) (st : Live U) → IsEmptied st.inclusion → AreHeld j st
   emptied j st its = none_held j st its.queue its.waiter
+
+  -- what is known where requests are read in a step
+  abbrev pub KnowsRead : (i : ℕ) → Live U → Message U → Type 0
+  KnowsRead i st message =
+      (x : Live U) → IsReadFor (at_step g (suc i)) st message x → x.tip ≡ tip_in g.script g.life (suc i) → x.participation.epoch ≡ epoch_by g i
+      → (round : Round) → x.participation.round ≡ Some round → Known (epoch_by g i) (suc i) round (canonical (at_step g (suc i)) x)
 
 -- WHAT SENDS A MESSAGE
 
@@ -387,8 +411,8 @@ module _ (g : Lived) (here : IsLifeInForm g) (i : ℕ) (its : Event) (is : slice
       itself a = omega arith
 
   -- the one whose verification runs, where the event doesn't cancel it
-  awaited_on : (running : Option Job) (round : Option Round) (number : ℕ) → ((s : Standing) → IsUncancelled s → IsUncancelled (turns number s its)) → IsAwaited g e i running round number → IsAwaited g e (suc i) running round number
-  awaited_on running round number spares was = record {
+  awaited_on : {Known : Knows} (running : Option Job) (round : Option Round) (number : ℕ) → ((s : Standing) → IsUncancelled s → IsUncancelled (turns number s its)) → IsAwaited g Known e i running round number → IsAwaited g Known e (suc i) running round number
+  awaited_on {Known} running round number spares was = record {
     at = was.at;
     before = more was.at was.before;
     made = was.made;
@@ -402,16 +426,17 @@ module _ (g : Lived) (here : IsLifeInForm g) (i : ℕ) (its : Event) (is : slice
     within = later was.read was.within;
     began = was.began;
     recorded = was.recorded;
+    known = was.known;
     asked = was.asked;
   }
     where
       later : (a : ℕ) → a ≤ i → a ≤ suc i
       later a low = omega (arith, low)
 
-  waiter_on : (running : Option Job) (round : Option Round) (o : Option ℕ) → ((number : ℕ) (s : Standing) → IsUncancelled s → IsUncancelled (turns number s its)) → IfSome o (IsAwaited g e i running round)
-      → IfSome o (IsAwaited g e (suc i) running round)
-  waiter_on running round None spares was = tt
-  waiter_on running round (Some number) spares was = awaited_on running round number (spares number) was
+  waiter_on : (Known : Knows) (running : Option Job) (round : Option Round) (o : Option ℕ) → ((number : ℕ) (s : Standing) → IsUncancelled s → IsUncancelled (turns number s its)) → IfSome o (IsAwaited g Known e i running round)
+      → IfSome o (IsAwaited g Known e (suc i) running round)
+  waiter_on Known running round None spares was = tt
+  waiter_on Known running round (Some number) spares was = awaited_on running round number (spares number) was
 
 -- WHICH EVENTS CANCEL no request of a number
 module _ (number : ℕ) where
@@ -478,7 +503,7 @@ module _ (number : ℕ) where
 
 -- WHAT AN EVENT SAYS of requests
 
-module _ (g : Lived) (here : IsLifeInForm g) (i : ℕ) (its : Event) (is : slice_get g.life.events i ≡ Some its) (st : Live U) (held : AreHeld g i st) where
+module _ {Known : Knows} (g : Lived) (here : IsLifeInForm g) (i : ℕ) (its : Event) (is : slice_get g.life.events i ≡ Some its) (st : Live U) (held : AreHeld g Known i st) where
   abbrev now : ℕ
   now = epoch_by g i
 
@@ -486,9 +511,9 @@ module _ (g : Lived) (here : IsLifeInForm g) (i : ℕ) (its : Event) (is : slice
   its_round = st.participation.round
 
   abbrev Ready : Inclusion U → Type 0
-  Ready x = AreReady g now (suc i) its_round x
+  Ready x = AreReady g Known now (suc i) its_round x
 
-  abbrev was : AreReady g now i its_round st.inclusion
+  abbrev was : AreReady g Known now i its_round st.inclusion
   was = held.ready
 
   -- nothing
@@ -496,8 +521,8 @@ module _ (g : Lived) (here : IsLifeInForm g) (i : ℕ) (its : Event) (is : slice
       → Ready x
   unsaid x queue waiter running spares keeps = record {
     queue = subst (AllByRecursion (IsHeld g now (suc i))) (sym queue) (all_on g here i its is st.inclusion.queue spares was.queue);
-    waiter = subst (λ (o : Option ℕ). IfSome o (IsAwaited g now (suc i) x.running its_round)) (sym waiter)
-        (subst (λ (o : Option Job). IfSome st.inclusion.waiter (IsAwaited g now (suc i) o its_round)) (sym running) (waiter_on g here i its is st.inclusion.running its_round st.inclusion.waiter keeps was.waiter));
+    waiter = subst (λ (o : Option ℕ). IfSome o (IsAwaited g Known now (suc i) x.running its_round)) (sym waiter)
+        (subst (λ (o : Option Job). IfSome st.inclusion.waiter (IsAwaited g Known now (suc i) o its_round)) (sym running) (waiter_on g here i its is Known st.inclusion.running its_round st.inclusion.waiter keeps was.waiter));
   }
 
   pub said_none : (x : Event) → its ≡ x → ((number : ℕ) → Spares x number) → ((number : ℕ) (s : Standing) → IsUncancelled s → IsUncancelled (turns number s x)) → (y : Inclusion U)
@@ -526,7 +551,7 @@ module _ (g : Lived) (here : IsLifeInForm g) (i : ℕ) (its : Event) (is : slice
     queue = changed request (λ r. if r.ended then r else record r { blocks = r.blocks ++ b ∷ [] }) st.inclusion.queue
         (λ r same held. held_more g here i its is r number b (of ∙ ap (λ (n : ℕ). event.Feed n number) (sym (same_number r.number request same))) there held)
         (λ r apart. subst (λ (x : Event). Spares x r.number) (sym of) (spares_feed r.number request (turned r.number request apart) number)) was.queue;
-    waiter = waiter_on g here i its is st.inclusion.running its_round st.inclusion.waiter (λ n s is. subst (λ (x : Event). IsUncancelled (turns n s x)) (sym of) (keeps_feed n request number s is)) was.waiter;
+    waiter = waiter_on g here i its is Known st.inclusion.running its_round st.inclusion.waiter (λ n s is. subst (λ (x : Event). IsUncancelled (turns n s x)) (sym of) (keeps_feed n request number s is)) was.waiter;
   }
 
   closed_one : (request : ℕ) → its ≡ event.Over request → Ready (asked_by (Over request) st).inclusion
@@ -534,14 +559,14 @@ module _ (g : Lived) (here : IsLifeInForm g) (i : ℕ) (its : Event) (is : slice
     queue = changed request (λ r. record r { ended = true }) st.inclusion.queue
         (λ r same held. held_closed g here i its is r (of ∙ ap event.Over (sym (same_number r.number request same))) held)
         (λ r apart. subst (λ (x : Event). Spares x r.number) (sym of) (spares_over r.number request (turned r.number request apart))) was.queue;
-    waiter = waiter_on g here i its is st.inclusion.running its_round st.inclusion.waiter (λ n s is. subst (λ (x : Event). IsUncancelled (turns n s x)) (sym of) (keeps_over n request s is)) was.waiter;
+    waiter = waiter_on g here i its is Known st.inclusion.running its_round st.inclusion.waiter (λ n s is. subst (λ (x : Event). IsUncancelled (turns n s x)) (sym of) (keeps_over n request s is)) was.waiter;
   }
 
   made_one : (request : ℕ) → its ≡ event.Info request → Ready (asked_by (EpochInfoOf request) st).inclusion
   made_one request of = record {
     queue = all_and_one (IsHeld g now (suc i)) st.inclusion.queue (record { number = request; blocks = []; ended = false })
         (all_on g here i its is st.inclusion.queue (λ n. subst (λ (x : Event). Spares x n) (sym of) (spares_info n request)) was.queue) (held_new g here i its is request of);
-    waiter = waiter_on g here i its is st.inclusion.running its_round st.inclusion.waiter (λ n s is. subst (λ (x : Event). IsUncancelled (turns n s x)) (sym of) (keeps_info n request s is)) was.waiter;
+    waiter = waiter_on g here i its is Known st.inclusion.running its_round st.inclusion.waiter (λ n s is. subst (λ (x : Event). IsUncancelled (turns n s x)) (sym of) (keeps_info n request s is)) was.waiter;
   }
 
   -- of others than the one that is cancelled
@@ -569,11 +594,11 @@ module _ (g : Lived) (here : IsLifeInForm g) (i : ℕ) (its : Event) (is : slice
     cancelled_one : Ready (asked_by (Cancel request) st).inclusion
     cancelled_one = by_waiter st.inclusion.waiter refl
       where
-        waits_not : (o : Option ℕ) → st.inclusion.waiter ≡ o → option_map_or (λ n. n == request) o false ≡ false → IfSome o (IsAwaited g now (suc i) st.inclusion.running its_round)
+        waits_not : (o : Option ℕ) → st.inclusion.waiter ≡ o → option_map_or (λ n. n == request) o false ≡ false → IfSome o (IsAwaited g Known now (suc i) st.inclusion.running its_round)
         waits_not None there apart = tt
         waits_not (Some number) there apart =
             awaited_on g here i its is st.inclusion.running its_round number (λ s is. subst (λ (x : Event). IsUncancelled (turns number s x)) (sym of) (keeps_cancel number request (turned number request apart) s is))
-            (subst (λ (o : Option ℕ). IfSome o (IsAwaited g now i st.inclusion.running its_round)) there was.waiter)
+            (subst (λ (o : Option ℕ). IfSome o (IsAwaited g Known now i st.inclusion.running its_round)) there was.waiter)
 
         lacks : (number : ℕ) → st.inclusion.waiter ≡ Some number → (number == request) ≡ true → LacksNumber request st.inclusion.queue
         lacks number there same =
@@ -584,7 +609,7 @@ module _ (g : Lived) (here : IsLifeInForm g) (i : ℕ) (its : Event) (is : slice
         by_test (Some number) there true same = record { queue = left st.inclusion.queue (lacks number there same) was.queue; waiter = tt }
         by_test o there false apart = record {
           queue = kept st.inclusion.queue was.queue;
-          waiter = subst (λ (x : Option ℕ). IfSome x (IsAwaited g now (suc i) st.inclusion.running its_round)) (sym there) (waits_not o there apart);
+          waiter = subst (λ (x : Option ℕ). IfSome x (IsAwaited g Known now (suc i) st.inclusion.running its_round)) (sym there) (waits_not o there apart);
         }
 
         by_waiter : (o : Option ℕ) → st.inclusion.waiter ≡ o → Ready (if option_map_or (λ n. n == request) st.inclusion.waiter false then without else others).inclusion
@@ -608,7 +633,7 @@ module _ (g : Lived) (here : IsLifeInForm g) (i : ℕ) (its : Event) (is : slice
       lacks [] all = tt
       lacks (r ∷ rs) all = ((λ same. apart r.number same (subst IsUncancelled (sym all.0.stands) (uncancelled r.ended))), lacks rs all.1)
 
-      waits : (o : Option ℕ) → IfSome o (IsAwaited g now i st.inclusion.running its_round) → IfSome o (λ number. request ≡ number → ⊥)
+      waits : (o : Option ℕ) → IfSome o (IsAwaited g Known now i st.inclusion.running its_round) → IfSome o (λ number. request ≡ number → ⊥)
       waits None its = tt
       waits (Some number) its = λ same. apart number (sym same) its.uncancelled
 
@@ -672,7 +697,7 @@ module _ (g : Lived) (here : IsLifeInForm g) (i : ℕ) (its : Event) (is : slice
         record {
           queue = subst (AllByRecursion (IsHeld g now (suc i))) (sym (same.0 ∙ ap (λ (x : Inclusion U). x.queue) given))
               (all_on g here i its is st.inclusion.queue (λ n. subst (λ (x : Event). Spares x n) (sym of) (spares_final n number)) was.queue);
-          waiter = subst (λ (o : Option ℕ). IfSome o (IsAwaited g now (suc i) (dealt_behind c b (given_itself c st)).inclusion.running its_round)) (sym (same.1 ∙ ap (λ (x : Inclusion U). x.waiter) given ∙ none)) tt;
+          waiter = subst (λ (o : Option ℕ). IfSome o (IsAwaited g Known now (suc i) (dealt_behind c b (given_itself c st)).inclusion.running its_round)) (sym (same.1 ∙ ap (λ (x : Inclusion U). x.waiter) given ∙ none)) tt;
         }
 
 -- HOW AN ANCESTRY IS READ
@@ -735,9 +760,9 @@ module _ (g : Lived) (here : IsLifeInForm g) (j e : ℕ) (x : Live U) (tip : x.t
 
 -- A STEP
 
-module _ (g : Lived) (here : IsLifeInForm g) (i : ℕ) (its : Event) (is : slice_get g.life.events i ≡ Some its) (m : IsMessage g its) (st : Live U) (live : IsLiveThrough (at_step g (suc i)) any_shares st) (stands : StandsInScript g i st)
-    (held : AreHeld g i st) (devices : Option Held) (end : Live U) (left : Option Held) (node : IsNodeThrough (at_step g (suc i)) any_shares st m.message devices end left) (behind : StandsInScript g (suc i) end)
-    (tip : end.tip ≡ tip_in g.script g.life (suc i)) where
+module _ {Known : Knows} (g : Lived) (here : IsLifeInForm g) (i : ℕ) (its : Event) (is : slice_get g.life.events i ≡ Some its) (m : IsMessage g its) (st : Live U) (live : IsLiveThrough (at_step g (suc i)) any_shares st) (stands : StandsInScript g i st)
+    (held : AreHeld g Known i st) (devices : Option Held) (end : Live U) (left : Option Held) (node : IsNodeThrough (at_step g (suc i)) any_shares st m.message devices end left) (behind : StandsInScript g (suc i) end)
+    (tip : end.tip ≡ tip_in g.script g.life (suc i)) (known : KnowsRead g Known i st m.message) where
   abbrev c : Fixed U
   c = at_step g (suc i)
 
@@ -751,7 +776,7 @@ module _ (g : Lived) (here : IsLifeInForm g) (i : ℕ) (its : Event) (is : slice
   mid_tip = sym (ap (λ (x : Live U). x.tip) node.same) ∙ tip
 
   abbrev IsLeft : Type 0
-  IsLeft = AreReady g (epoch_by g i) (suc i) mid.participation.round mid.inclusion
+  IsLeft = AreReady g Known (epoch_by g i) (suc i) mid.participation.round mid.inclusion
 
   module _ (on : GoesOn c st m.message mid) (apart : mid.participation.stage ≡ Follows → ⊥) where
     now_is : epoch_by g (suc i) ≡ epoch_by g i
@@ -760,9 +785,16 @@ module _ (g : Lived) (here : IsLifeInForm g) (i : ℕ) (its : Event) (is : slice
     mid_epoch : mid.participation.epoch ≡ epoch_by g i
     mid_epoch = (on.same).epoch ∙ stands.epoch (λ follows. apart (on.following follows))
 
-    -- requests are read in a life x
-    read_on : (x : Live U) → IsReadFrom c x mid → AreReady g (epoch_by g i) (suc i) st.participation.round x.inclusion → IsLeft
-    read_on x read ready = record { queue = queue; waiter = by_running mid.inclusion.running refl }
+    -- what is known where requests are read in a life x
+    abbrev KnowsIn : Live U → Type 0
+    KnowsIn x = x.tip ≡ tip_in g.script g.life (suc i) → x.participation.epoch ≡ epoch_by g i → (round : Round) → x.participation.round ≡ Some round → Known (epoch_by g i) (suc i) round (canonical c x)
+
+    known_in : (message : Message U) → m.message ≡ message → (x : Live U) → IsReadFor c st message x → KnowsIn x
+    known_in message is x in_it = known x (subst (λ (y : Message U). IsReadFor c st y x) (sym is) in_it)
+
+    -- requests are read in it
+    read_on : (x : Live U) → KnowsIn x → IsReadFrom c x mid → AreReady g Known (epoch_by g i) (suc i) st.participation.round x.inclusion → IsLeft
+    read_on x knows read ready = record { queue = queue; waiter = by_running mid.inclusion.running refl }
       where
         queue : AllByRecursion (IsHeld g (epoch_by g i) (suc i)) mid.inclusion.queue
         queue = all_back (IsHeld g (epoch_by g i) (suc i)) read.gone mid.inclusion.queue (subst (AllByRecursion (IsHeld g (epoch_by g i) (suc i))) read.rest ready.queue)
@@ -772,7 +804,7 @@ module _ (g : Lived) (here : IsLifeInForm g) (i : ℕ) (its : Event) (is : slice
 
         -- a verification started
         began : (round : Round) → x.participation.round ≡ Some round → (job : Job) (r : Request U) (found : LogMap) → mid.inclusion.running ≡ Some job → IsAmong r x.inclusion.queue → read_of c round x r ≡ Found found
-            → job.logs ≡ filled_by (canonical c x) found → IsAwaited g (epoch_by g i) (suc i) mid.inclusion.running mid.participation.round r.number
+            → job.logs ≡ filled_by (canonical c x) found → IsAwaited g Known (epoch_by g i) (suc i) mid.inclusion.running mid.participation.round r.number
         began round of job r found runs among its_read logs =
             let one : IsHeld g (epoch_by g i) (suc i) r = all_of (IsHeld g (epoch_by g i) (suc i)) x.inclusion.queue r among ready.queue in
             let of_tip : x.tip ≡ tip_in g.script g.life (suc i) = sym (ap (λ (y : Live U). y.tip) read.same) ∙ mid_tip in
@@ -791,33 +823,34 @@ module _ (g : Lived) (here : IsLifeInForm g) (i : ℕ) (its : Event) (is : slice
               within = itself (suc i);
               began = ap (epoch_by g) (less_one i);
               recorded = canonical c x;
+              known = knows of_tip of_epoch round of;
               asked = subst (λ (logs : LogMap). WereAsked g.script g.life (epoch_by g i) r.number (suc i) round (canonical c x) logs) (sym logs) (were_asked g here (suc i) (epoch_by g i) x of_tip of_epoch round r found its_read one.fed);
             }
           where
             itself : (a : ℕ) → a ≤ a
             itself a = omega arith
 
-        by_running : (o : Option Job) → mid.inclusion.running ≡ o → IfSome mid.inclusion.waiter (IsAwaited g (epoch_by g i) (suc i) mid.inclusion.running mid.participation.round)
-        by_running None none = subst (λ (o : Option ℕ). IfSome o (IsAwaited g (epoch_by g i) (suc i) mid.inclusion.running mid.participation.round)) (sym (waits none)) tt
+        by_running : (o : Option Job) → mid.inclusion.running ≡ o → IfSome mid.inclusion.waiter (IsAwaited g Known (epoch_by g i) (suc i) mid.inclusion.running mid.participation.round)
+        by_running None none = subst (λ (o : Option ℕ). IfSome o (IsAwaited g Known (epoch_by g i) (suc i) mid.inclusion.running mid.participation.round)) (sym (waits none)) tt
         by_running (Some job) runs = by_before x.inclusion.running refl
           where
-            by_before : (o : Option Job) → x.inclusion.running ≡ o → IfSome mid.inclusion.waiter (IsAwaited g (epoch_by g i) (suc i) mid.inclusion.running mid.participation.round)
+            by_before : (o : Option Job) → x.inclusion.running ≡ o → IfSome mid.inclusion.waiter (IsAwaited g Known (epoch_by g i) (suc i) mid.inclusion.running mid.participation.round)
             by_before None none =
                 let began_by = read.starts job none runs in
-                subst (λ (o : Option ℕ). IfSome o (IsAwaited g (epoch_by g i) (suc i) mid.inclusion.running mid.participation.round)) (sym began_by.2.waits)
+                subst (λ (o : Option ℕ). IfSome o (IsAwaited g Known (epoch_by g i) (suc i) mid.inclusion.running mid.participation.round)) (sym began_by.2.waits)
                 (began began_by.0 began_by.1 job began_by.2.request began_by.2.found runs began_by.2.among began_by.2.read began_by.2.logs)
             by_before (Some other) ran =
                 let busy = read.busy other ran in
-                subst (λ (o : Option ℕ). IfSome o (IsAwaited g (epoch_by g i) (suc i) mid.inclusion.running mid.participation.round)) (sym busy.1)
-                (subst (λ (o : Option Job). IfSome x.inclusion.waiter (IsAwaited g (epoch_by g i) (suc i) o mid.participation.round)) (ran ∙ sym busy.0)
-                (subst (λ (o : Option Round). IfSome x.inclusion.waiter (IsAwaited g (epoch_by g i) (suc i) x.inclusion.running o)) (sym same_round) ready.waiter))
+                subst (λ (o : Option ℕ). IfSome o (IsAwaited g Known (epoch_by g i) (suc i) mid.inclusion.running mid.participation.round)) (sym busy.1)
+                (subst (λ (o : Option Job). IfSome x.inclusion.waiter (IsAwaited g Known (epoch_by g i) (suc i) o mid.participation.round)) (ran ∙ sym busy.0)
+                (subst (λ (o : Option Round). IfSome x.inclusion.waiter (IsAwaited g Known (epoch_by g i) (suc i) x.inclusion.running o)) (sym same_round) ready.waiter))
 
     -- nothing of requests changed
-    unmoved : AreReady g (epoch_by g i) (suc i) st.participation.round mid.inclusion → IsLeft
-    unmoved ready = subst (λ (o : Option Round). AreReady g (epoch_by g i) (suc i) o mid.inclusion) (sym (on.same).round) ready
+    unmoved : AreReady g Known (epoch_by g i) (suc i) st.participation.round mid.inclusion → IsLeft
+    unmoved ready = subst (λ (o : Option Round). AreReady g Known (epoch_by g i) (suc i) o mid.inclusion) (sym (on.same).round) ready
 
-    by_block : (b : Block U) (number : ℕ) → its ≡ event.Final number → IsBlockThrough c any_shares b st devices (judged_block c b st) mid left → IsLeft ⊎ IsEmptied mid.inclusion
-    by_block b number of block_end = by_judged (judged_block c b st) block_end
+    by_block : (b : Block U) (number : ℕ) → its ≡ event.Final number → m.message ≡ Finalized b → IsBlockThrough c any_shares b st devices (judged_block c b st) mid left → IsLeft ⊎ IsEmptied mid.inclusion
+    by_block b number of sent block_end = by_judged (judged_block c b st) refl block_end
       where
         quiet : mid.inclusion ≡ st.inclusion → IsLeft
         quiet same = unmoved (block_said g here i its is st held number of mid.inclusion (ap (λ (x : Inclusion U). x.queue) same) (ap (λ (x : Inclusion U). x.waiter) same) (ap (λ (x : Inclusion U). x.running) same))
@@ -826,74 +859,75 @@ module _ (g : Lived) (here : IsLifeInForm g) (i : ℕ) (its : Event) (is : slice
         followed true passed = inr passed.emptied
         followed false same = inl (quiet (ap (λ (x : Live U). x.inclusion) same))
 
-        includes : (t : Bool) → IsIncludedThrough c any_shares b st devices t mid left → IsLeft ⊎ IsEmptied mid.inclusion
-        includes true passed = inr passed.emptied
-        includes false read = inl (read_on (included c read.0 b st) read.2 (included_said g here i its is st held number of c read.0 b))
+        includes : judged_block c b st ≡ Applied → st.participation.stage ≡ Includes → (t : Bool) → is_last_height c b.height ≡ t → IsIncludedThrough c any_shares b st devices t mid left → IsLeft ⊎ IsEmptied mid.inclusion
+        includes applied stage true ends passed = inr passed.emptied
+        includes applied stage false below read =
+            inl (read_on (included c read.0 b st) (known_in (Finalized b) sent (included c read.0 b st) (applied, inr (stage, below, (read.0, read.1, refl)))) read.2 (included_said g here i its is st held number of c read.0 b))
 
-        deals : st.participation.stage ≡ Deals → IsReadFrom c (dealt_behind c b (given_itself c st)) mid → IsLeft
-        deals stage read =
+        deals : judged_block c b st ≡ Applied → st.participation.stage ≡ Deals → IsReadFrom c (dealt_behind c b (given_itself c st)) mid → IsLeft
+        deals applied stage read =
             let none : st.inclusion.running ≡ None = (live.asked.has.early (λ includes. let no : ◌≡◌ {A = Stage} Deals Includes = sym stage ∙ includes in cc)).0 in
-            read_on (dealt_behind c b (given_itself c st)) read (dealt_said g here i its is st held number of c b (live.asked.has.waits none))
+            read_on (dealt_behind c b (given_itself c st)) (known_in (Finalized b) sent (dealt_behind c b (given_itself c st)) (applied, inl (stage, refl))) read (dealt_said g here i its is st held number of c b (live.asked.has.waits none))
 
-        by_stage : (stage : Stage) → st.participation.stage ≡ stage → IsAppliedThrough c any_shares b st devices stage mid left → IsLeft ⊎ IsEmptied mid.inclusion
-        by_stage Deals stage read = inl (deals stage read)
-        by_stage Includes stage its_end = includes (is_last_height c b.height) its_end
-        by_stage Follows stage its_end = followed (is_last_height c b.height) its_end
-        by_stage Ends stage none = absurd none
+        by_stage : judged_block c b st ≡ Applied → (stage : Stage) → st.participation.stage ≡ stage → IsAppliedThrough c any_shares b st devices stage mid left → IsLeft ⊎ IsEmptied mid.inclusion
+        by_stage applied Deals stage read = inl (deals applied stage read)
+        by_stage applied Includes stage its_end = includes applied stage (is_last_height c b.height) refl its_end
+        by_stage applied Follows stage its_end = followed (is_last_height c b.height) its_end
+        by_stage applied Ends stage none = absurd none
 
-        by_judged : (j : Judged) → IsBlockThrough c any_shares b st devices j mid left → IsLeft ⊎ IsEmptied mid.inclusion
-        by_judged (Refusal fault) none = absurd none
-        by_judged Passed same = inl (quiet (ap (λ (x : Live U). x.inclusion) same.0))
-        by_judged Applied applied = by_stage st.participation.stage refl applied
+        by_judged : (j : Judged) → judged_block c b st ≡ j → IsBlockThrough c any_shares b st devices j mid left → IsLeft ⊎ IsEmptied mid.inclusion
+        by_judged (Refusal fault) is none = absurd none
+        by_judged Passed is same = inl (quiet (ap (λ (x : Live U). x.inclusion) same.0))
+        by_judged Applied is applied = by_stage is st.participation.stage refl applied
 
-    by_event : (x : Event) → its ≡ x → (message : Message U) → Brings g x message → IsEndThrough c any_shares st message devices mid left → IsLeft ⊎ IsEmptied mid.inclusion
-    by_event (event.Peer from bytes) of message brings next =
+    by_event : (x : Event) → its ≡ x → (message : Message U) → m.message ≡ message → Brings g x message → IsEndThrough c any_shares st message devices mid left → IsLeft ⊎ IsEmptied mid.inclusion
+    by_event (event.Peer from bytes) of message sent brings next =
         let same = heard_same c st from mid (subst (λ (x : Message U). IsEndThrough c any_shares st x devices mid left) brings next) in
         inl (unmoved (said_none g here i its is st held (event.Peer from bytes) of (λ n. spares_peer n from bytes) (λ n. keeps_peer n from bytes) mid.inclusion (ap (λ (x : Inclusion U). x.queue) same)
         (ap (λ (x : Inclusion U). x.waiter) same) (ap (λ (x : Inclusion U). x.running) same)))
-    by_event (event.Final number) of message brings next = by_block (brings.0).block number of (subst (λ (x : Message U). IsEndThrough c any_shares st x devices mid left) brings.1 next)
-    by_event (event.Next request height) of message brings next = of_mail (NextLog request height) (subst (λ (x : Event). Brings g x (Sent (NextLog request height))) (sym of) refl)
+    by_event (event.Final number) of message sent brings next = by_block (brings.0).block number of (sent ∙ brings.1) (subst (λ (x : Message U). IsEndThrough c any_shares st x devices mid left) brings.1 next)
+    by_event (event.Next request height) of message sent brings next = of_mail (NextLog request height) (sent ∙ brings) (subst (λ (x : Event). Brings g x (Sent (NextLog request height))) (sym of) refl)
         (subst (λ (x : Message U). IsEndThrough c any_shares st x devices mid left) brings next).0
       where
-        of_mail : (mail : Mail U) → Brings g its (Sent mail) → IsReadFrom c (asked_by mail st) mid → IsLeft ⊎ IsEmptied mid.inclusion
-        of_mail mail its_mail read = inl (read_on (asked_by mail st) read (mail_said g here i its is st held mail its_mail))
-    by_event (event.Release height) of message brings next =
-        inl (read_on (asked_by (ReleaseLog height) st) (subst (λ (x : Message U). IsEndThrough c any_shares st x devices mid left) brings next).0
+        of_mail : (mail : Mail U) → m.message ≡ Sent mail → Brings g its (Sent mail) → IsReadFrom c (asked_by mail st) mid → IsLeft ⊎ IsEmptied mid.inclusion
+        of_mail mail sent its_mail read = inl (read_on (asked_by mail st) (known_in (Sent mail) sent (asked_by mail st) refl) read (mail_said g here i its is st held mail its_mail))
+    by_event (event.Release height) of message sent brings next =
+        inl (read_on (asked_by (ReleaseLog height) st) (known_in (Sent (ReleaseLog height)) (sent ∙ brings) (asked_by (ReleaseLog height) st) refl) (subst (λ (x : Message U). IsEndThrough c any_shares st x devices mid left) brings next).0
         (mail_said g here i its is st held (ReleaseLog height) (subst (λ (x : Event). Brings g x (Sent (ReleaseLog height))) (sym of) refl)))
-    by_event (event.Info request) of message brings next =
-        inl (read_on (asked_by (EpochInfoOf request) st) (subst (λ (x : Message U). IsEndThrough c any_shares st x devices mid left) brings next).0
+    by_event (event.Info request) of message sent brings next =
+        inl (read_on (asked_by (EpochInfoOf request) st) (known_in (Sent (EpochInfoOf request)) (sent ∙ brings) (asked_by (EpochInfoOf request) st) refl) (subst (λ (x : Message U). IsEndThrough c any_shares st x devices mid left) brings next).0
         (mail_said g here i its is st held (EpochInfoOf request) (subst (λ (x : Event). Brings g x (Sent (EpochInfoOf request))) (sym of) refl)))
-    by_event (event.Feed request number) of message brings next =
-        inl (read_on (asked_by (Feed request (brings.0).block) st) (subst (λ (x : Message U). IsEndThrough c any_shares st x devices mid left) brings.1 next).0
+    by_event (event.Feed request number) of message sent brings next =
+        inl (read_on (asked_by (Feed request (brings.0).block) st) (known_in (Sent (Feed request (brings.0).block)) (sent ∙ brings.1) (asked_by (Feed request (brings.0).block) st) refl) (subst (λ (x : Message U). IsEndThrough c any_shares st x devices mid left) brings.1 next).0
         (mail_said g here i its is st held (Feed request (brings.0).block) (subst (λ (x : Event). Brings g x (Sent (Feed request (brings.0).block))) (sym of) (brings.0, refl))))
-    by_event (event.Over request) of message brings next =
-        inl (read_on (asked_by (Over request) st) (subst (λ (x : Message U). IsEndThrough c any_shares st x devices mid left) brings next).0
+    by_event (event.Over request) of message sent brings next =
+        inl (read_on (asked_by (Over request) st) (known_in (Sent (Over request)) (sent ∙ brings) (asked_by (Over request) st) refl) (subst (λ (x : Message U). IsEndThrough c any_shares st x devices mid left) brings next).0
         (mail_said g here i its is st held (Over request) (subst (λ (x : Event). Brings g x (Sent (Over request))) (sym of) refl)))
-    by_event (event.Cancel request) of message brings next =
-        inl (read_on (asked_by (Cancel request) st) (subst (λ (x : Message U). IsEndThrough c any_shares st x devices mid left) brings next).0
+    by_event (event.Cancel request) of message sent brings next =
+        inl (read_on (asked_by (Cancel request) st) (known_in (Sent (Cancel request)) (sent ∙ brings) (asked_by (Cancel request) st) refl) (subst (λ (x : Message U). IsEndThrough c any_shares st x devices mid left) brings next).0
         (mail_said g here i its is st held (Cancel request) (subst (λ (x : Event). Brings g x (Sent (Cancel request))) (sym of) refl)))
-    by_event event.Work of message brings next =
-        inl (read_on (asked_by (Work None) st) (subst (λ (x : Message U). IsEndThrough c any_shares st x devices mid left) brings next).0
+    by_event event.Work of message sent brings next =
+        inl (read_on (asked_by (Work None) st) (known_in (Sent (Work None)) (sent ∙ brings) (asked_by (Work None) st) refl) (subst (λ (x : Message U). IsEndThrough c any_shares st x devices mid left) brings next).0
         (mail_said g here i its is st held (Work None) (subst (λ (x : Event). Brings g x (Sent (Work None))) (sym of) refl)))
-    by_event other of message brings next = absurd brings
+    by_event other of message sent brings next = absurd brings
 
-  none_now : mid.inclusion.queue ≡ [] → mid.inclusion.waiter ≡ None → AreReady g (epoch_by g (suc i)) (suc i) mid.participation.round mid.inclusion
+  none_now : mid.inclusion.queue ≡ [] → mid.inclusion.waiter ≡ None → AreReady g Known (epoch_by g (suc i)) (suc i) mid.participation.round mid.inclusion
   none_now queue waiter = record {
     queue = subst (AllByRecursion (IsHeld g (epoch_by g (suc i)) (suc i))) (sym queue) tt;
-    waiter = subst (λ (o : Option ℕ). IfSome o (IsAwaited g (epoch_by g (suc i)) (suc i) mid.inclusion.running mid.participation.round)) (sym waiter) tt;
+    waiter = subst (λ (o : Option ℕ). IfSome o (IsAwaited g Known (epoch_by g (suc i)) (suc i) mid.inclusion.running mid.participation.round)) (sym waiter) tt;
   }
 
-  at_mid : AreReady g (epoch_by g (suc i)) (suc i) mid.participation.round mid.inclusion
+  at_mid : AreReady g Known (epoch_by g (suc i)) (suc i) mid.participation.round mid.inclusion
   at_mid = either (goes g here i its is m st live stands devices end left node behind)
     where
-      going : GoesOn c st m.message mid → (mid.participation.stage ≡ Follows → ⊥) → AreReady g (epoch_by g (suc i)) (suc i) mid.participation.round mid.inclusion
-      going on apart = by_left (by_event on apart its refl m.message m.brings (node.next).is)
+      going : GoesOn c st m.message mid → (mid.participation.stage ≡ Follows → ⊥) → AreReady g Known (epoch_by g (suc i)) (suc i) mid.participation.round mid.inclusion
+      going on apart = by_left (by_event on apart its refl m.message refl m.brings (node.next).is)
         where
-          by_left : IsLeft ⊎ IsEmptied mid.inclusion → AreReady g (epoch_by g (suc i)) (suc i) mid.participation.round mid.inclusion
-          by_left (inl ready) = subst (λ (k : ℕ). AreReady g k (suc i) mid.participation.round mid.inclusion) (sym (now_is on apart)) ready
+          by_left : IsLeft ⊎ IsEmptied mid.inclusion → AreReady g Known (epoch_by g (suc i)) (suc i) mid.participation.round mid.inclusion
+          by_left (inl ready) = subst (λ (k : ℕ). AreReady g Known k (suc i) mid.participation.round mid.inclusion) (sym (now_is on apart)) ready
           by_left (inr none) = none_now none.queue none.waiter
 
-      of_stage : GoesOn c st m.message mid → (stage : Stage) → mid.participation.stage ≡ stage → AreReady g (epoch_by g (suc i)) (suc i) mid.participation.round mid.inclusion
+      of_stage : GoesOn c st m.message mid → (stage : Stage) → mid.participation.stage ≡ stage → AreReady g Known (epoch_by g (suc i)) (suc i) mid.participation.round mid.inclusion
       of_stage on Follows stage =
           let has = (((node.next).live).asked).has in
           none_now (has.none stage) (has.waits (has.early (λ includes. let no : ◌≡◌ {A = Stage} Follows Includes = sym stage ∙ includes in cc)).0)
@@ -901,7 +935,7 @@ module _ (g : Lived) (here : IsLifeInForm g) (i : ℕ) (its : Event) (is : slice
       of_stage on Includes stage = going on (λ follows. let no : ◌≡◌ {A = Stage} Includes Follows = sym stage ∙ follows in cc)
       of_stage on Ends stage = going on (λ follows. let no : ◌≡◌ {A = Stage} Ends Follows = sym stage ∙ follows in cc)
 
-      either : GoesOn c st m.message mid ⊎ TakesOver c any_shares st m.message devices mid left → AreReady g (epoch_by g (suc i)) (suc i) mid.participation.round mid.inclusion
+      either : GoesOn c st m.message mid ⊎ TakesOver c any_shares st m.message devices mid left → AreReady g Known (epoch_by g (suc i)) (suc i) mid.participation.round mid.inclusion
       either (inl on) = of_stage on mid.participation.stage refl
       either (inr over) = none_now (over.taken).emptied.queue (over.taken).emptied.waiter
 
@@ -957,8 +991,8 @@ module _ (g : Lived) (here : IsLifeInForm g) (i : ℕ) (its : Event) (is : slice
         by_message (Sent (Work handed)) is its_end = sent (Sent (Work handed)) is tt
 
   -- the requests that are left are held so, where their numbers are apart
-  pub step_held : IsApart end.inclusion → AreHeld g (suc i) end
+  pub step_held : IsApart end.inclusion → AreHeld g Known (suc i) end
   step_held apart = record {
-    ready = subst (λ (x : Live U). AreReady g (epoch_by g (suc i)) (suc i) x.participation.round x.inclusion) (sym node.same) at_mid;
+    ready = subst (λ (x : Live U). AreReady g Known (epoch_by g (suc i)) (suc i) x.participation.round x.inclusion) (sym node.same) at_mid;
     apart = apart;
   }

@@ -91,7 +91,7 @@ ends_grow life (Err Cut) mid result new next on ends = by_cut life.cut ends
 ends_grow life (Err (FaultOf fault)) mid result new next on ends = grows_same mid new (ap (λ (x : World). x.out) ends.1)
 ends_grow life (Err Failed) mid result new next on ends = absurd ends
 
-from_grow : (script : Script) (first : Files → Type 0) (l : ℕ) (lives : List Life) (w : World) (result : Result (Unit {0}) Fault) (new : World) → LivesFrom by_worlds script first l lives w result new → Grows w new
+pub from_grow : (script : Script) (first : Files → Type 0) (l : ℕ) (lives : List Life) (w : World) (result : Result (Unit {0}) Fault) (new : World) → LivesFrom by_worlds script first l lives w result new → Grows w new
 from_grow script first l [] w result new ends = grows_same w new (ap (λ (x : World). x.out) ends.1)
 from_grow script first l (life ∷ lives) w result new here =
     grows_then w here.3 new (lives_grow (lived script l life here.0 here.1) here.1 w here.2 here.3 here.7)
@@ -139,14 +139,14 @@ module _ (s : Setting) (ends : List (Option CutAt)) (reshares : is_oneshot s ≡
   abbrev pub EndSo : World → World → Progress → Type 0
   EndSo w new p = (added : List Entry) → new.out ≡ w.out ++ added → (fold (read s) p added).cuts ≡ ends
 
-  front : (w new : World) (p : Progress) → Grows w new → EndSo w new p → (more : List (Option CutAt)) × (ends ≡ p.cuts ++ more)
+  pub front : (w new : World) (p : Progress) → Grows w new → EndSo w new p → (more : List (Option CutAt)) × (ends ≡ p.cuts ++ more)
   front w new p grows fin = let its = cuts_all s grows.0 p in (its.0, sym (fin grows.0 grows.1) ∙ its.1)
 
-  end_then : (w mid new : World) (p : Progress) (added : List Entry) → mid.out ≡ w.out ++ added → EndSo w new p → EndSo mid new (fold (read s) p added)
+  pub end_then : (w mid new : World) (p : Progress) (added : List Entry) → mid.out ≡ w.out ++ added → EndSo w new p → EndSo mid new (fold (read s) p added)
   end_then w mid new p added is fin = λ more out. subst (λ (q : Progress). q.cuts ≡ ends) (fold-append (read s) p added more)
       (fin (added ++ more) (out ∙ ap (λ (xs : List Entry). xs ++ more) is ∙ append_assoc w.out added more))
 
-  never_back_at : (p : Progress) (l : ℕ) (life : Life) → life_at s l ≡ Some life → length p.cuts ≡ l → (more : List (Option CutAt)) × (ends ≡ p.cuts ++ more) → awaited_before s p.cuts l ≤ awaited_epoch s l life 0 + 1
+  pub never_back_at : (p : Progress) (l : ℕ) (life : Life) → life_at s l ≡ Some life → length p.cuts ≡ l → (more : List (Option CutAt)) × (ends ≡ p.cuts ++ more) → awaited_before s p.cuts l ≤ awaited_epoch s l life 0 + 1
   never_back_at p l life is lives its = bound (awaited_before s p.cuts l) (awaited_before s ends l) (awaited_epoch_in s l 0) (awaited_epoch s l life 0)
       (sym (before_front s p.cuts its.0 l (same_or l (length p.cuts) (sym lives))) ∙ ap (λ (x : List (Option CutAt)). awaited_before s x l) (sym its.1))
       (ap (λ (o : Option Life). option_map_or (λ x. awaited_epoch s l x 0) o 0) is)
@@ -180,10 +180,10 @@ module _ (s : Setting) (ends : List (Option CutAt)) (reshares : is_oneshot s ≡
     begun_is = ap (begun_before s r.cuts) (length_more q.cuts (Some (record { step = its.step; call = its.call })) ∙ ap suc stopped.lives)
         ∙ begun_behind s reshares q.cuts l life (Some (record { step = its.step; call = its.call })) stopped.lives life_is
 
-    rests_then : RestsIn h s r
+    pub rests_then : RestsIn h s r
     rests_then = record { whole = stopped.whole; may = rw begun_is (stopped.at_cut refl its cut_is).0 }
 
-    logs_then : (marks × IsKnownAt s q (entry.Cut its.step its.call)) → LogsKnown s (begun_before s r.cuts (length r.cuts)) r.recorded (logs_in (notes h))
+    pub logs_then : (marks × IsKnownAt s q (entry.Cut its.step its.call)) → LogsKnown s (begun_before s r.cuts (length r.cuts)) r.recorded (logs_in (notes h))
     logs_then known = subst (λ (n : ℕ). LogsKnown s n q.recorded (logs_in (notes h))) (sym begun_is) ((stopped.at_cut refl its cut_is).1 known)
 
     between_then : IsBetween (l + 1) s r
@@ -242,7 +242,7 @@ module _ (s : Setting) (ends : List (Option CutAt)) (reshares : is_oneshot s ≡
 
   -- THE RUN
 
-  run_mid : (result answered : Result (Unit {0}) Fault) (w mid new : World) (p : Progress) → TellsEnd by_worlds result answered mid new → EndSo w new p → EndSo w mid p
+  pub run_mid : (result answered : Result (Unit {0}) Fault) (w mid new : World) (p : Progress) → TellsEnd by_worlds result answered mid new → EndSo w new p → EndSo w mid p
   run_mid (Ok done) answered w mid new p told fin = λ added out. fin added (ap (λ (x : World). x.out) told.1 ∙ out)
   run_mid (Err fault) answered w mid new p (inl wants) fin = λ added out. fin added (ap (λ (x : World). x.out) wants.1 ∙ out)
   run_mid (Err fault) answered w mid new p (inr told) fin = λ added out.

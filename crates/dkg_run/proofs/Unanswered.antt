@@ -128,7 +128,7 @@ module _ {Dir : Type 0} (c : Fixed Dir) (P : Line → Type 0) (tells : (line : L
   acked_late None left = tt
   acked_late (Some height) left = acked height left.answer left.live
 
-  again : (st : Live Dir) → SaysSo P (half.asks_again c st)
+  pub again : (st : Live Dir) → SaysSo P (half.asks_again c st)
   again st =
       so_option P (λ (w : Waiting Dir). bind (half.enters c w st) (half.acked_late w.block)) st.orchestrator.waiting (Goes st)
       (λ w e. so_behind P (half.enters c w st) (half.acked_late w.block) (enters w st) (λ left. acked_late w.block left)) tt
@@ -141,7 +141,7 @@ module _ {Dir : Type 0} (c : Fixed Dir) (P : Line → Type 0) (tells : (line : L
       (λ e. so_if P (nat_lt block.height (last c.blocks_per_epoch epoch)) (half.leaves st.orchestrator Acknowledges st) (half.enters_at c block (epoch + 1) (Some block.height) st) (λ e. tt)
       (λ e. enters_at block (epoch + 1) (Some block.height) st))
 
-  behind_block : (block : Block Dir) (st : Live Dir) → SaysSo P (unless_once c (bind (delivered c block st) (λ left. half.acked_at block.height left.answer left.live)) (Say (Acked block.height) (Goes st)))
+  pub behind_block : (block : Block Dir) (st : Live Dir) → SaysSo P (unless_once c (bind (delivered c block st) (λ left. half.acked_at block.height left.answer left.live)) (Say (Acked block.height) (Goes st)))
   behind_block block st =
       so_if P (is_some c.oneshot) (Say (Acked block.height) (Goes st)) (bind (delivered c block st) (λ left. half.acked_at block.height left.answer left.live)) (λ e. (tells (Acked block.height) tt, tt))
       (λ e. so_behind P (delivered c block st) (λ left. half.acked_at block.height left.answer left.live)

@@ -22,13 +22,13 @@ use Rattle.dkg_text.specs.declared.script.Script.{Script}
 use Rattle.dkg_script.specs.AsCut.{setting_as_cut}
 use Rattle.dkg_script.specs.Kept.{AllCurrent, Gives, IsSound, Kept}
 use Rattle.dkg_script.specs.Position.{begun}
-use Rattle.dkg_script.specs.Progress.{at_start, progress}
+use Rattle.dkg_script.specs.Progress.{AtEachEntry, at_start, progress}
 use Rattle.dkg_script.specs.Promise.{AreHonestStores, KeepsDealings, cuts_in}
 use Rattle.dkg_script.specs.SameOffers.{SameOffers}
 use Rattle.dkg_script.specs.Setting.{Setting, listed, recovered_from, setting_of}
 use Rattle.dkg_script.proofs.Listed.{gives_all}
 use Rattle.dkg_script.proofs.EachEntry.{EachAfter, at_each}
-use Rattle.dkg_run.specs.Answers.{AnswersSo, IsAnswer}
+use Rattle.dkg_run.specs.Answers.{AnswersSo, IsAnswer, IsPathAnswer}
 use Rattle.dkg_run.specs.Complete.{IsSoundRun, IsValidAsCut}
 use Rattle.dkg_script.specs.Ends.{EndsScript}
 use Rattle.dkg_run.specs.Epochs.{refused_config}
@@ -44,6 +44,7 @@ use Rattle.dkg_run.proofs.Currently.{current_all}
 use Rattle.dkg_run.proofs.Keeping.{history_of}
 use Rattle.dkg_run.proofs.Leaving.{scan_leaves}
 use Rattle.dkg_run.proofs.OfferedHalves.{all_of}
+use Rattle.dkg_run.proofs.Used.{all_back}
 
 -- Both devices stand as they stood.
 pub record Unmoved (o : Over) : Type 0 where
@@ -191,9 +192,17 @@ module _ (script : Script) (o : Over) (answered : Result (Unit {0}) Fault) (old 
   none_answered = by_why (λ r es. AnswersSo script es) (λ files held. at_each (setting_of script files held) (IsAnswer script) [] tt)
       (λ fault refused files held. at_each (setting_of script files held) (IsAnswer script) (entry.Fault fault ∷ []) (tt, tt))
 
+  -- .. and none by a path
+  pub none_paths : (s : Setting) → AtEachEntry s (IsPathAnswer s) added
+  none_paths s = by_why (λ r es. AtEachEntry s (IsPathAnswer s) es) (at_each s (IsPathAnswer s) [] tt) (λ fault refused. at_each s (IsPathAnswer s) (entry.Fault fault ∷ []) (tt, tt))
+
   -- .. and nothing is committed
   pub none_commits : (So : ℕ → ℕ → Type 0) (epoch share : ℕ) → Contains added (entry.Committed epoch (Some share)) → So epoch share
   none_commits So epoch share has = absurd (all_of IsUncommitted added (entry.Committed epoch (Some share)) (by_why (λ r es. AllByRecursion IsUncommitted es) tt (λ fault refused. (tt, tt))) has)
+
+  pub none_committed : (before after : List Entry) (epoch : ℕ) (share : Option ℕ) → added ≡ before ++ entry.Committed epoch share ∷ after → ⊥
+  none_committed before after epoch share parts =
+      (all_back IsUncommitted before (entry.Committed epoch share ∷ after) (subst (AllByRecursion IsUncommitted) parts (by_why (λ r es. AllByRecursion IsUncommitted es) tt (λ fault refused. (tt, tt))))).0
 
   -- .. and none is left open
   pub none_left : LeavesSo script added

@@ -1,10 +1,16 @@
--- ANSWERS FROM THE PATH: what each answer to a final block's request says, by the entries and the script, whatever the devices tell.
+-- ANSWERS FROM THE PATH: what each answer to a final block's request says, by the entries and the script; first whatever the devices tell, and then over devices that tell.
 use Rattle.std.specs.Prelude.{ℕ, ◌≡◌, ◌≤◌, ◌<◌, ◌-◌, true, false, List, Option, Some, IsSomeAnd, Ok, length, slice_get}
 use Rattle.dkg_ceremony.specs.declared.round.RoundParts.{RoundParts as Round}
 use Rattle.dkg_ceremony.specs.Outcomes.{LogMap}
+use Rattle.dkg_ceremony.specs.Schedule.{last, midpoint}
+use Rattle.dkg_ceremony.specs.ValidLogs.{check_log_of}
 use Rattle.dkg_journal.specs.Names.{Files}
+use Rattle.dkg_journal.specs.Records.{entries}
 use Rattle.dkg_secrets.specs.Secrets.{Secrets}
+use Rattle.dkg_store.specs.Pairs.{IsWhole}
 use Rattle.dkg_types.specs.Blocks.{Block}
+use Rattle.dkg_types.specs.Paths.{logs_of_path}
+use Rattle.dkg_types.specs.Units.{unit_spelling}
 use Rattle.dkg_types.specs.declared.directory.Unit as directory
 use Rattle.dkg_types.specs.declared.entry.AnswerLine.{AnswerLine}
 use Rattle.dkg_types.specs.declared.entry.AnswerLine.TheVariants.{Available, Unavailable}
@@ -16,16 +22,23 @@ use Rattle.dkg_types.specs.declared.info.EpochInfo.{EpochInfo}
 use Rattle.dkg_text.specs.declared.script.Event.TheVariants.{Final, Info}
 use Rattle.dkg_text.specs.declared.script.Life.{Life}
 use Rattle.dkg_text.specs.declared.script.Script.{Script}
+use Rattle.dkg_script.specs.AsCut.{setting_as_cut}
 use Rattle.dkg_script.specs.Epochs.{alone}
+use Rattle.dkg_script.specs.Blocks.{chain}
+use Rattle.dkg_script.specs.History.{IsWholeHistory}
+use Rattle.dkg_script.specs.Inclusion.{IsFormOfInclusion}
 use Rattle.dkg_script.specs.Position.{awaited_epoch, event_of_step, follows}
-use Rattle.dkg_script.specs.Progress.{AtEachEntry, Progress}
-use Rattle.dkg_script.specs.Setting.{setting_of}
-use Rattle.dkg_run.specs.Asks.{IsRefusedAt, IsShortAt, IsUncancelled, WereAsked, next_bytes, standing_of}
-use Rattle.dkg_run.specs.Blamed.{IsInfoOf, IsTakenLast, round_by}
+use Rattle.dkg_script.specs.Progress.{AtEachEntry, Progress, progress}
+use Rattle.dkg_script.specs.Setting.{Setting, life_at, setting_of}
+use Rattle.dkg_script.specs.Views.{seen_block}
+use Rattle.dkg_run.specs.Asks.{IsPathOf, IsRefusedAt, IsShortAt, IsUncancelled, WereAsked, fed_in, next_bytes, standing_of}
+use Rattle.dkg_run.specs.Blamed.{IsInfoOf, IsTakenLast, per_epoch, round_by}
 use Rattle.dkg_run.specs.Given.{blocks_in}
 
 abbrev U : Type 0
 U = directory.Unit
+
+-- WHATEVER THE DEVICES TELL
 
 -- the request was made while this epoch was awaited, and isn't cancelled by the first j events
 pub record IsAskedFor (script : Script) (l : ℕ) (life : Life) (epoch j request : ℕ) : Type 0 where
@@ -71,6 +84,33 @@ IsAnswer script p (Answer request answer) =
     IsSomeAnd (slice_get script.lives (length p.cuts)) (λ life. IsAnsweredSo script (length p.cuts) life (awaited_epoch (alone script) (length p.cuts) life (p.step - 1)) p.step request answer)
 IsAnswer script p _ = Unit {0}
 
--- each entry is so, over what was written before it. (It speaks of no device.)
+-- each entry is so, over what was written before it (the clause `answers` of the promise, beside `blamed`: it speaks of no device)
 abbrev pub AnswersSo : Script → List Entry → Type 0
 AnswersSo script out = (files : Files) (held : Secrets) → AtEachEntry (setting_of script files held) (IsAnswer script) out
+
+-- OVER DEVICES THAT TELL, where the script has a whole history (dkg_script's History)
+
+-- the chain, as a node's blocks
+abbrev pub IsOfChain : Setting → (height : ℕ) → Block U → Type 0
+IsOfChain s height b = chain s height ≡ Some (seen_block unit_spelling b)
+
+-- the answer is by the logs of a path of the request
+pub record IsFromPath (s : Setting) (l : ℕ) (life : Life) (j request : ℕ) (payload : Option (List ℕ)) : Type 0 where
+  pub epoch : ℕ
+  pub epoch_is : epoch ≡ awaited_epoch s l life (j - 1)
+  pub info : EpochInfo U
+  pub info_is : IsInfoOf s.script epoch info
+  pub round : Round
+  pub round_is : round_by s.script epoch info ≡ Ok round
+  pub path : List (Block U)
+  pub path_is : IsPathOf s.script (IsOfChain s) epoch (fed_in s.script life request j) path
+  pub bytes : payload ≡ Some (next_bytes s.script info round (logs_of_path check_log_of (midpoint (per_epoch s.script) epoch) (last (per_epoch s.script) epoch) round path))
+
+abbrev pub IsPathAnswer : Setting → Progress → Entry → Type 0
+IsPathAnswer s p (Answer request (Available payload)) = IsSomeAnd (life_at s (length p.cuts)) (λ life. IsFromPath s (length p.cuts) life p.step request payload)
+IsPathAnswer s p _ = Unit {0}
+
+-- THE CLAUSE `paths` of the promise: of the entries that a run adds, whatever ends it, where the script as it was cut has a whole history and each dealing that was handed in has its private half
+abbrev pub AnswersThePath : Script → Files → Secrets → List Entry → Type 0
+AnswersThePath script files held out = let s = setting_as_cut script files held out in
+    IsFormOfInclusion s.script → IsWholeHistory s (progress s out).cuts → IsWhole (entries s.files) s.secrets → AtEachEntry s (IsPathAnswer s) out

@@ -1,5 +1,5 @@
 -- What a life of a script is asked, and what it was fed: the blocks of a request, as a scan reads them, and the logs that these make.
-use Rattle.std.specs.Prelude.{ℕ, ◌≡◌, ◌==◌, fold, List, ◌∷◌, ◌++◌, Option, reverse, take, option_map, if◌then◌else◌}
+use Rattle.std.specs.Prelude.{ℕ, ◌≡◌, ◌+◌, ◌-◌, ◌≤◌, ◌==◌, ◌⊎◌, Contains, fold, length, List, ◌∷◌, ◌++◌, Option, Some, slice_get, reverse, take, option_map, IsSomeAnd, if◌then◌else◌}
 use Rattle.dkg_ceremony.specs.declared.epocher.Bounds.{Bounds}
 use Rattle.dkg_ceremony.specs.declared.round.RoundParts.{RoundParts as Round}
 use Rattle.dkg_ceremony.specs.Outcomes.{LogMap, outcome_of}
@@ -13,7 +13,7 @@ use Rattle.dkg_types.specs.Units.{unit_spelling}
 use Rattle.dkg_types.specs.declared.directory.Unit as directory
 use Rattle.dkg_types.specs.declared.entry.Why.{Why}
 use Rattle.dkg_types.specs.declared.info.EpochInfo.{EpochInfo}
-use Rattle.dkg_artifact.specs.Ancestries.{Completes, IsUnderWay, Refuses}
+use Rattle.dkg_artifact.specs.Ancestries.{Completes, IsLinked, IsUnderWay, Refuses}
 use Rattle.dkg_artifact.specs.Scans.{above}
 use Rattle.dkg_artifact.specs.declared.scan.Tip as scan
 use Rattle.dkg_text.specs.declared.script.Event.{Event}
@@ -100,3 +100,15 @@ pub record IsShortAt (script : Script) (life : Life) (epoch request j : ℕ) : T
   pub path : List (Block U)
   pub fed : fed_in script life request j ≡ reverse path
   pub under_way : IsUnderWay (bounds_in script epoch) (scan_tip script life j) path
+
+-- THE PATH OF AN ANSWER: linked blocks from the midpoint at the latest up to the block asked for or its parent. The upper ones are those that were fed first, from the top down, and the chain goes on below them.
+pub record IsPathOf (script : Script) (chain : ℕ → Block U → Type 0) (epoch : ℕ) (fed path : List (Block U)) : Type 0 where
+  pub lower : List (Block U)
+  pub upper : List (Block U)
+  pub rest : List (Block U)
+  pub parts : path ≡ lower ++ upper
+  pub fed_first : fed ≡ reverse upper ++ rest
+  pub below : (b : Block U) → Contains lower b → chain b.height b
+  pub linked : IsLinked path
+  pub bottom : IsSomeAnd (slice_get path 0) (λ b. b.height ≤ midpoint (per_epoch script) epoch)
+  pub top : IsSomeAnd (slice_get fed 0) (λ b. (slice_get path (length path - 1) ≡ Some b) × ((b.height ≡ last (per_epoch script) epoch) ⊎ (b.height + 1 ≡ last (per_epoch script) epoch)))

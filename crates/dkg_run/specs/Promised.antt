@@ -9,7 +9,7 @@ use Rattle.dkg_text.specs.declared.script.Script.{Script}
 use Rattle.dkg_script.specs.AsCut.{setting_as_cut}
 use Rattle.dkg_script.specs.SameOffers.{OffersTheSame}
 use Rattle.dkg_script.specs.Promise.{AnswersDealings, KeepsDealings, RunsAll, RunsInOrder, cuts_in}
-use Rattle.dkg_run.specs.Answers.{AnswersSo}
+use Rattle.dkg_run.specs.Answers.{AnswersSo, AnswersThePath}
 use Rattle.dkg_run.specs.Complete.{IsSoundRun, IsValidAsCut}
 use Rattle.dkg_run.specs.Blamed.{BlamesSo}
 use Rattle.dkg_script.specs.Ends.{EndsScript}
@@ -20,7 +20,7 @@ use Rattle.dkg_run.specs.Leaves.{LeavesSo}
 use Rattle.dkg_run.specs.Lives.{AnyFiles, RunsOver, RunsSo, never}
 use Rattle.dkg_run.specs.Over.{Over}
 use Rattle.dkg_run.specs.Refusals.{BlamesOnlySkips}
-use Rattle.dkg_run.specs.SharesStand.{CommitsFit}
+use Rattle.dkg_run.specs.SharesStand.{CommitsExactly, CommitsFit}
 use Rattle.dkg_run.specs.Ways.{by_lines, trace}
 
 -- THE ENTRIES are those of a node run of the script, whatever the devices tell: a step that is ended early gives a front of its lines. Each life's end
@@ -57,10 +57,14 @@ pub record Promised (script : Script) (o : Over) (result : Result (Unit {0}) Fau
   pub offers : o.tells → Stands o.before.files o.before.image → OffersTheSame script o.before.files o.before.held added
   -- Whatever the devices tell, each answer of a final block's request is of one that was asked and isn't cancelled: what follows the logs that were asked for, or why there is none.
   pub answers : AnswersSo script added
-  -- .. and a completed step of a life that takes part, past its epoch's midpoint, leaves no request open unless a verification may run or one that was made no later still needs blocks.
+  -- .. and a completed step of a life that takes part, past its epoch's midpoint, leaves no request open unless a verification runs or the oldest one that is open still needs blocks.
   pub leaves : LeavesSo script added
+  -- Where the past is whole, the logs of an available answer are those of one linked path of blocks.
+  pub paths : o.tells → Stands o.before.files o.before.image → AnswersThePath script o.before.files o.before.held added
   -- Each share that is committed is this node's in the output that its epoch's info carries.
   pub shares : o.tells → Stands o.before.files o.before.image → CommitsFit script o.before.files o.before.held added
+  -- .. and, where the past is whole, it stands exactly: behind an epoch that a life takes part in there is one just where the ceremony succeeded and the node played, or failed and the node held one.
+  pub exactly : o.tells → Stands o.before.files o.before.image → CommitsExactly script o.before.files o.before.held added
   -- A valid script over valid devices, of which no count rises, is run to its end, unless memory runs out.
   pub complete : IfErr result (λ fault. IsSoundRun o (IsValidAsCut script added) → fault ≡ NoMemory)
   -- A second call stands under what this one leaves.

@@ -12,13 +12,13 @@ pub mod EpochsAsCut
 pub mod EpochsWithin
 pub mod FollowsAsCut
 pub mod Formed
+pub mod Histories
 pub mod Honest
 pub mod InclusionAsCut
 pub mod InclusionScripts
 pub mod LineBlocks
 pub mod Listed
 pub mod Members
-pub mod NotedLogs
 pub mod OfText
 pub mod OneAck
 pub mod OneAckAgain

@@ -7,6 +7,7 @@ pub mod Consistent
 pub mod Due
 pub mod Ends
 pub mod Epochs
+pub mod History
 pub mod Inclusion
 pub mod Kept
 pub mod Laws

@@ -7,7 +7,8 @@
 //! wants: `Order` (where an entry may stand), `Due` (when an acknowledgement is owed), `Consistent`, `OwnMarks` and `Valid` (what is
 //! presumed of a script), `AsCut` and `AsCutLaws` (a script as its lives were cut, and what stays of it), `Ends` (how entries end), and
 //! below these `Progress`, `Position`, `Blocks`, `Setting` and `Readings`. Which scripts are run so far is `Inclusion`, which the promise
-//! presumes, and `Built`, by which `read_built` answers. `Asked` is what requests are fed, and `LogsKnown` what is known of recorded logs.
+//! presumes, and `Built`, by which `read_built` answers. `Asked` is what requests are fed, `LogsKnown` what is known of recorded logs,
+//! and `History` what is presumed of a script's past where something rests on all logs of an epoch.
 #![tactic(auto)]
 
 mod built;
