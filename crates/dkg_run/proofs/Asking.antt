@@ -1,7 +1,7 @@
 -- Each request of a life was made by an event while the life awaited the epoch that it awaits now; and the info by which it takes part is carried by a block that the life has and that begins its epoch.
 use Rattle.std.proofs.Common.{◌≡◌, ◌⊎◌, inl, inr, ℕ, suc, ◌+◌, ◌<◌, ◌==◌, ◌++◌, List, [], ◌∷◌, Option, Some, None, Bool, true, false, Ok, arith, refl, sym, ◌∙◌, ap, subst, length}
 use Rattle.std.specs.Prelude.{Contains, filter, find, is_some, map, not, slice_get, option_map, option_to_list, option_and_then, IfSome, IsSomeAnd, if◌then◌else◌}
-use Rattle.std.specs.List.{AllByRecursion, cons_option}
+use Rattle.std.specs.List.{AllByRecursion}
 use Rattle.std.proofs.lemmas.Bool.Decides.{nat_tests}
 use Rattle.dkg_values.specs.Rising.{lookup}
 use Rattle.dkg_ceremony.specs.Schedule.{boundary, epoch_of, last, midpoint}
@@ -47,9 +47,6 @@ U = directory.Unit
 
 none_some : {A : Type 0} (x : A) → ◌≡◌ {A = Option A} None (Some x) → ⊥
 none_some x e = cc
-
-some_is : {A : Type 0} {x y : A} → ◌≡◌ {A = Option A} (Some x) (Some y) → x ≡ y
-some_is e = cc
 
 includes_apart : ◌≡◌ {A = Stage} Includes Follows → ⊥
 includes_apart e = cc
