@@ -49,7 +49,7 @@ use Rattle.dkg_run.specs.Blamed.{IsInfoOf, IsTakenLast, round_by, tip_in}
 use Rattle.dkg_run.specs.Epochs.{IsLifeInForm, StandsInScript, any_shares, epoch_by}
 use Rattle.dkg_run.specs.Given.{Lived, at_step, blocks_in}
 use Rattle.dkg_run.proofs.Ancestry.{IsRead}
-use Rattle.dkg_run.proofs.Asking.{IsCarried}
+use Rattle.dkg_run.proofs.Asking.{IsCarried, info_later}
 use Rattle.dkg_run.proofs.Awaiting.{IsReached}
 use Rattle.dkg_run.proofs.Causing.{above_by, taken}
 use Rattle.dkg_run.proofs.FedRequests.{becomes_open, stands_more}
@@ -86,7 +86,7 @@ module _ (Known : Knows) where
   answered_so script l life epoch j request (Unavailable why) said = said
 
 module _ {Known : Knows} (g : Lived) (here : IsLifeInForm g) (i : ℕ) (its : Event) (is : slice_get g.life.events i ≡ Some its) (reached : IsReached g.life.cut (suc i)) (m : IsMessage g its) (st : Live U)
-    (live : IsLiveThrough (at_step g (suc i)) any_shares st) (stands : StandsInScript g i st) (tip : st.tip ≡ tip_in g.script g.life i) (carried : IsCarried g st) (held : AreHeld g Known i st)
+    (live : IsLiveThrough (at_step g (suc i)) any_shares st) (stands : StandsInScript g i st) (tip : st.tip ≡ tip_in g.script g.life i) (carried : IsCarried g i st) (held : AreHeld g Known i st)
     (tip_next : tip_behind m.message st.tip ≡ tip_in g.script g.life (suc i)) (known : KnowsRead g Known i st m.message) where
   abbrev c : Fixed U
   c = at_step g (suc i)
@@ -117,8 +117,9 @@ module _ {Known : Knows} (g : Lived) (here : IsLifeInForm g) (i : ℕ) (its : Ev
     its_epoch = stands.epoch apart
 
     module _ (round : Round) (info : EpochInfo U) (of_round : st.participation.round ≡ Some round) (of_info : st.participation.current ≡ Some info) where
-      info_is : IsInfoOf g.script e info
-      info_is = subst (λ (k : ℕ). IsInfoOf g.script k info) its_epoch (subst (λ (o : Option (EpochInfo U)). IsSomeAnd o (λ x. IsInfoOf g.script st.participation.epoch x)) of_info (carried round of_round))
+      info_is : IsInfoOf g.script g.life (suc i) e info
+      info_is = info_later g i e info
+          (subst (λ (k : ℕ). IsInfoOf g.script g.life i k info) its_epoch (subst (λ (o : Option (EpochInfo U)). IsSomeAnd o (λ x. IsInfoOf g.script g.life i st.participation.epoch x)) of_info (carried round of_round)))
 
       round_is : round_by g.script e info ≡ Ok round
       unfolding at_step

@@ -1,7 +1,7 @@
--- Each request of a life was made by an event while the life awaited the epoch that it awaits now; and the info by which it takes part is carried by a block of the script that begins its epoch.
-use Rattle.std.proofs.Common.{◌≡◌, ◌⊎◌, inl, inr, ℕ, suc, ◌+◌, ◌<◌, ◌==◌, ◌++◌, List, [], ◌∷◌, Option, Some, None, Bool, true, false, Ok, arith, refl, sym, ◌∙◌, ap, subst}
-use Rattle.std.specs.Prelude.{filter, find, is_some, map, not, slice_get, option_map, option_to_list, option_and_then, IfSome, IsSomeAnd, if◌then◌else◌}
-use Rattle.std.specs.List.{AllByRecursion, cons_option}
+-- Each request of a life was made by an event while the life awaited the epoch that it awaits now; and the info by which it takes part is carried by a block that the life has and that begins its epoch.
+use Rattle.std.proofs.Common.{◌≡◌, ◌⊎◌, inl, inr, ℕ, suc, ◌+◌, ◌<◌, ◌==◌, ◌++◌, List, [], ◌∷◌, Option, Some, None, Bool, true, false, Ok, arith, refl, sym, ◌∙◌, ap, subst, length}
+use Rattle.std.specs.Prelude.{Contains, filter, find, is_some, map, not, slice_get, option_map, option_to_list, option_and_then, IfSome, IsSomeAnd, if◌then◌else◌}
+use Rattle.std.specs.List.{AllByRecursion}
 use Rattle.std.proofs.lemmas.Bool.Decides.{nat_tests}
 use Rattle.dkg_values.specs.Rising.{lookup}
 use Rattle.dkg_ceremony.specs.Schedule.{boundary, epoch_of, last, midpoint}
@@ -34,9 +34,10 @@ use Rattle.dkg_core.specs.Setup.{Uncommitted, begins_inclusion}
 use Rattle.dkg_core.specs.Stepping.{IsHeardBy, dealt_behind, given_itself, next_epoch, with_taken}
 use Rattle.dkg_core.specs.Through.{IsAppliedThrough, IsBlockThrough, IsCarriedOn, IsEndThrough, IsFollowedThrough, IsIncludedThrough, IsLiveThrough, IsReadFrom, asked_by, cancelled, included, observed, observed_log, waits_for}
 use Rattle.dkg_core.proofs.StepDealing as dealing
-use Rattle.dkg_run.specs.Blamed.{IsInfoOf, first_epoch_in, opening_block, per_epoch}
+use Rattle.dkg_run.specs.Blamed.{IsHad, IsInfoOf, first_epoch_in, opening_block, per_epoch}
 use Rattle.dkg_run.specs.Epochs.{IsLifeInForm, StandsInScript, any_shares, epoch_by}
-use Rattle.dkg_run.specs.Given.{Lived, at_step, blocks_in, numbered}
+use Rattle.dkg_run.specs.Given.{Lived, at_step, blocks_in}
+use Rattle.dkg_run.proofs.Drawn.{all_join, found_number}
 use Rattle.dkg_run.proofs.Former.{Brings, BringsBlock, BringsMail, IsMessage, brings_so, form_at}
 use Rattle.dkg_run.proofs.NextLives.{GoesOn, TakesOver, next_so}
 use Rattle.dkg_run.proofs.Started.{first_epoch_is, source_is}
@@ -46,9 +47,6 @@ U = directory.Unit
 
 none_some : {A : Type 0} (x : A) → ◌≡◌ {A = Option A} None (Some x) → ⊥
 none_some x e = cc
-
-some_is : {A : Type 0} {x y : A} → ◌≡◌ {A = Option A} (Some x) (Some y) → x ≡ y
-some_is e = cc
 
 includes_apart : ◌≡◌ {A = Stage} Includes Follows → ⊥
 includes_apart e = cc
@@ -220,8 +218,18 @@ module _ (g : Lived) where
   AreMade j st = IsOfAll (WasMade j) st.inclusion
 
   -- the current info of a life that takes part is carried by a block that begins its epoch
-  abbrev pub IsCarried : Live U → Type 0
-  IsCarried st = (round : Round) → st.participation.round ≡ Some round → IsSomeAnd st.participation.current (λ info. IsInfoOf g.script st.participation.epoch info)
+  abbrev pub IsCarried : (j : ℕ) → Live U → Type 0
+  IsCarried j st = (round : Round) → st.participation.round ≡ Some round → IsSomeAnd st.participation.current (λ info. IsInfoOf g.script g.life j st.participation.epoch info)
+
+  -- what a life has it has behind one event more
+  had_later : (j number : ℕ) → IsHad g.life j number → IsHad g.life (suc j) number
+  had_later j number (inl held) = inl held
+  had_later j number (inr (inl stands)) = inr (inl stands)
+  had_later j number (inr (inr (k, low, came))) = inr (inr (k, omega (arith, low), came))
+
+  pub info_later : (j epoch : ℕ) (info : EpochInfo U) → IsInfoOf g.script g.life j epoch info → IsInfoOf g.script g.life (suc j) epoch info
+  info_later j epoch info its =
+      record { number = its.number; had = had_later j its.number its.had; block = its.block; is = its.is; begins = its.begins; carries = its.carries; of_epoch = its.of_epoch }
 
 module _ (g : Lived) (here : IsLifeInForm g) where
   -- A STEP
@@ -360,10 +368,11 @@ module _ (g : Lived) (here : IsLifeInForm g) where
 
     -- a last block begins the epoch whose info it carries
     of_last : (block : Block U) (info : EpochInfo U) (epoch : ℕ) → is_last_height c block.height ≡ true → info.epoch ≡ next_epoch c block → info_of block.payload ≡ Some info → info.epoch ≡ epoch → (number : ℕ)
-        → slice_get (blocks_in g.script) number ≡ Some block → IsInfoOf g.script epoch info
+        → slice_get (blocks_in g.script) number ≡ Some block → its ≡ event.Final number → IsInfoOf g.script g.life (suc i) epoch info
     unfolding at_step
-    of_last block info epoch last_one of_next carries same number there = record {
+    of_last block info epoch last_one of_next carries same number there of = record {
       number = number;
+      had = inr (inr (i, omega arith, is ∙ ap (λ (x : Event). Some x) of));
       block = block;
       is = there;
       begins = begins_next (per_epoch g.script) block.height epoch last_one (sym same ∙ of_next);
@@ -372,18 +381,23 @@ module _ (g : Lived) (here : IsLifeInForm g) where
     }
 
     -- .. and the info by which it takes part is carried
-    pub step_carried : IsCarried g st → IsCarried g end
-    step_carried was round of_end = subst (λ (x : Live U). IsSomeAnd x.participation.current (λ info. IsInfoOf g.script x.participation.epoch info)) (sym node.same) (either goes)
+    pub step_carried : IsCarried g i st → IsCarried g (suc i) end
+    step_carried was round of_end = subst (λ (x : Live U). IsSomeAnd x.participation.current (λ info. IsInfoOf g.script g.life (suc i) x.participation.epoch info)) (sym node.same) (either goes)
       where
         of : mid.participation.round ≡ Some round
         of = sym (ap (λ (x : Live U). x.participation.round) node.same) ∙ of_end
 
-        still : GoesOn c st m.message mid → IsSomeAnd mid.participation.current (λ info. IsInfoOf g.script mid.participation.epoch info)
+        still : GoesOn c st m.message mid → IsSomeAnd mid.participation.current (λ info. IsInfoOf g.script g.life (suc i) mid.participation.epoch info)
         still on =
-            subst (λ (o : Option (EpochInfo U)). IsSomeAnd o (λ info. IsInfoOf g.script mid.participation.epoch info)) (sym (on.same).current)
-            (subst (λ (epoch : ℕ). IsSomeAnd st.participation.current (λ info. IsInfoOf g.script epoch info)) (sym (on.same).epoch) (was round (sym (on.same).round ∙ of)))
+            subst (λ (o : Option (EpochInfo U)). IsSomeAnd o (λ info. IsInfoOf g.script g.life (suc i) mid.participation.epoch info)) (sym (on.same).current)
+            (subst (λ (epoch : ℕ). IsSomeAnd st.participation.current (λ info. IsInfoOf g.script g.life (suc i) epoch info)) (sym (on.same).epoch)
+            (later st.participation.current (was round (sym (on.same).round ∙ of))))
+          where
+            later : (o : Option (EpochInfo U)) → IsSomeAnd o (λ info. IsInfoOf g.script g.life i st.participation.epoch info) → IsSomeAnd o (λ info. IsInfoOf g.script g.life (suc i) st.participation.epoch info)
+            later (Some info) its_info = info_later g i st.participation.epoch info its_info
+            later None its_info = its_info
 
-        taken : TakesOver c any_shares st m.message devices mid left → IsSomeAnd mid.participation.current (λ info. IsInfoOf g.script mid.participation.epoch info)
+        taken : TakesOver c any_shares st m.message devices mid left → IsSomeAnd mid.participation.current (λ info. IsInfoOf g.script g.life (suc i) mid.participation.epoch info)
         taken over = by_brought (brings_so g its m.message m.brings)
           where
             on : IsCarriedOn c any_shares over.block st devices
@@ -396,36 +410,45 @@ module _ (g : Lived) (here : IsLifeInForm g) where
             epoch = (subst (λ (o : Option (EpochInfo U)). IsSomeAnd o (λ info. (info.epoch ≡ mid.participation.epoch) × (validity c info ≡ Ok tt) × (round_for c mid.participation.epoch info ≡ Ok round))) current
                 (((node.next).live).informed round of)).0
 
-            of_block : (number : ℕ) → slice_get (blocks_in g.script) number ≡ Some over.block → IsInfoOf g.script mid.participation.epoch on.info
-            of_block number there = of_last over.block on.info mid.participation.epoch over.last on.of_next on.carried epoch number there
+            of_block : (number : ℕ) → slice_get (blocks_in g.script) number ≡ Some over.block → its ≡ event.Final number → IsInfoOf g.script g.life (suc i) mid.participation.epoch on.info
+            of_block number there of_it = of_last over.block on.info mid.participation.epoch over.last on.of_next on.carried epoch number there of_it
 
             the_block : {x y : Block U} → ◌≡◌ {A = Message U} (Finalized x) (Finalized y) → x ≡ y
             the_block e = cc
 
-            by_brought : BringsBlock g its m.message ⊎ BringsMail its m.message → IsSomeAnd mid.participation.current (λ info. IsInfoOf g.script mid.participation.epoch info)
+            by_brought : BringsBlock g its m.message ⊎ BringsMail its m.message → IsSomeAnd mid.participation.current (λ info. IsInfoOf g.script g.life (suc i) mid.participation.epoch info)
             by_brought (inr mail) = absurd (let wrong : ◌≡◌ {A = Message U} (Sent mail.0) (Finalized over.block) = sym mail.1 ∙ over.is in cc)
-            by_brought (inl b) = subst (λ (o : Option (EpochInfo U)). IsSomeAnd o (λ info. IsInfoOf g.script mid.participation.epoch info)) (sym current)
-                (of_block b.0 ((b.1).is ∙ ap (λ (x : Block U). Some x) (the_block (sym b.3 ∙ over.is))))
+            by_brought (inl b) = subst (λ (o : Option (EpochInfo U)). IsSomeAnd o (λ info. IsInfoOf g.script g.life (suc i) mid.participation.epoch info)) (sym current)
+                (of_block b.0 ((b.1).is ∙ ap (λ (x : Block U). Some x) (the_block (sym b.3 ∙ over.is))) b.2)
 
-        either : GoesOn c st m.message mid ⊎ TakesOver c any_shares st m.message devices mid left → IsSomeAnd mid.participation.current (λ info. IsInfoOf g.script mid.participation.epoch info)
+        either : GoesOn c st m.message mid ⊎ TakesOver c any_shares st m.message devices mid left → IsSomeAnd mid.participation.current (λ info. IsInfoOf g.script g.life (suc i) mid.participation.epoch info)
         either (inl on) = still on
         either (inr over) = taken over
 
   -- AN OPENING
 
-  -- one that is found among numbered blocks is the block of some number
-  found_at : (blocks : List (Block U)) (p : Block U → Bool) (b : Block U) (numbers : List ℕ) → find p (numbered blocks numbers) ≡ Some b → (number : ℕ) × (slice_get blocks number ≡ Some b) × (p b ≡ true)
-  found_at blocks p b [] found = absurd (none_some b found)
-  found_at blocks p b (n ∷ ns) found = by_block (λ rest. found_at blocks p b ns rest) (slice_get blocks n) refl found
+  -- what a life holds or stands at it has from its opening on
+  all_had : AllByRecursion (IsHad g.life 0) (g.life.held ++ option_to_list (option_map anchor_number g.life.anchor))
+  all_had = all_join (IsHad g.life 0) g.life.held (option_to_list (option_map anchor_number g.life.anchor))
+      (all_more (Contains g.life.held) (IsHad g.life 0) (λ number among. inl among) g.life.held (contained g.life.held)) (by_anchor (option_map anchor_number g.life.anchor) refl)
     where
-      by_block : (find p (numbered blocks ns) ≡ Some b → (number : ℕ) × (slice_get blocks number ≡ Some b) × (p b ≡ true)) → (o : Option (Block U)) → slice_get blocks n ≡ o → find p (cons_option o (numbered blocks ns)) ≡ Some b
-          → (number : ℕ) × (slice_get blocks number ≡ Some b) × (p b ≡ true)
-      by_block again None there found = again found
-      by_block again (Some x) there found = by_test (p x) refl found
+      all_more : (P Q : ℕ → Type 0) → ((n : ℕ) → P n → Q n) → (ns : List ℕ) → AllByRecursion P ns → AllByRecursion Q ns
+      all_more P Q more [] all = tt
+      all_more P Q more (n ∷ ns) all = (more n all.0, all_more P Q more ns all.1)
+
+      contained : (ns : List ℕ) → AllByRecursion (Contains ns) ns
+      contained [] = tt
+      contained (n ∷ ns) = ((0, first (length ns), refl), all_more (Contains ns) (Contains (n ∷ ns)) (λ x among. (suc among.0, next among.0 (length ns) among.1, among.2)) ns (contained ns))
         where
-          by_test : (t : Bool) → p x ≡ t → (if t then Some x else find p (numbered blocks ns)) ≡ Some b → (number : ℕ) × (slice_get blocks number ≡ Some b) × (p b ≡ true)
-          by_test true e found = (n, there ∙ found, subst (λ (y : Block U). p y ≡ true) (some_is found) e)
-          by_test false e found = again found
+          first : (a : ℕ) → 0 < suc a
+          first a = omega arith
+
+          next : (a b : ℕ) → a < b → suc a < suc b
+          next a b low = omega (arith, low)
+
+      by_anchor : (o : Option ℕ) → option_map anchor_number g.life.anchor ≡ o → AllByRecursion (IsHad g.life 0) (option_to_list o)
+      by_anchor None stands = tt
+      by_anchor (Some number) stands = (inr (inl stands), tt)
 
   pub first_block_same : first_block (at_step g 0) ≡ opening_block g.script g.number g.life
   unfolding at_step
@@ -449,14 +472,11 @@ module _ (g : Lived) (here : IsLifeInForm g) where
 
     module _ (live : IsLiveThrough (at_step g 0) any_shares st) where
       abbrev Known : EpochInfo U → Type 0
-      Known info = IsInfoOf g.script st.participation.epoch info
+      Known info = IsInfoOf g.script g.life 0 st.participation.epoch info
 
-      pub opening_carried : IsCarried g st
+      pub opening_carried : IsCarried g 0 st
       opening_carried round of = by_block (opening_block g.script g.number g.life) refl (subst (IsSetUpIn (at_step g 0) seen k before) first_block_same (begun.opened).set_up)
         where
-          same_number : (a b : ℕ) → (a == b) ≡ true → a ≡ b
-          same_number a b e = grind (arith, nat_tests)
-
           by_info : (b : Block U) → opening_block g.script g.number g.life ≡ Some b → (o : Option (EpochInfo U)) → info_of b.payload ≡ o
               → IsSomeAnd o (λ info. IsSeated (at_step g 0) Uncommitted info (share_read (at_step g 0) info k) (seed_read (at_step g 0) info k) (started (at_step g 0) seen) before) → IsSomeAnd st.participation.current Known
           by_info b there None carries none = absurd none
@@ -465,14 +485,14 @@ module _ (g : Lived) (here : IsLifeInForm g) where
               let epoch : info.epoch ≡ st.participation.epoch
               = (subst (λ (o : Option (EpochInfo U)). IsSomeAnd o (λ x. (x.epoch ≡ st.participation.epoch) × (validity (at_step g 0) x ≡ Ok tt) × (round_for (at_step g 0) st.participation.epoch x ≡ Ok round))) current
               (live.informed round of)).0 in
-              let found = found_at (blocks_in g.script) (λ (x : Block U). x.height == boundary (per_epoch g.script) (first_epoch_in g.script g.number g.life)) b
-              (g.life.held ++ option_to_list (option_map anchor_number g.life.anchor)) there in
+              let found = found_number (blocks_in g.script) (boundary (per_epoch g.script) (first_epoch_in g.script g.number g.life)) (IsHad g.life 0) b (g.life.held ++ option_to_list (option_map anchor_number g.life.anchor)) all_had there in
               let first : st.participation.epoch ≡ first_epoch_in g.script g.number g.life = sym epoch ∙ seated.of_epoch ∙ first_epoch_is g here 0 in
               subst (λ (o : Option (EpochInfo U)). IsSomeAnd o Known) (sym current) (record {
                 number = found.0;
+                had = found.2;
                 block = b;
                 is = found.1;
-                begins = same_number b.height (boundary (per_epoch g.script) (first_epoch_in g.script g.number g.life)) found.2 ∙ ap (boundary (per_epoch g.script)) (sym first);
+                begins = found.3 ∙ ap (boundary (per_epoch g.script)) (sym first);
                 carries = carries;
                 of_epoch = epoch;
               })

@@ -14,6 +14,7 @@ use Rattle.dkg_types.specs.declared.entry.Entry.{Entry}
 use Rattle.dkg_types.specs.declared.entry.Entry.TheVariants as entry
 use Rattle.dkg_types.specs.declared.fault.Fault.{Fault}
 use Rattle.dkg_types.specs.declared.fault.Fault.TheVariants as fault
+use Rattle.dkg_types.specs.declared.fault.LocalCause.TheVariants as local
 use Rattle.dkg_types.specs.declared.fault.Fault.TheVariants.{NoMemory}
 use Rattle.dkg_text.specs.declared.script.Cut as cut
 use Rattle.dkg_text.specs.declared.script.Event.{Event}
@@ -63,7 +64,7 @@ use Rattle.dkg_run.specs.Lives.{LivesSo, RunsAllSo, RunsSo, Steps, TakesAll, Tel
 use Rattle.dkg_run.specs.Ways.{ReadsSomething, Trace, by_lines}
 use Rattle.dkg_run.proofs.Answered.{IsSaidAt, answered_so, step_answers, unanswered_so}
 use Rattle.dkg_run.proofs.Apart.{IsApart, Reads, node_apart}
-use Rattle.dkg_run.proofs.Asking.{AreMade, IsCarried, opening_carried, opening_made, step_carried, step_made}
+use Rattle.dkg_run.proofs.Asking.{AreMade, IsCarried, info_later, opening_carried, opening_made, step_carried, step_made}
 use Rattle.dkg_run.proofs.Awaiting.{IsBefore as IsUncut, IsReached, before_all, one_more, reached_lit}
 use Rattle.dkg_run.proofs.Causing.{block_cause, block_clear, info_cause, mail_cause, opening_cause, opening_clear}
 use Rattle.dkg_run.proofs.Following.{EndsBy, RunEndsBy, all_move, item_at, rest_at}
@@ -112,7 +113,7 @@ module _ (g : Lived) (here : IsLifeInForm g) where
     pub at : IsAt g i st
     pub tip : st.tip ≡ tip_in g.script g.life i
     pub made : AreMade g i st
-    pub carried : IsCarried g st
+    pub carried : IsCarried g i st
 
   -- .. with what it has of requests
   pub record Known (i : ℕ) (st : Live directory.Unit) : Type 0 where
@@ -177,9 +178,13 @@ module _ (g : Lived) (here : IsLifeInForm g) where
     at_event P so = of_there P (slice_get g.life.events i) e e_is so
 
     -- where requests are read
-    reads_why : (own : Fault) → MayRead g.script g.number g.life i × (IsProviderCause g.script (epoch_by g i) own ⊎ IsAskedOwn g.script (epoch_by g i) own) → Why (suc i) own
+    reads_why : (own : Fault) → MayRead g.script g.number g.life i × (IsProviderCause g.script (epoch_by g i) own ⊎ IsAskedOwn g.script g.life i (epoch_by g i) own) → Why (suc i) own
     reads_why own (may, inl provider) = inr (inl (inr (may, provider)))
-    reads_why own (may, inr asked) = inr (inr (inr (may, asked)))
+    reads_why own (may, inr asked) = inr (inr (inr (may, asked_later own asked)))
+      where
+        asked_later : (own : Fault) → IsAskedOwn g.script g.life i (epoch_by g i) own → IsAskedOwn g.script g.life (suc i) (epoch_by g i) own
+        asked_later (fault.LocalState (local.StoredDealing number dealer)) asked = (asked.0, info_later g i (epoch_by g i) asked.0 asked.1, asked.2)
+        asked_later other asked = absurd asked
 
     pub step_why : (stored : OfShares) (devices : Option Held) (own : Fault) → IsStopThrough (at_step g (suc i)) stored st m.message devices own → Why (suc i) own
     step_why stored devices own stop = by_event e refl m.message m.brings stop
@@ -200,7 +205,7 @@ module _ (g : Lived) (here : IsLifeInForm g) where
             at_block P so = at_event (λ x. OnBlock g.script x P) (subst (λ (x : Event). OnBlock g.script x P) (sym is) (of_there P (slice_get (blocks_in g.script) number) (brings.0).block (brings.0).is so))
 
             either : IsBlockCause g.script g.number g.life i (brings.0).block own
-                ⊎ (IsBlockOwn g.script g.number g.life i (brings.0).block own ⊎ (MayRead g.script g.number g.life i × (IsProviderCause g.script (epoch_by g i) own ⊎ IsAskedOwn g.script (epoch_by g i) own))) → Why (suc i) own
+                ⊎ (IsBlockOwn g.script g.number g.life i (brings.0).block own ⊎ (MayRead g.script g.number g.life i × (IsProviderCause g.script (epoch_by g i) own ⊎ IsAskedOwn g.script g.life i (epoch_by g i) own))) → Why (suc i) own
             either (inl its) = inr (inl (inl (at_block (λ b. IsBlockCause g.script g.number g.life i b own) its)))
             either (inr (inl its)) = inr (inr (inl (at_block (λ b. IsBlockOwn g.script g.number g.life i b own) its)))
             either (inr (inr reads)) = reads_why own reads

@@ -383,15 +383,15 @@ module _ (g : Lived) (here : IsLifeInForm g) where
     deals_apart : ◌≡◌ {A = Stage} Deals Follows → ⊥
     deals_apart e = cc
 
-    module _ (carried : IsCarried g st) where
+    module _ (carried : IsCarried g i st) where
       abbrev e : ℕ
       e = epoch_by g i
 
       abbrev IsEither : Fault → Type 0
-      IsEither own = IsProviderCause g.script e own ⊎ IsAskedOwn g.script e own
+      IsEither own = IsProviderCause g.script e own ⊎ IsAskedOwn g.script g.life i e own
 
       -- the epoch of a life that takes part ends far below 64 bits
-      in_range : (info : EpochInfo directory.Unit) → IsInfoOf g.script st.participation.epoch info → 2 ^ 64 ≤ info.epoch + 2 → ⊥
+      in_range : (info : EpochInfo directory.Unit) → IsInfoOf g.script g.life i st.participation.epoch info → 2 ^ 64 ≤ info.epoch + 2 → ⊥
       in_range info of high =
           let made = made_there g.script of.number of.block of.is in
           let placed : ((made.0).line).height < 2 ^ 64 = holds_at (λ (line : BlockLine). line.height < 2 ^ 64) g.script.blocks of.number (made.0).line here.form.placed (made.0).line_is in
@@ -429,8 +429,8 @@ module _ (g : Lived) (here : IsLifeInForm g) where
         informed = subst (λ (o : Option (EpochInfo directory.Unit)). IsSomeAnd o (λ x. (x.epoch ≡ st.participation.epoch) × (validity (at_step g (suc i)) x ≡ Ok tt) × (round_for (at_step g (suc i)) st.participation.epoch x ≡ Ok round))) its_info
             (live.informed round its_round)
 
-        of : IsInfoOf g.script st.participation.epoch info
-        of = subst (λ (o : Option (EpochInfo directory.Unit)). IsSomeAnd o (λ x. IsInfoOf g.script st.participation.epoch x)) its_info (carried round its_round)
+        of : IsInfoOf g.script g.life i st.participation.epoch info
+        of = subst (λ (o : Option (EpochInfo directory.Unit)). IsSomeAnd o (λ x. IsInfoOf g.script g.life i st.participation.epoch x)) its_info (carried round its_round)
 
         here_now : st.participation.epoch ≡ e
         here_now = stands.epoch apart
@@ -455,7 +455,7 @@ module _ (g : Lived) (here : IsLifeInForm g) where
             inl (subst (λ (k : ℕ). IsProviderCause g.script k (fault.InvalidParticipants (cause.ProviderAbove count most))) (informed.0 ∙ here_now) (why.0, why.1, subst (λ (k : ℕ). k < count) (sym why.1) why.2))
         derive_cause (fault.DirectoryMismatch epoch) why = absurd (let wrong : ◌≡◌ {A = Bool} true false = why.1.1 in cc)
         derive_cause (fault.LocalState (local.StoredDealing number dealer)) why =
-            inr (subst (λ (k : ℕ). IsAskedOwn g.script k (fault.LocalState (local.StoredDealing number dealer))) here_now (info, of, stored_cause number dealer why))
+            inr (subst (λ (k : ℕ). IsAskedOwn g.script g.life i k (fault.LocalState (local.StoredDealing number dealer))) here_now (info, of, stored_cause number dealer why))
         derive_cause own why = absurd why
 
       asked_cause : (at : Live directory.Unit) → at.participation.round ≡ st.participation.round → at.participation.current ≡ st.participation.current → (st.participation.stage ≡ Follows → ⊥) → (own : Fault)
@@ -605,7 +605,7 @@ module _ (g : Lived) (here : IsLifeInForm g) where
               where
                 by_either : IsEither own → Why own
                 by_either (inl provider) = inl (inr (taken last_one, inl (stands.parts apart, subst (λ (k : ℕ). IsProviderCause g.script k own) its_epoch provider)))
-                by_either (inr asked) = inr (inl (inl (taken last_one, inr (stands.parts apart, subst (λ (k : ℕ). IsAskedOwn g.script k own) its_epoch asked))))
+                by_either (inr asked) = inr (inl (inl (taken last_one, inr (stands.parts apart, subst (λ (k : ℕ). IsAskedOwn g.script g.life i k own) its_epoch asked))))
 
           deals_other : st.participation.stage ≡ Deals → (own : Fault) → IsDealingStop c st own → IsBlockOwn g.script g.number g.life i b own
           deals_other stage (fault.LocalState (local.OwnDealing number kept dealt)) why =

@@ -142,9 +142,9 @@ block_local script l life j block own (inl (taken, inl carried)) = absurd (none_
 block_local script l life j block own (inl (taken, inr asked)) = absurd asked.1
 block_local script l life j block own (inr dealing) = absurd dealing.1
 
-asked_local : (script : Script) (epoch : ℕ) (own : Fault) → IsAskedOwn script epoch own → IsLocal own
-asked_local script epoch (LocalState cause) so = (cause, refl)
-asked_local script epoch own so = absurd so
+asked_local : (script : Script) (life : Life) (j epoch : ℕ) (own : Fault) → IsAskedOwn script life j epoch own → IsLocal own
+asked_local script life j epoch (LocalState cause) so = (cause, refl)
+asked_local script life j epoch own so = absurd so
 
 module _ (s : Setting) (ends : List (Option CutAt)) (valid : IsValidCase s ends) (form : IsFormOfInclusion s.script) (bytes : AreBytes s.script.blocks) (unfound : (l : ℕ) → found s l ≡ None) where
   -- whole devices give back dealings that pass, own ones that the secrets deal, and hold shares that fit
@@ -443,7 +443,7 @@ module _ (s : Setting) (ends : List (Option CutAt)) (valid : IsValidCase s ends)
           either (inr (inl (inl cause))) = absurd (cause_clear (suc i) reached all_come own cause)
           either (inr (inl (inr may))) = absurd (may_clear (suc i) reached own may)
           either (inr (inr (inl its_own))) = absurd (never (own_local own its_own))
-          either (inr (inr (inr asked))) = absurd (never (asked_local s.script (awaited_epoch (alone s.script) l life i) own asked.1))
+          either (inr (inr (inr asked))) = absurd (never (asked_local s.script life (suc i) (awaited_epoch (alone s.script) l life i) own asked.1))
 
       abbrev Leaves : Ended NodeStop (Live directory.Unit) → Held → Type 0
       Leaves ended h = LeavesSo (ValidHeld s ends form valid.consistent) (IsOwning s ends form valid.consistent l life seen files life_is here records secrets (suc i)) ended h

@@ -33,7 +33,7 @@ use Rattle.dkg_core.specs.Endings.{stage_in}
 use Rattle.dkg_core.specs.Fixed.{Fixed}
 use Rattle.dkg_core.specs.Including.{Fed, Found, Lacks, Need, is_need, read_of}
 use Rattle.dkg_core.specs.Laws.{IsAmong, IsQuiet}
-use Rattle.dkg_core.specs.Live.{Follows, Includes, Inclusion, Job, Live, NodeStop, Request}
+use Rattle.dkg_core.specs.Live.{Follows, Includes, Inclusion, Job, Live, NodeStop, Request, Stage}
 use Rattle.dkg_core.specs.Node.{node_opening, node_step}
 use Rattle.dkg_core.specs.NodeEndings.{IsFaultBy}
 use Rattle.dkg_core.specs.NodeThrough.{IsNodeThrough}
@@ -193,8 +193,24 @@ module _ (g : Lived) (here : IsLifeInForm g) (j : ℕ) (st : Live U) (said : Lis
         by_round None nothing = absurd (apart ((live.stands).without nothing).0)
         by_round (Some round) of = by_running round of st.inclusion.running refl waiting
 
+  -- A LIFE THAT FOLLOWS answers at once.
+  module _ (follows_it : follows (alone g.script) g.number g.life e ≡ true) (request : ℕ) (its : IsOpen g.life j said request) where
+    none_waits : st.participation.stage ≡ Follows → IsWaiting request st.inclusion → ⊥
+    none_waits stage (inl (x, among, same)) = subst (IsAmong x) (live.asked.has.none stage) among
+    none_waits stage (inr waits) = none_some (sym (live.asked.has.waits (live.asked.has.early (λ includes. let no : ◌≡◌ {A = Stage} Follows Includes = sym stage ∙ includes in cc)).0) ∙ waits)
+
+    at_stage : st.participation.stage ≡ Follows → ⊥
+    at_stage stage = by_waiting (tracked.all request its.at its.before its.made its.uncancelled)
+      where
+        by_waiting : IsWaiting request st.inclusion ⊎ IsAnsweredIn request said → ⊥
+        by_waiting (inl waits) = none_waits stage waits
+        by_waiting (inr (answer, among)) = its.unanswered answer among
+
+    answered_all : ⊥
+    answered_all = let no : ◌≡◌ {A = Bool} true false = sym follows_it ∙ ((known.stood).at).stands.parts at_stage in cc
+
   pub leaves_none : LeavesNone g.script g.number g.life j said
-  leaves_none takes late request its = leaves takes late request its
+  leaves_none = (λ takes late request its. leaves takes late request its, λ follows_it request its. answered_all follows_it request its)
 
 -- ONE STEP MORE
 

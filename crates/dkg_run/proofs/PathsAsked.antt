@@ -1,30 +1,33 @@
 -- Answers are from the path, where what is recorded is what the chain brings: in a life that takes part, of a script with a whole history.
 use Rattle.std.proofs.Common.{◌≡◌, ◌⊎◌, inl, inr, ℕ, zero, suc, ◌+◌, ◌-◌, ◌<◌, ◌≤◌, ◌==◌, ◌&&◌, ◌||◌, Bool, true, false, List, [], ◌∷◌, ◌++◌, Option, Some, None, arith, refl, sym, ◌∙◌, ap, subst, length}
-use Rattle.std.specs.Prelude.{nat_lt, option_map, slice_get, IfSome, IsSomeAnd}
+use Rattle.std.specs.Prelude.{nat_lt, option_map, option_to_list, slice_get, IfSome, IsSomeAnd}
 use Rattle.std.specs.FinMap.{entries}
 use Rattle.std.specs.List.{AllByRecursion}
 use Rattle.std.proofs.lemmas.Bool.Decides.{nat_tests}
 use Rattle.std.proofs.lemmas.Bool.{cases_lt}
 use Rattle.dkg_ceremony.specs.Outcomes.{LogMap}
-use Rattle.dkg_ceremony.specs.Schedule.{epoch_of, last, midpoint}
+use Rattle.dkg_ceremony.specs.Schedule.{boundary, epoch_of, last, midpoint}
 use Rattle.dkg_ceremony.specs.declared.round.RoundParts.{RoundParts as Round}
 use Rattle.dkg_journal.specs.Names.{Files}
 use Rattle.dkg_types.specs.Blocks as made
+use Rattle.dkg_types.specs.Units.{unit_spelling}
 use Rattle.dkg_types.specs.declared.directory.Unit as directory
 use Rattle.dkg_types.specs.declared.entry.AnswerLine.TheVariants.{Available, Unavailable}
 use Rattle.dkg_types.specs.declared.entry.Entry.{Entry}
 use Rattle.dkg_types.specs.declared.entry.Entry.TheVariants.{Answer}
+use Rattle.dkg_types.specs.declared.info.EpochInfo.{EpochInfo}
 use Rattle.dkg_text.specs.declared.script.Cut.{Cut}
 use Rattle.dkg_text.specs.declared.script.Event.{Event}
 use Rattle.dkg_text.specs.declared.script.Event.TheVariants as event
 use Rattle.dkg_text.specs.declared.script.Life.{Life}
-use Rattle.dkg_script.specs.Blocks.{delivered_number}
+use Rattle.dkg_script.specs.Blocks.{anchor_number, delivered_number, known_info}
 use Rattle.dkg_script.specs.Consistent.{MayEndSo}
 use Rattle.dkg_script.specs.Epochs.{alone}
 use Rattle.dkg_script.specs.History.{IsWholeHistory}
 use Rattle.dkg_script.specs.Inclusion.{IsFormOfInclusion}
 use Rattle.dkg_script.specs.Position.{awaited_epoch, follows}
 use Rattle.dkg_script.specs.Progress.{Progress}
+use Rattle.dkg_script.specs.Readings.{with_spelled}
 use Rattle.dkg_script.specs.Setting.{CutAt, Setting, blocks_per_epoch, found, life_at}
 use Rattle.dkg_store.specs.Acts.{Ended, Held, went}
 use Rattle.dkg_store.specs.Noted.{Notes}
@@ -42,23 +45,28 @@ use Rattle.dkg_core.specs.Sources.{Tip}
 use Rattle.dkg_core.specs.Through.{IsBlockThrough, IsEndThrough, IsLiveThrough, asked_by, unasked}
 use Rattle.dkg_run.specs.Answers.{IsFromPath, IsPathAnswer}
 use Rattle.dkg_run.specs.Asks.{bounds_in, fed_in, next_bytes}
-use Rattle.dkg_run.specs.Blamed.{per_epoch, refusal_in, tip_in}
+use Rattle.dkg_run.specs.Blamed.{IsHad, IsInfoOf, per_epoch, refusal_in, tip_in}
 use Rattle.dkg_run.specs.Epochs.{IsLifeInForm, StandsInScript, any_shares, epoch_by}
 use Rattle.dkg_run.specs.Given.{AreBytes, Lived, at_step, blocks_in, lived, step_of}
 use Rattle.dkg_run.proofs.Alone.{epoch_alike, follows_alike}
 use Rattle.dkg_run.proofs.AnswerPaths.{IsRecordedBy, by_path, by_path_later}
 use Rattle.dkg_run.proofs.Answered.{IsSaidAt, IsSaidIn}
-use Rattle.dkg_run.proofs.Awaiting.{IsReached}
+use Rattle.dkg_run.proofs.Awaiting.{IsReached, comes_to}
 use Rattle.dkg_run.proofs.Blaming.{Stood, its_live, opened_held, opened_stood, step_next, told_apart, told_lines, told_next}
 use Rattle.dkg_run.proofs.Causing.{accepted_by, first_awaited}
 use Rattle.dkg_run.proofs.ChainBlocks.{ChainTo, HasBlockAt, chain_begins, chain_next, chain_to_tip, first_taken, on_chain}
 use Rattle.dkg_run.proofs.Chaining.{IsOnChain, Tips, tips_so}
 use Rattle.dkg_run.proofs.DealerKeys.{keys}
+use Rattle.dkg_run.proofs.Drawn.{Begins, Numbered, held_begin, used_begin}
 use Rattle.dkg_run.proofs.FedRequests.{fed_grows}
 use Rattle.dkg_run.proofs.Former.{BringsBlock, BringsMail, IsMessage, brings_so, event_in_form, life_in, message_in}
 use Rattle.dkg_run.proofs.NextLives.{applied_so, with_round}
+use Rattle.dkg_run.proofs.OfferedHalves.{all_of}
+use Rattle.dkg_run.proofs.OwnValid.{known_at}
 use Rattle.dkg_run.proofs.ReadLogs.{IsByPath, IsRecordedTo}
 use Rattle.dkg_run.proofs.Requested.{AreHeld, IsReadFor, KnowsRead, asked_same, bounds_of, dealt_part, dealt_tip, observed_part}
+use Rattle.dkg_run.proofs.SharesKnown.{reached_below}
+use Rattle.dkg_run.proofs.Used.{all_back, all_front, of_delivered}
 
 abbrev U : Type 0
 U = directory.Unit
@@ -289,14 +297,33 @@ module _ (s : Setting) (ends : List (Option CutAt)) (history : IsWholeHistory s 
 
   -- ANSWERS
 
-  module _ (i : ℕ) (its : Event) (is : slice_get life.events i ≡ Some its) where
+  -- an info that the life has is the script's of its epoch
+  info_known : (j epoch : ℕ) (info : EpochInfo U) → ((k : ℕ) → k < j → IsReached life.cut (suc k)) → IsInfoOf s.script life j epoch info → known_info s epoch ≡ Some (with_spelled unit_spelling info)
+  info_known j epoch info reached of =
+      ap (known_info s) (sym of.of_epoch)
+      ∙ known_at s ends form history.consistent l life seen files here.life_is of.number of.block of.is (its_number of.number of.had) info of.carries (of.begins ∙ ap (boundary n) (sym of.of_epoch))
+    where
+      anchor : Option ℕ
+      anchor = option_map anchor_number life.anchor
+
+      begun_by : AllByRecursion (Numbered s ends form history.consistent) (life.held ++ option_to_list anchor)
+      begun_by = held_begin s ends form history.consistent l life seen files here.life_is
+
+      its_number : (number : ℕ) → IsHad life j number → Numbered s ends form history.consistent number
+      its_number number (inl among) = all_of (Numbered s ends form history.consistent) life.held number (all_front (Numbered s ends form history.consistent) life.held (option_to_list anchor) begun_by) among
+      its_number number (inr (inl stands)) =
+          (subst (λ (o : Option ℕ). AllByRecursion (Numbered s ends form history.consistent) (option_to_list o)) stands (all_back (Numbered s ends form history.consistent) life.held (option_to_list anchor) begun_by)).0
+      its_number number (inr (inr (k, low, came))) =
+          of_delivered s l life (Begins s ends form history.consistent) here.life_is (used_begin s ends form history.consistent) k number (comes_to life.cut life.events k (reached k low) ∙ came)
+
+  module _ (i : ℕ) (its : Event) (is : slice_get life.events i ≡ Some its) (reached : IsReached life.cut (suc i)) where
     from_path : (request : ℕ) (payload : Option (List ℕ)) → IsSaidIn IsReadWell s.script l life (epoch_by g i) (suc i) (Answer request (Available payload)) → IsFromPath s l life (suc i) request payload
     from_path request payload (asked, (made_of, known)) =
         record {
           epoch = epoch_by g i;
           epoch_is = sym (epoch_is i) ∙ ap (awaited_epoch s l life) (sym (less_one i));
           info = made_of.info;
-          info_is = made_of.info_is;
+          known = info_known (suc i) (epoch_by g i) made_of.info (λ k low. reached_below life.cut (suc i) (suc k) (omega (arith, low)) reached) made_of.info_is;
           round = made_of.round;
           round_is = made_of.round_is;
           path = by.path;
@@ -359,7 +386,7 @@ module _ (s : Setting) (ends : List (Option CutAt)) (history : IsWholeHistory s 
     pub state_lines : (ended : Ended NodeStop (Live U)) (out now : List Entry) → Said (on_devices (step_of g (suc i) its st)) ended out now → (added : List Entry) × (now ≡ out ++ added) × AllByRecursion (IsPathSaid s l life (suc i)) added
     state_lines ended out now said =
         let lines = told_lines g here i its is reached st its_stood state.asked its_knows ended out now said in
-        (lines.0, lines.1, lines_path i its is lines.0 lines.2)
+        (lines.0, lines.1, lines_path i its is reached lines.0 lines.2)
 
     -- .. and it leaves such a state.
     pub state_next : (out now : List Entry) (devices : Option Held) (end : Live U) (left : Option Held) → Said (on_devices (step_of g (suc i) its st)) (went end) out now

@@ -93,12 +93,12 @@ provider_apart script epoch (fault.SkippedHeight awaited got) refusal why = why
 provider_apart script epoch (fault.OutOfWindow height) refusal why = why
 provider_apart script epoch its refusal why = refusal
 
-asked_apart : (script : Script) (epoch : ℕ) (its : Fault) → IsRefusal its → IsAskedOwn script epoch its → ⊥
-asked_apart script epoch (fault.ConflictingBlock height) refusal why = why
-asked_apart script epoch (fault.DetachedBlock height) refusal why = why
-asked_apart script epoch (fault.SkippedHeight awaited got) refusal why = why
-asked_apart script epoch (fault.OutOfWindow height) refusal why = why
-asked_apart script epoch its refusal why = refusal
+asked_apart : (script : Script) (life : Life) (j epoch : ℕ) (its : Fault) → IsRefusal its → IsAskedOwn script life j epoch its → ⊥
+asked_apart script life j epoch (fault.ConflictingBlock height) refusal why = why
+asked_apart script life j epoch (fault.DetachedBlock height) refusal why = why
+asked_apart script life j epoch (fault.SkippedHeight awaited got) refusal why = why
+asked_apart script life j epoch (fault.OutOfWindow height) refusal why = why
+asked_apart script life j epoch its refusal why = refusal
 
 last_apart : (script : Script) (l : ℕ) (life : Life) (j : ℕ) (b : Block directory.Unit) (its : Fault) → IsRefusal its → IsLastCause script l life j b its → ⊥
 last_apart script l life j b its refusal (inl provider) = provider_apart script (epoch_of (per_epoch script) b.height) its refusal provider.1
@@ -107,7 +107,7 @@ last_apart script l life j b its refusal (inr next) = next_apart script b its re
 last_own_apart : (script : Script) (l : ℕ) (life : Life) (j : ℕ) (b : Block directory.Unit) (its : Fault) → IsRefusal its → IsLastOwn script l life j b its → ⊥
 last_own_apart script l life j b its refusal (inl next) =
     carried_none (λ info. IsOwnCause script (next_epoch script b) info its) (λ info why. own_apart script (next_epoch script b) info its refusal why) (Some b) next
-last_own_apart script l life j b its refusal (inr asked) = asked_apart script (epoch_of (per_epoch script) b.height) its refusal asked.1
+last_own_apart script l life j b its refusal (inr asked) = asked_apart script life j (epoch_of (per_epoch script) b.height) its refusal asked.1
 
 opening_apart : (script : Script) (l : ℕ) (life : Life) (its : Fault) → IsRefusal its → IsOpeningCause script l life its → ⊥
 opening_apart script l life (fault.ConflictingBlock height) refusal why = carried_none (λ info. ⊥) (λ info none. none) (opening_block script l life) why
@@ -156,7 +156,7 @@ module _ (script : Script) (l : ℕ) (life : Life) (its : Fault) (refusal : IsRe
   refuses (suc j) (inr (inl (inl why))) = by_event j (λ b. IsBlockCause script l life j b its) (block_refuses j) (slice_get life.events j) refl why
   refuses (suc j) (inr (inl (inr may))) = absurd (provider_apart script (awaited_epoch (alone script) l life j) its refusal may.1)
   refuses (suc j) (inr (inr (inl own))) = by_event j (λ b. IsBlockOwn script l life j b its) (λ b why. absurd (own_none j b why)) (slice_get life.events j) refl own
-  refuses (suc j) (inr (inr (inr asked))) = absurd (asked_apart script (awaited_epoch (alone script) l life j) its refusal asked.1)
+  refuses (suc j) (inr (inr (inr asked))) = absurd (asked_apart script life (suc j) (awaited_epoch (alone script) l life j) its refusal asked.1)
 
 -- OF A CONSISTENT SCRIPT
 

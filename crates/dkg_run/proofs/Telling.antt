@@ -130,9 +130,9 @@ provider_tellable script epoch (fault.InvalidParticipants cause.ProviderEmpty) w
 provider_tellable script epoch (fault.InvalidParticipants (cause.ProviderAbove count most)) why = why.2
 provider_tellable script epoch its why = absurd why
 
-asked_tellable : (script : Script) (epoch : ℕ) (its : Fault) → IsAskedOwn script epoch its → IsToldFault its
-asked_tellable script epoch (fault.LocalState (local.StoredDealing number dealer)) why = tt
-asked_tellable script epoch its why = absurd why
+asked_tellable : (script : Script) (life : Life) (j epoch : ℕ) (its : Fault) → IsAskedOwn script life j epoch its → IsToldFault its
+asked_tellable script life j epoch (fault.LocalState (local.StoredDealing number dealer)) why = tt
+asked_tellable script life j epoch its why = absurd why
 
 last_tellable : (script : Script) (l : ℕ) (life : Life) (j : ℕ) (b : Block directory.Unit) (its : Fault) → IsLastCause script l life j b its → IsToldFault its
 last_tellable script l life j b its (inl provider) = provider_tellable script (epoch_of (per_epoch script) b.height) its provider.1
@@ -140,7 +140,7 @@ last_tellable script l life j b its (inr next) = next_tellable script b its next
 
 last_own_tellable : (script : Script) (l : ℕ) (life : Life) (j : ℕ) (b : Block directory.Unit) (its : Fault) → IsLastOwn script l life j b its → IsToldFault its
 last_own_tellable script l life j b its (inl next) = on_carried (λ info. IsOwnCause script (next_epoch script b) info its) (Some b) next (λ info so. own_tellable script (next_epoch script b) info its so)
-last_own_tellable script l life j b its (inr asked) = asked_tellable script (epoch_of (per_epoch script) b.height) its asked.1
+last_own_tellable script l life j b its (inr asked) = asked_tellable script life j (epoch_of (per_epoch script) b.height) its asked.1
 
 block_tellable : (script : Script) (l : ℕ) (life : Life) (j : ℕ) (b : Block directory.Unit) (its : Fault) → IsBlockCause script l life j b its → IsToldFault its
 block_tellable script l life j b its (inl refused) = refusal_tellable script l life j b its refused
@@ -162,7 +162,7 @@ why_tellable script l life (suc j) its (inr (inr (inl own))) =
 why_tellable script l life zero its (inr (inl (inr may))) = absurd may
 why_tellable script l life (suc j) its (inr (inl (inr may))) = inr (provider_tellable script (awaited_epoch (alone script) l life j) its may.1)
 why_tellable script l life zero its (inr (inr (inr asked))) = absurd asked
-why_tellable script l life (suc j) its (inr (inr (inr asked))) = inr (asked_tellable script (awaited_epoch (alone script) l life j) its asked.1)
+why_tellable script l life (suc j) its (inr (inr (inr asked))) = inr (asked_tellable script life (suc j) (awaited_epoch (alone script) l life j) its asked.1)
 
 now_tellable : (script : Script) (p : Progress) (its : Fault) → IsWhyNow script p its → IsTellable its
 now_tellable script p its (inl out) = outside_tellable its out

@@ -24,11 +24,12 @@ use Rattle.dkg_text.specs.declared.script.Life.{Life}
 use Rattle.dkg_text.specs.declared.script.Script.{Script}
 use Rattle.dkg_script.specs.AsCut.{setting_as_cut}
 use Rattle.dkg_script.specs.Epochs.{alone}
-use Rattle.dkg_script.specs.Blocks.{chain}
+use Rattle.dkg_script.specs.Blocks.{chain, known_info}
 use Rattle.dkg_script.specs.History.{IsWholeHistory}
 use Rattle.dkg_script.specs.Inclusion.{IsFormOfInclusion}
 use Rattle.dkg_script.specs.Position.{awaited_epoch, event_of_step, follows}
 use Rattle.dkg_script.specs.Progress.{AtEachEntry, Progress, progress}
+use Rattle.dkg_script.specs.Readings.{with_spelled}
 use Rattle.dkg_script.specs.Setting.{Setting, life_at, setting_of}
 use Rattle.dkg_script.specs.Views.{seen_block}
 use Rattle.dkg_run.specs.Asks.{IsPathOf, IsRefusedAt, IsShortAt, IsUncancelled, WereAsked, fed_in, next_bytes, standing_of}
@@ -52,7 +53,7 @@ pub record IsAskedFor (script : Script) (l : ℕ) (life : Life) (epoch j request
 pub record IsMadeOf (script : Script) (l : ℕ) (life : Life) (epoch j request : ℕ) (payload : Option (List ℕ)) : Type 0 where
   pub takes_part : follows (alone script) l life epoch ≡ false
   pub info : EpochInfo U
-  pub info_is : IsInfoOf script epoch info
+  pub info_is : IsInfoOf script life j epoch info
   pub round : Round
   pub round_is : round_by script epoch info ≡ Ok round
   pub at : ℕ
@@ -94,12 +95,12 @@ AnswersSo script out = (files : Files) (held : Secrets) → AtEachEntry (setting
 abbrev pub IsOfChain : Setting → (height : ℕ) → Block U → Type 0
 IsOfChain s height b = chain s height ≡ Some (seen_block unit_spelling b)
 
--- the answer is by the logs of a path of the request
+-- the answer is what follows the script's info of the epoch by the logs of a path of the request
 pub record IsFromPath (s : Setting) (l : ℕ) (life : Life) (j request : ℕ) (payload : Option (List ℕ)) : Type 0 where
   pub epoch : ℕ
   pub epoch_is : epoch ≡ awaited_epoch s l life (j - 1)
   pub info : EpochInfo U
-  pub info_is : IsInfoOf s.script epoch info
+  pub known : known_info s epoch ≡ Some (with_spelled unit_spelling info)
   pub round : Round
   pub round_is : round_by s.script epoch info ≡ Ok round
   pub path : List (Block U)

@@ -1,5 +1,5 @@
 -- WHY A LIFE STOPS in a step, of a script whose lives go over many epochs, and how a transcript tells it, whatever the devices tell.
-use Rattle.std.specs.Prelude.{ℕ, zero, suc, ◌+◌, ◌^◌, ◌<◌, ◌≤◌, ⊤, ◌≡◌, ◌≢◌, ◌⊎◌, ◌==◌, ◌&&◌, ◌||◌, ◌++◌, Bool, true, false, not, nat_le, nat_lt, List, Option, Some, None, fold, find, length, option_map, option_to_list, slice_get, take, IsSomeAnd, Result, Ok, Err, if◌then◌else◌}
+use Rattle.std.specs.Prelude.{ℕ, zero, suc, ◌+◌, ◌^◌, ◌<◌, ◌≤◌, ⊤, ◌≡◌, ◌≢◌, ◌⊎◌, ◌==◌, ◌&&◌, ◌||◌, ◌++◌, Contains, Bool, true, false, not, nat_le, nat_lt, List, Option, Some, None, fold, find, length, option_map, option_to_list, slice_get, take, IsSomeAnd, Result, Ok, Err, if◌then◌else◌}
 use Rattle.std.specs.Int.NonZero.{non_zero_u32_get}
 use Rattle.std.specs.Option.{option_map_or}
 use Rattle.std.specs.Str.{bytes_eq}
@@ -161,9 +161,14 @@ IsLastCause script l life j b its =
 abbrev pub IsBlockCause : Script → (l : ℕ) → Life → (j : ℕ) → Block directory.Unit → Fault → Type 0
 IsBlockCause script l life j b its = (refusal_in script l life j b ≡ Some its) ⊎ (IsTakenLast script l life j b × IsLastCause script l life j b its)
 
--- a block that begins the epoch carries the info
-pub record IsInfoOf (script : Script) (epoch : ℕ) (info : EpochInfo directory.Unit) : Type 0 where
+-- A life has the block of this number behind its first j events: it holds it, stands at it, or was delivered it.
+abbrev pub IsHad : Life → (j number : ℕ) → Type 0
+IsHad life j number = Contains life.held number ⊎ ((option_map anchor_number life.anchor ≡ Some number) ⊎ ((k : ℕ) × (k < j) × (slice_get life.events k ≡ Some (Final number))))
+
+-- a block that the life has then, and that begins the epoch, carries the info
+pub record IsInfoOf (script : Script) (life : Life) (j epoch : ℕ) (info : EpochInfo directory.Unit) : Type 0 where
   pub number : ℕ
+  pub had : IsHad life j number
   pub block : Block directory.Unit
   pub is : slice_get (blocks_in script) number ≡ Some block
   pub begins : block.height ≡ boundary (per_epoch script) epoch
@@ -171,10 +176,10 @@ pub record IsInfoOf (script : Script) (epoch : ℕ) (info : EpochInfo directory.
   pub of_epoch : info.epoch ≡ epoch
 
 -- a dealing that is stored, and isn't looked at where a player takes no part by all logs, is refused where it can by those that are asked for
-abbrev pub IsAskedOwn : Script → (epoch : ℕ) → Fault → Type 0
-IsAskedOwn script epoch (LocalState (StoredDealing number dealer)) =
-    (info : EpochInfo directory.Unit) × IsInfoOf script epoch info × IsOwnCause script epoch info (LocalState (StoredDealing number dealer))
-IsAskedOwn script epoch its = ⊥
+abbrev pub IsAskedOwn : Script → Life → (j epoch : ℕ) → Fault → Type 0
+IsAskedOwn script life j epoch (LocalState (StoredDealing number dealer)) =
+    (info : EpochInfo directory.Unit) × IsInfoOf script life j epoch info × IsOwnCause script epoch info (LocalState (StoredDealing number dealer))
+IsAskedOwn script life j epoch its = ⊥
 
 -- what this node deals isn't what is recorded of it in the epoch that it takes part in
 abbrev pub IsOwnDealing : Script → (l : ℕ) → Life → (j : ℕ) → Fault → Type 0
@@ -186,7 +191,7 @@ IsOwnDealing script l life j its = ⊥
 abbrev pub IsLastOwn : Script → (l : ℕ) → Life → (j : ℕ) → Block directory.Unit → Fault → Type 0
 IsLastOwn script l life j b its =
     OnCarried (Some b) (λ info. IsOwnCause script (next_epoch script b) info its)
-    ⊎ ((follows (alone script) l life (awaited_epoch (alone script) l life j) ≡ false) × IsAskedOwn script (epoch_of (per_epoch script) b.height) its)
+    ⊎ ((follows (alone script) l life (awaited_epoch (alone script) l life j) ≡ false) × IsAskedOwn script life j (epoch_of (per_epoch script) b.height) its)
 
 abbrev pub IsBlockOwn : Script → (l : ℕ) → Life → (j : ℕ) → Block directory.Unit → Fault → Type 0
 IsBlockOwn script l life j b its =
@@ -242,7 +247,7 @@ IsMayCause script l life step its = OnReading script l life step (λ epoch. IsPr
 
 -- .. or by a dealing that the node has
 abbrev pub IsAskOwn : Script → (l : ℕ) → Life → (step : ℕ) → Fault → Type 0
-IsAskOwn script l life step its = OnReading script l life step (λ epoch. IsAskedOwn script epoch its)
+IsAskOwn script l life step its = OnReading script l life step (λ epoch. IsAskedOwn script life step epoch its)
 
 -- HOW IT IS TOLD
 

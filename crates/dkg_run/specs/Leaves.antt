@@ -1,6 +1,6 @@
--- WHAT A COMPLETED STEP LEAVES OPEN past an epoch's midpoint: no request, unless a verification runs or the oldest one that is open still needs blocks. By the entries and the script, whatever the
--- devices tell.
-use Rattle.std.specs.Prelude.{ℕ, ◌≡◌, ◌≤◌, ◌<◌, ◌-◌, ◌++◌, ◌∷◌, ◌⊎◌, false, IsFalse, List, Some, reverse, slice_get}
+-- WHAT A COMPLETED STEP LEAVES OPEN: past the midpoint of an epoch that the life takes part in no request, unless a verification runs or the oldest one that is open still needs blocks; and in one that it
+-- follows none. By the entries and the script, whatever the devices tell.
+use Rattle.std.specs.Prelude.{ℕ, ◌≡◌, ◌≤◌, ◌<◌, ◌-◌, ◌++◌, ◌∷◌, ◌⊎◌, true, false, IsFalse, List, Some, reverse, slice_get}
 use Rattle.std.specs.List.{list_any}
 use Rattle.dkg_ceremony.specs.Outcomes.{LogMap}
 use Rattle.dkg_ceremony.specs.Schedule.{midpoint}
@@ -78,12 +78,17 @@ pub record Verifies (script : Script) (l : ℕ) (life : Life) (epoch j : ℕ) (s
   pub anew : slice_get life.events (its.read - 1) ≡ Some Work
       → (other : ℕ) × (front : List Entry) × IsSaidBy its.read its.front (its.read - 1) front × IsVerified script l life epoch (its.read - 1) front other × (other ≡ request → ⊥)
 
--- what step j leaves, where the life has written these entries before
-abbrev pub LeavesNone : Script → (l : ℕ) → Life → (j : ℕ) → List Entry → Type 0
-LeavesNone script l life j said =
+-- what step j leaves, where the life has written these entries before: in an epoch that it takes part in
+abbrev pub LeavesFew : Script → (l : ℕ) → Life → (j : ℕ) → List Entry → Type 0
+LeavesFew script l life j said =
     follows (alone script) l life (awaited_epoch (alone script) l life j) ≡ false → midpoint (per_epoch script) (awaited_epoch (alone script) l life j) ≤ awaited_height (alone script) l life j
     → (request : ℕ) → IsOpen life j said request → Verifies script l life (awaited_epoch (alone script) l life j) j said
     ⊎ ((oldest : ℕ) × IsOldest script l life j said oldest × NeedsBlocks script life (awaited_epoch (alone script) l life j) j oldest)
+
+-- .. and in one that it follows
+abbrev pub LeavesNone : Script → (l : ℕ) → Life → (j : ℕ) → List Entry → Type 0
+LeavesNone script l life j said =
+    LeavesFew script l life j said × (follows (alone script) l life (awaited_epoch (alone script) l life j) ≡ true → (request : ℕ) → IsOpen life j said request → ⊥)
 
 -- each completed step of each life, by what the life has written since it opened
 abbrev pub LeavesSo : Script → List Entry → Type 0
