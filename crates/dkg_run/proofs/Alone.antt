@@ -25,7 +25,7 @@ module _ (s : Setting) (l : ℕ) (life : Life) (no_sync : life.sync ≡ None) (n
   pub epoch_alike : (j : ℕ) → awaited_epoch s l life j ≡ awaited_epoch a l life j
   epoch_alike j = ap (epoch_of (blocks_per_epoch s)) (height_alike j)
 
-  lacks_alike : lacks_boundary s l life ≡ lacks_boundary a l life
+  pub lacks_alike : lacks_boundary s l life ≡ lacks_boundary a l life
   lacks_alike = ap (λ (e : ℕ). not (list_any (λ b. b.height == boundary (blocks_per_epoch s) e) (held_at_opening s life))) (epoch_alike 0)
 
   blind_alike : starts_blind s l life ≡ starts_blind a l life

@@ -117,8 +117,8 @@ module _ (script : Script) (form : IsFormOfInclusion script) (checked : IsChecke
       commits_fit script o.before.files o.before.held added (worlds_over cut_script cut_form checked) planless_secrets answered old new o.now.held o.now.files is (cut_runs told here o.now.files (left (disk_of told)))
 
   pub begun_exactly : InOrder its_setting added → o.tells → Stands o.before.files o.before.image → CommitsExactly script o.before.files o.before.held added
-  begun_exactly ordered told here of_form history honest devices fit =
-      exactly_of its_setting (given_setting cut_script o.before.files o.before.held cut_form checked bytes) refl devices fit planless_secrets answered old new added o.now.held is history honest ordered o.now.files
+  begun_exactly ordered told here of_form history devices fit =
+      exactly_of its_setting (given_setting cut_script o.before.files o.before.held cut_form checked bytes) refl devices fit planless_secrets answered old new added o.now.held is history ordered o.now.files
       (cut_runs told here o.now.files (left (disk_of told)))
 
   -- WHAT IS GIVEN BACK

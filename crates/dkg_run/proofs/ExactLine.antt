@@ -1,7 +1,7 @@
--- Where a last block commits the epoch behind one that its life takes part in, the share stands exactly: behind a success where the node plays, and behind a failure where it held one.
+-- Where a last block commits the epoch behind one that its life takes part in, the share stands exactly: behind a success where the node plays, and behind a failure where it held one; and nowhere behind a block that carries another info.
 use Rattle.std.proofs.Common.{◌≡◌, ◌⊎◌, ℕ, Bool, true, false, suc, ◌+◌, ◌-◌, ◌*◌, ◌/◌, ◌<◌, ◌≤◌, List, [], ◌∷◌, Option, Some, None, refl, sym, ◌∙◌, ap, subst, arith, filter, lit<, map}
 use Rattle.std.proofs.Math.Nat.{div-lt_self, lt-div-mul-add}
-use Rattle.std.specs.Prelude.{slice_get, ◌&&◌, ◌||◌, ◌↔◌, IfSome, IsSome, IsSomeAnd, Ok, is_some, not, if◌then◌else◌, option_map}
+use Rattle.std.specs.Prelude.{slice_get, ◌&&◌, ◌||◌, ◌↔◌, IsSome, IsSomeAnd, Ok, is_some, not, if◌then◌else◌, option_map}
 use Rattle.std.specs.FinMap.{entries as pairs_in, get}
 use Rattle.std.specs.List.{AllByRecursion, list_any}
 use Rattle.std.specs.Option.{option_map_or}
@@ -34,7 +34,7 @@ use Rattle.dkg_text.specs.declared.script.Life.{Life}
 use Rattle.dkg_script.specs.Blocks.{Block, chain, known_info, round_at, used}
 use Rattle.dkg_script.specs.Consistent.{IsConsistentScript}
 use Rattle.dkg_script.specs.Epochs.{alone}
-use Rattle.dkg_script.specs.History.{CarriesNext, IsHonestlyDerived, chain_logs}
+use Rattle.dkg_script.specs.History.{CarriesNext, chain_logs}
 use Rattle.dkg_script.specs.Inclusion.{IsFormOfInclusion}
 use Rattle.dkg_script.specs.Position.{awaited_before, awaited_epoch, begun, follows}
 use Rattle.dkg_script.specs.Progress.{progress}
@@ -62,13 +62,13 @@ use Rattle.dkg_core.specs.Stepping.{next_epoch}
 use Rattle.dkg_core.specs.Storing.{ReadsSecrets}
 use Rattle.dkg_core.specs.Through.{IsLiveThrough, IsShareTaken, unasked}
 use Rattle.dkg_core.proofs.Heights.{epoch_is}
-use Rattle.dkg_core.proofs.Same.{infos_are_one}
+use Rattle.dkg_core.proofs.Same.{infos_agree, infos_are_one}
 use Rattle.dkg_run.specs.Epochs.{IsLifeInForm, any_shares}
 use Rattle.dkg_run.specs.Given.{AreBytes, Lived, at_step, blocks_in, lived, provided_by}
 use Rattle.dkg_run.specs.SharesStand.{HeldShare, StandsBy, WasCutInto, Plays as PartPlays}
 use Rattle.dkg_run.specs.Ways.{by_worlds}
 use Rattle.dkg_run.proofs.Alone.{epoch_alike, follows_alike}
-use Rattle.dkg_run.proofs.Awaiting.{IsReached, comes_to}
+use Rattle.dkg_run.proofs.Awaiting.{IsReached}
 use Rattle.dkg_run.proofs.AwaitedRises.{is_current}
 use Rattle.dkg_run.proofs.CommitsOver.{IsTakenShare}
 use Rattle.dkg_run.proofs.DealerKeys.{keys}
@@ -81,10 +81,9 @@ use Rattle.dkg_run.proofs.MarksAt.{gives_recorded, lacks_none}
 use Rattle.dkg_run.proofs.NextLives.{applied_so}
 use Rattle.dkg_run.proofs.Plays.{deals_early}
 use Rattle.dkg_run.proofs.ReadLogs.{IsRecordedTo}
-use Rattle.dkg_run.proofs.SeenBlocks.{seen_at}
 use Rattle.dkg_run.proofs.SetUps.{set_up_last}
 use Rattle.dkg_run.proofs.SharesKnown.{IsScripts, last_known}
-use Rattle.dkg_run.proofs.Used.{in_chain, of_delivered}
+use Rattle.dkg_run.proofs.Used.{in_chain}
 
 abbrev U : Type 0
 U = directory.Unit
@@ -150,10 +149,10 @@ module _ (provided : Provided U) (current : EpochInfo U) (round : Round) (logs :
       by_it (Some output) = refl
 
 module _ (s : Setting) (ends : List (Option CutAt)) (form : IsFormOfInclusion s.script) (bytes : AreBytes s.script.blocks) (reshares : is_oneshot s ≡ false) (consistent : IsConsistentScript s ends)
-    (honest : IsHonestlyDerived s (seen_provided unit_spelling (provided_by s.script))) (secrets : (seen : Held → Seen) → by_worlds.reads seen → ReadsSecrets seen)
+    (secrets : (seen : Held → Seen) → by_worlds.reads seen → ReadsSecrets seen)
     (l : ℕ) (life : Life) (seen : Held → Seen) (files : Files) (life_is : life_at s l ≡ Some life) (reads : by_worlds.reads seen) (here : IsLifeInForm (lived s.script l life seen files)) (its_meant : IsLifeOfSetting s ends (lived s.script l life seen files))
     (cuts : List (Option CutAt)) (back : awaited_before s cuts l ≤ awaited_epoch s l life 0 + 1)
-    (marks : Type 0) (known : marks) (i : ℕ) (its : script.Event) (is : slice_get life.events i ≡ Some its) (reached : IsReached life.cut (suc i)) (st : Live U) (w : World) (before : List Entry)
+    (marks : Type 0) (i : ℕ) (its : script.Event) (is : slice_get life.events i ≡ Some its) (reached : IsReached life.cut (suc i)) (st : Live U) (w : World) (before : List Entry)
     (going : IsGoing s ends l life seen files here its_meant cuts back marks i st w.held (come s before))
     (also : ExactHere s ends form reshares consistent secrets l life seen files life_is reads here its_meant cuts back i st w before)
     (number : ℕ) (of : its ≡ event.Final number) (block : made.Block U) (block_is : slice_get (blocks_in s.script) number ≡ Some block) where
@@ -174,6 +173,13 @@ module _ (s : Setting) (ends : List (Option CutAt)) (form : IsFormOfInclusion s.
 
   abbrev Stored : OfShares
   Stored = SomeAt e held
+
+  abbrev Said : Provided (List ℕ)
+  Said = seen_provided unit_spelling (provided_by s.script)
+
+  -- the block carries what the chain's logs make
+  abbrev pub Honest : Type 0
+  Honest = CarriesNext s Said (seen_block unit_spelling block)
 
   blocks_are : C.blocks_per_epoch ≡ n
   unfolding at_step
@@ -196,7 +202,8 @@ module _ (s : Setting) (ends : List (Option CutAt)) (form : IsFormOfInclusion s.
   now = is_current s reshares l life life_is cuts some back i
 
   -- TAKING PART
-  module _ (part : follows s l life e ≡ false) (applied : judged_block C block st ≡ Applied) (delivers : block.height ≡ last n e) (recorded : (round : Round) → st.participation.round ≡ Some round → IsRecordedTo s e round st) where
+  module _ (part : follows s l life e ≡ false) (applied : judged_block C block st ≡ Applied) (delivers : block.height ≡ last n e)
+      (recorded : (round : Round) → st.participation.round ≡ Some round → IsRecordedTo s e round st) where
     apart : st.participation.stage ≡ Follows → ⊥
     apart stage =
         let late : follows s l life e ≡ true = follows_alike s l life (life_in g here).no_sync its_meant.none_found e
@@ -246,9 +253,9 @@ module _ (s : Setting) (ends : List (Option CutAt)) (form : IsFormOfInclusion s.
               positive k some = omega (arith, some)
 
       -- NO DEALING IS LOST that the node acknowledged
-      lacks_all : is_lost C round (of_epoch e st.records.dealings) (logs_of st e) ≡ false
+      lacks_all : marks → is_lost C round (of_epoch e st.records.dealings) (logs_of st e) ≡ false
       unfolding at_step
-      lacks_all =
+      lacks_all known =
           let found : is_lost C round (of_epoch e (pairs_in (recovered_in w.held))) (bare_logs (of_epoch e (pairs_in (logs_in (notes w.held))))) ≡ false
           = lacks_none s e (come s before).recorded (recovered_in w.held) (logs_in (notes w.held)) round (gives_recorded (begun s cuts l i) e (recovered_in w.held) (come s before).recorded now going.carries.half.are.given)
           (λ dealer noted has_it. going.logs known (e, dealer) noted now has_it) round_is in
@@ -260,15 +267,12 @@ module _ (s : Setting) (ends : List (Option CutAt)) (form : IsFormOfInclusion s.
           (λ p. is_reached (midpoint C.blocks_per_epoch st.participation.epoch) (option_map (λ t. t.height) st.tip) p.1) (of_epoch st.participation.epoch st.records.logs)
           (subst (λ (k : ℕ). is_lost C round dealings (logs_of st k) ≡ false) (sym epoch_here) none)
 
-      not_lost : is_lost C round (of_epoch round.number st.records.dealings) (canonical C st) ≡ false
-      not_lost = subst (λ (k : ℕ). is_lost C round (of_epoch k st.records.dealings) (canonical C st) ≡ false) (sym number_is) (fewer (of_epoch e st.records.dealings) lacks_all)
+      not_lost : marks → is_lost C round (of_epoch round.number st.records.dealings) (canonical C st) ≡ false
+      not_lost known = subst (λ (k : ℕ). is_lost C round (of_epoch k st.records.dealings) (canonical C st) ≡ false) (sym number_is) (fewer (of_epoch e st.records.dealings) (lacks_all known))
 
       -- THE ARTIFACT of those logs, and the info that the block carries
       module _ (info : EpochInfo U) (carried : info_of block.payload ≡ Some info) (current : EpochInfo U) (of_current : st.participation.current ≡ Some current)
           (artifact : Artifact U) (art : IsArtifactIn C Stored round current st (canonical C st) artifact) where
-        abbrev Said : Provided (List ℕ)
-        Said = seen_provided unit_spelling (provided_by s.script)
-
         current_known : IsScripts s current
         current_known = subst (λ (o : Option (EpochInfo U)). IsSomeAnd o (IsScripts s)) of_current (also.fitting.known round there)
 
@@ -279,41 +283,79 @@ module _ (s : Setting) (ends : List (Option CutAt)) (form : IsFormOfInclusion s.
         known_there : known_info s e ≡ Some (with_spelled unit_spelling current)
         known_there = ap (known_info s) (sym current_epoch) ∙ current_known
 
-        honest_block : CarriesNext s Said (seen_block unit_spelling block)
-        honest_block =
-            subst (λ (o : Option Block). IfSome o (CarriesNext s Said)) (seen_at s form bytes number block block_is)
-            (of_delivered s l life (CarriesNext s Said) life_is honest i number (comes_to life.cut life.events i reached ∙ is ∙ ap (λ (x : script.Event). Some x) of))
-
-        spelled : with_spelled unit_spelling info ≡ next_info outcome_of Said (with_spelled unit_spelling current) round (chain_logs s round e)
-        spelled = some_is (sym (ap (option_map (with_spelled unit_spelling)) carried) ∙ honest_block e (with_spelled unit_spelling current) round delivers known_there round_is)
+        spelled : Honest → with_spelled unit_spelling info ≡ next_info outcome_of Said (with_spelled unit_spelling current) round (chain_logs s round e)
+        spelled honest = some_is (sym (ap (option_map (with_spelled unit_spelling)) carried) ∙ honest e (with_spelled unit_spelling current) round delivers known_there round_is)
 
         abbrev derived : EpochInfo U
         derived = next_info C.rules.outcome_of C.provided current round (canonical C st)
 
-        same_spelled : with_spelled unit_spelling derived ≡ with_spelled unit_spelling info
+        derived_spelled : with_spelled unit_spelling derived ≡ next_info outcome_of Said (with_spelled unit_spelling current) round (chain_logs s round e)
         unfolding at_step
-        same_spelled =
-            ap (λ (logs : LogMap). with_spelled unit_spelling (next_info outcome_of (provided_by s.script) current round logs)) logs_are ∙ spelled_next (provided_by s.script) current round (chain_logs s round e) ∙ sym spelled
+        derived_spelled =
+            ap (λ (logs : LogMap). with_spelled unit_spelling (next_info outcome_of (provided_by s.script) current round logs)) logs_are ∙ spelled_next (provided_by s.script) current round (chain_logs s round e)
 
-        one_info : same_info C.directories derived info ≡ true
+        same_spelled : Honest → with_spelled unit_spelling derived ≡ with_spelled unit_spelling info
+        same_spelled honest = derived_spelled ∙ sym (spelled honest)
+
+        one_info : Honest → same_info C.directories derived info ≡ true
         unfolding at_step
-        one_info = infos_are_one C.directories derived info (record {
-          outcome = ap (λ (x : Info). x.outcome) same_spelled;
-          epoch = ap (λ (x : Info). x.epoch) same_spelled;
-          output = ap (λ (x : Info). x.output) same_spelled;
-          players = ap (λ (x : Info). x.players) same_spelled;
-          next_players = ap (λ (x : Info). x.next_players) same_spelled;
-          directory = ap (λ (x : Info). x.directory) same_spelled;
+        one_info honest = infos_are_one C.directories derived info (record {
+          outcome = ap (λ (x : Info). x.outcome) (same_spelled honest);
+          epoch = ap (λ (x : Info). x.epoch) (same_spelled honest);
+          output = ap (λ (x : Info). x.output) (same_spelled honest);
+          players = ap (λ (x : Info). x.players) (same_spelled honest);
+          next_players = ap (λ (x : Info). x.next_players) (same_spelled honest);
+          directory = ap (λ (x : Info). x.directory) (same_spelled honest);
         })
 
-        share_is : share_for C info artifact ≡ artifact.share
-        share_is =
-            ap (λ (o : Option (EpochInfo U)). if option_map_or (λ its. same_info C.directories its info) o false then artifact.share else None) art.info_is
-            ∙ ap (λ (t : Bool). if t then artifact.share else None) one_info
+        share_by : share_for C info artifact ≡ (if same_info C.directories derived info then artifact.share else None)
+        share_by = ap (λ (o : Option (EpochInfo U)). if option_map_or (λ its. same_info C.directories its info) o false then artifact.share else None) art.info_is
 
-        outcome_is : (o : Option Output) → outcome_of round (canonical C st) ≡ o → info.outcome ≡ (if is_some o then Success else Failure)
-        outcome_is o found =
-            ap (λ (x : Info). x.outcome) spelled ∙ next_outcome (provided_by s.script) current round (chain_logs s round e) o (sym (ap (outcome_of round) logs_are) ∙ found)
+        share_is : Honest → share_for C info artifact ≡ artifact.share
+        share_is honest = share_by ∙ ap (λ (t : Bool). if t then artifact.share else None) (one_info honest)
+
+        -- one that carries the info that was derived is honest
+        info_spelled : same_info C.directories derived info ≡ true → with_spelled unit_spelling derived ≡ with_spelled unit_spelling info
+        unfolding at_step
+        info_spelled same =
+            let its = infos_agree C.directories derived info same in
+            let outcome = its.outcome in
+            let epoch = its.epoch in
+            let output = its.output in
+            let players = its.players in
+            let next_players = its.next_players in
+            let directory = its.directory in
+            λ j. record { outcome = outcome j; epoch = epoch j; output = output j; players = players j; next_players = next_players j; directory = directory j }
+
+        honest_by : same_info C.directories derived info ≡ true → Honest
+        honest_by same other its_info its_round at_end its_known in_round =
+            let same_epoch : other ≡ e = sym (at_last other) ∙ ap (epoch_of n) (sym at_end ∙ delivers) ∙ at_last e in
+            let one_info : with_spelled unit_spelling current ≡ its_info = some_is (sym known_there ∙ ap (known_info s) (sym same_epoch) ∙ its_known) in
+            let one_round : round ≡ its_round = some_is (sym round_is ∙ ap (round_at s) (sym same_epoch) ∙ in_round) in
+            ap (option_map (with_spelled unit_spelling)) carried ∙ ap (λ (x : Info). Some x) (sym (info_spelled same) ∙ derived_spelled)
+            ∙ ap (λ (k : ℕ). Some (next_info outcome_of Said (with_spelled unit_spelling current) round (chain_logs s round k))) (sym same_epoch)
+            ∙ ap (λ (r : Round). Some (next_info outcome_of Said (with_spelled unit_spelling current) r (chain_logs s r other))) one_round
+            ∙ ap (λ (x : Info). Some (next_info outcome_of Said x its_round (chain_logs s its_round other))) one_info
+          where
+            low : (m k : ℕ) → 1 ≤ k → m ≤ m + k - 1
+            low m k some = omega (arith, some)
+
+            high : (m k : ℕ) → 1 ≤ k → m + k - 1 < m + k
+            high m k some = omega (arith, some)
+
+            at_last : (k : ℕ) → epoch_of n (last n k) ≡ k
+            at_last k = epoch_is n k (last n k) (low (k * n) n some) (high (k * n) n some)
+
+        only : IsSome (share_for C info artifact) → Honest
+        only there_is = by_test (same_info C.directories derived info) refl (subst IsSome share_by there_is)
+          where
+            by_test : (t : Bool) → same_info C.directories derived info ≡ t → IsSome (if t then artifact.share else None) → Honest
+            by_test false differs none = absurd (let wrong : false ≡ true = none in cc)
+            by_test true same its_share = honest_by same
+
+        outcome_is : Honest → (o : Option Output) → outcome_of round (canonical C st) ≡ o → info.outcome ≡ (if is_some o then Success else Failure)
+        outcome_is honest o found =
+            ap (λ (x : Info). x.outcome) (spelled honest) ∙ next_outcome (provided_by s.script) current round (chain_logs s round e) o (sym (ap (outcome_of round) logs_are) ∙ found)
 
         abbrev Seat : Type 0
         Seat = (its_part : Part) × (set_up_last None before ≡ Some (st.participation.epoch, its_part)) × (PartPlays its_part ↔ (st.participation.seat ≡ Plays))
@@ -322,24 +364,24 @@ module _ (s : Setting) (ends : List (Option CutAt)) (form : IsFormOfInclusion s.
         seat = also.seated round there
 
         -- behind a success
-        plays_of : can_finish C round (canonical C st) st ≡ true → st.participation.seat ≡ Plays
-        plays_of can =
+        plays_of : marks → can_finish C round (canonical C st) st ≡ true → st.participation.seat ≡ Plays
+        plays_of known can =
             going.plays known round there
             (has_key-from round.players (me s) (Contains-place_of (me s) round.players
             (subst (λ (k : ℕ). has round.players k ≡ true) me_is (and_parts (has round.players C.me) (not (is_lost C round (of_epoch round.number st.records.dealings) (canonical C st))) can).0)))
 
-        can_of : st.participation.seat ≡ Plays → can_finish C round (canonical C st) st ≡ true
-        can_of plays =
-            both (has round.players C.me) (is_lost C round (of_epoch round.number st.records.dealings) (canonical C st)) (subst (λ (k : ℕ). has round.players k ≡ true) (sym me_is) (also.player round there plays)) not_lost
+        can_of : marks → st.participation.seat ≡ Plays → can_finish C round (canonical C st) st ≡ true
+        can_of known plays =
+            both (has round.players C.me) (is_lost C round (of_epoch round.number st.records.dealings) (canonical C st)) (subst (λ (k : ℕ). has round.players k ≡ true) (sym me_is) (also.player round there plays)) (not_lost known)
           where
             both : (a b : Bool) → a ≡ true → b ≡ false → (a && not b) ≡ true
             both a b x y = rw (x, y) refl
 
-        success : (output : Output) → outcome_of round (canonical C st) ≡ Some output → IsSome artifact.share ↔ PartPlays seat.0
+        success : (output : Output) → outcome_of round (canonical C st) ≡ Some output → marks → (IsSome artifact.share ↔ PartPlays seat.0)
         unfolding at_step
-        success output found =
+        success output found known =
             let can_is : is_some artifact.share ≡ can_finish C round (canonical C st) st = (art.success output found).0 in
-            ((λ there_is. seat.2.1 (plays_of (sym can_is ∙ there_is))), (λ plays. can_is ∙ can_of (seat.2.0 plays)))
+            ((λ there_is. seat.2.1 (plays_of known (sym can_is ∙ there_is))), (λ plays. can_is ∙ can_of known (seat.2.0 plays)))
 
         -- .. and behind a failure
         failure : outcome_of round (canonical C st) ≡ None → (HeldShare s before e → IsSome artifact.share) × (IsSome artifact.share → HeldShare s before e ⊎ WasCutInto s (come s before).cuts e)
@@ -360,17 +402,18 @@ module _ (s : Setting) (ends : List (Option CutAt)) (form : IsFormOfInclusion s.
                     let player : has current.output.players (me s) ≡ true = player_of current.output (me s) (share_public_of its_share.0) (also.shares e its_share.0 its_share.1 (with_spelled unit_spelling current) known_there) in
                     let wrong : false ≡ true = sym none ∙ player in cc
 
-        stands : StandsBy s before e seat.0 artifact.share info.outcome
+        stands : Honest → StandsBy s before e seat.0 artifact.share marks info.outcome
         unfolding progress
-        stands = by_outcome (outcome_of round (canonical C st)) refl
+        stands honest = by_outcome (outcome_of round (canonical C st)) refl
           where
-            by_outcome : (o : Option Output) → outcome_of round (canonical C st) ≡ o → StandsBy s before e seat.0 artifact.share info.outcome
-            by_outcome (Some output) found = subst (StandsBy s before e seat.0 artifact.share) (sym (outcome_is (Some output) found)) (success output found)
-            by_outcome None found = subst (StandsBy s before e seat.0 artifact.share) (sym (outcome_is None found)) (failure found)
+            by_outcome : (o : Option Output) → outcome_of round (canonical C st) ≡ o → StandsBy s before e seat.0 artifact.share marks info.outcome
+            by_outcome (Some output) found = subst (StandsBy s before e seat.0 artifact.share marks) (sym (outcome_is honest (Some output) found)) (success output found)
+            by_outcome None found = subst (StandsBy s before e seat.0 artifact.share marks) (sym (outcome_is honest None found)) (failure found)
 
     -- THE SHARE that is taken stands so
     abbrev Stands : Option ℕ → EpochOutcome → Type 0
-    Stands share outcome = (its_part : Part) × (set_up_last None before ≡ Some (e, its_part)) × StandsBy s before e its_part share outcome
+    Stands share outcome =
+        (its_part : Part) × (set_up_last None before ≡ Some (e, its_part)) × (IsSome share → Honest) × (Honest → StandsBy s before e its_part share marks outcome)
 
     pub line_stands : (share : Option ℕ) → IsTakenShare C Stored block st w.held (e + 1) share → IsSomeAnd (known_info s (e + 1)) (λ info. Stands share info.outcome)
     line_stands share taken = by_info (info_of block.payload) refl taken.1
@@ -386,7 +429,9 @@ module _ (s : Setting) (ends : List (Option CutAt)) (form : IsFormOfInclusion s.
             let its_seat = seat round there at info carried current of_current artifact art in (
               its_seat.0,
               its_seat.1 ∙ ap (λ (k : ℕ). Some (k, its_seat.0)) epoch_here,
-              subst (λ (o : Option ℕ). StandsBy s before e its_seat.0 o info.outcome) (sym (same ∙ share_is round there at info carried current of_current artifact art)) (stands round there at info carried current of_current artifact art),
+              (λ some_share. only round there at info carried current of_current artifact art (subst IsSome same some_share)),
+              (λ honest. subst (λ (o : Option ℕ). StandsBy s before e its_seat.0 o marks info.outcome) (sym (same ∙ share_is round there at info carried current of_current artifact art honest))
+                  (stands round there at info carried current of_current artifact art honest)),
             )
 
         by_info : (o : Option (EpochInfo U)) → info_of block.payload ≡ o → IsSomeAnd o OfInfo → IsSomeAnd (known_info s (e + 1)) (λ info. Stands share info.outcome)

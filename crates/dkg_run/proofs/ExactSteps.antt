@@ -1,15 +1,16 @@
--- What a life holds of shares, and its seat, from step to step: each share of an epoch that it holds was handed in or is told, or an earlier life was cut within a step into that epoch; the last setup that its
+-- What a life holds of shares, and its seat, from step to step: each share of an epoch that it holds was handed in or is told, or an earlier life was cut as it came to that epoch; the last setup that its
 -- lines tell is its own; and what it has read of its epoch's share is still so.
-use Rattle.std.proofs.Common.{◌≡◌, ◌⊎◌, inl, inr, ℕ, Bool, true, false, zero, suc, ◌+◌, ◌-◌, ◌<◌, ◌≤◌, List, [], ◌∷◌, ◌++◌, Option, Some, None, refl, sym, ◌∙◌, ap, subst, length, arith, add-one, length-append}
+use Rattle.std.proofs.Common.{◌≡◌, ◌⊎◌, inl, inr, ℕ, Bool, true, false, zero, suc, ◌+◌, ◌-◌, ◌*◌, ◌<◌, ◌≤◌, List, [], ◌∷◌, ◌++◌, Option, Some, None, refl, sym, ◌∙◌, ap, subst, length, arith, add-one, suc-mul, length-append}
 use Rattle.std.specs.Prelude.{slice_get, ◌==◌, ◌||◌, IsSome, IsSomeAnd, is_some, max, not, if◌then◌else◌}
 use Rattle.std.specs.FinMap.{get}
 use Rattle.std.specs.List.{AllByRecursion}
 use Rattle.std.specs.Option.{option_flatten}
+use Rattle.std.proofs.lemmas.Bool.Decides.{nat_tests}
 use Rattle.std.proofs.lemmas.List.{append_cancel_left}
 use Rattle.std.proofs.lemmas.List.Elements.{Contains-append_cases, Contains-append_left, Contains-append_right, Contains-push_cases}
 use Rattle.std.proofs.lemmas.List.Sums.{fold-append}
 use Rattle.dkg_values.specs.Rising.{lookup}
-use Rattle.dkg_ceremony.specs.Schedule.{epoch_of, last}
+use Rattle.dkg_ceremony.specs.Schedule.{epoch_of, first, last}
 use Rattle.dkg_ceremony.specs.declared.round.RoundParts.{RoundParts as Round}
 use Rattle.dkg_journal.specs.Burn.{Burn}
 use Rattle.dkg_journal.specs.Names.{Files}
@@ -26,8 +27,9 @@ use Rattle.dkg_text.specs.declared.script.Event as script
 use Rattle.dkg_text.specs.declared.script.Event.TheVariants as event
 use Rattle.dkg_text.specs.declared.script.Life.{Life}
 use Rattle.dkg_script.specs.Consistent.{IsConsistentScript}
+use Rattle.dkg_script.specs.Epochs.{alone}
 use Rattle.dkg_script.specs.Inclusion.{IsFormOfInclusion}
-use Rattle.dkg_script.specs.Position.{awaited_before, awaited_epoch, awaited_height, begun, begun_before, cut_of, events_taken}
+use Rattle.dkg_script.specs.Position.{awaited_before, awaited_epoch, awaited_height, begun, begun_before, cut_of, events_taken, lacks_boundary}
 use Rattle.dkg_script.specs.Progress.{Progress}
 use Rattle.dkg_script.specs.Setting.{CutAt, Setting, blocks_per_epoch, is_oneshot, life_at, me}
 use Rattle.dkg_store.specs.Acts.{Cause, Ended, Held, World, broken, says, stopped, went}
@@ -57,9 +59,9 @@ use Rattle.dkg_core.proofs.Reading.{live_as, step_reads}
 use Rattle.dkg_core.proofs.Storing.{looked_up}
 use Rattle.dkg_run.specs.Epochs.{IsAt, IsLifeInForm, any_shares}
 use Rattle.dkg_run.specs.Given.{Lived, at_step, lived, step_of}
-use Rattle.dkg_run.specs.SharesStand.{HeldShare, WasCutInto}
+use Rattle.dkg_run.specs.SharesStand.{Enters, HeldShare, MayStore, WasCutInto}
 use Rattle.dkg_run.specs.Ways.{StaysHeld, by_worlds}
-use Rattle.dkg_run.proofs.Alone.{epoch_alike, height_alike}
+use Rattle.dkg_run.proofs.Alone.{epoch_alike, height_alike, lacks_alike}
 use Rattle.dkg_run.proofs.Awaiting.{HasHeight, IsReached, block_behind, has_height}
 use Rattle.dkg_run.proofs.AwaitedRises.{awaited_begun, begun_rises, block_reach, is_current}
 use Rattle.dkg_run.proofs.CommitsOver.{IsTakenShare, Tells, block_over}
@@ -76,7 +78,7 @@ use Rattle.dkg_run.proofs.SaysOver.{said_over}
 use Rattle.dkg_run.proofs.SetUps.{IsQuiet, IsSeatedBy, IsSetUpBy, Telling, block_quiet, last_line, opening_leads, peer_quiet, set_up_last, still_seated, taken_leads}
 use Rattle.dkg_run.proofs.SharesKnown.{IsFitting, IsMineAt, SharesFit, opening_fits, opening_fitting, reads_shares, step_fits, step_fitting}
 use Rattle.dkg_run.proofs.SharesFit.{same_shares}
-use Rattle.dkg_run.proofs.Started.{first_epoch_is}
+use Rattle.dkg_run.proofs.Started.{first_block_is, first_epoch_is}
 use Rattle.dkg_run.proofs.StoredTold.{AtCommits, Leaves, Stores, TellsShare, begins_so, quiet_to, run_stores}
 
 abbrev U : Type 0
@@ -105,6 +107,19 @@ IsPlayer s st = (round : Round) → st.participation.round ≡ Some round → st
 -- of this epoch a share is there, or none
 abbrev pub SomeAt : (epoch : ℕ) → Bool → OfShares
 SomeAt epoch held other share = other ≡ epoch → is_some share ≡ held
+
+-- above an epoch's last height the next begins
+first_above : (n h : ℕ) → 1 ≤ n → (h == last n (epoch_of n h)) ≡ true → h + 1 ≡ first n (epoch_of n h + 1)
+first_above n h some is =
+    let epoch = epoch_of n h in
+    let product : (epoch + 1) * n ≡ epoch * n + n = ap (λ (x : ℕ). x * n) (add-one epoch) ∙ suc-mul epoch n in
+    up ((epoch + 1) * n) (epoch * n) n h product (same h (last n epoch) is) some
+  where
+    same : (a b : ℕ) → (a == b) ≡ true → a ≡ b
+    same a b e = grind (arith, nat_tests)
+
+    up : (q m n h : ℕ) → q ≡ m + n → h ≡ m + n - 1 → 1 ≤ n → h + 1 ≡ q
+    up q m n h product at some = omega (arith, product, at, some)
 
 -- HELD SHARES over more lines
 
@@ -142,7 +157,7 @@ cut_more s cuts more epoch its = record {
   at = its.at;
   at_is = ap (λ (o : Option (Option CutAt)). option_flatten o) (there cuts its.l its.earlier) ∙ its.at_is;
   within = its.within;
-  awaited = its.awaited;
+  stores = its.stores;
 }
   where
     longer : (x y z : ℕ) → x < y → y ≤ z → x < z
@@ -156,9 +171,9 @@ cut_more s cuts more epoch its = record {
     there (x ∷ xs) zero low = refl
     there (x ∷ xs) (suc k) low = there xs k (omega (arith, low))
 
--- a life that was cut within a step into the epoch, as the last of these
-cut_last : (s : Setting) (cuts : List (Option CutAt)) (l : ℕ) (life : Life) (at : CutAt) (epoch : ℕ) → length cuts ≡ l → life_at s l ≡ Some life → 0 < at.call → awaited_epoch s l life at.step ≡ epoch → WasCutInto s (cuts ++ Some at ∷ []) epoch
-cut_last s cuts l life at epoch lives life_is within awaited = record {
+-- a life that was cut within a step that may store a share of the epoch, as the last of these
+cut_last : (s : Setting) (cuts : List (Option CutAt)) (l : ℕ) (life : Life) (at : CutAt) (epoch : ℕ) → length cuts ≡ l → life_at s l ≡ Some life → 0 < at.call → MayStore s l life at.step epoch → WasCutInto s (cuts ++ Some at ∷ []) epoch
+cut_last s cuts l life at epoch lives life_is within stores = record {
   l = l;
   earlier = let is = length-append cuts (Some at ∷ []) in omega (arith, is, lives);
   life = life;
@@ -166,7 +181,7 @@ cut_last s cuts l life at epoch lives life_is within awaited = record {
   at = at;
   at_is = ap (λ (k : ℕ). cut_of (cuts ++ Some at ∷ []) k) (sym lives) ∙ ap (λ (o : Option (Option CutAt)). option_flatten o) (item cuts);
   within = within;
-  awaited = awaited;
+  stores = stores;
 }
   where
     item : (xs : List (Option CutAt)) → slice_get (xs ++ Some at ∷ []) (length xs) ≡ Some (Some at)
@@ -340,7 +355,7 @@ module _ (s : Setting) (ends : List (Option CutAt)) (form : IsFormOfInclusion s.
     }
 
     -- .. and where it is cut, behind the line of the cut
-    cut_holds : (at : cut.Cut) → (come s (b ++ its.added)).cuts ≡ (come s b).cuts → length (come s b).cuts ≡ l → ((epoch : ℕ) → Into epoch → awaited_epoch s l life at.step ≡ epoch) → 0 < at.call
+    cut_holds : (at : cut.Cut) → (come s (b ++ its.added)).cuts ≡ (come s b).cuts → length (come s b).cuts ≡ l → ((epoch : ℕ) → Into epoch → MayStore s l life at.step epoch) → 0 < at.call
         → HoldsTold s ((b ++ its.added) ++ entry.Cut at.step at.call ∷ []) now new.held
     cut_holds at same lives into within = record {
       sound = λ epoch some. elim (stored_sound epoch some) [
@@ -398,7 +413,7 @@ module _ (s : Setting) (ends : List (Option CutAt)) (form : IsFormOfInclusion s.
     x0 = record { last = set_up_last None before; untold = None }
 
     abbrev Into : ℕ → Type 0
-    Into epoch = awaited_epoch s l life (suc i) ≡ epoch
+    Into epoch = Enters s l life i epoch
 
     abbrev At : Option (ℕ × Part) → Type 0
     At last = last ≡ set_up_last None before
@@ -471,12 +486,14 @@ module _ (s : Setting) (ends : List (Option CutAt)) (form : IsFormOfInclusion s.
                     let same : x ≡ block = the_block (sym is_x ∙ message_is) in
                     apart st.participation.stage (so (subst (λ (b : made.Block U). judged_block C b st ≡ Applied) same applied) (subst (λ (b : made.Block U). is_last_height C b.height ≡ true) same last)) stage
 
+            not_passed : judged_block C block st ≡ Applied → awaited_height s l life i ≤ block.height
+            not_passed applied = subst (λ (h : ℕ). h ≤ block.height) (going.at.stands.awaits ∙ sym (height_alike s l life (life_in g here).no_sync its_meant.none_found i)) (applied_high C block st applied)
+
             -- the epoch that is awaited behind it
             height_is : judged_block C block st ≡ Applied → awaited_height s l life (suc i) ≡ block.height + 1
             height_is applied =
                 block_behind s l life i number its_height.b event_is reached its_height.there
-                ∙ highest (awaited_height s l life i) (its_height.b.height) block.height (sym its_height.same)
-                (subst (λ (h : ℕ). h ≤ block.height) (going.at.stands.awaits ∙ sym (height_alike s l life (life_in g here).no_sync its_meant.none_found i)) (applied_high C block st applied))
+                ∙ highest (awaited_height s l life i) (its_height.b.height) block.height (sym its_height.same) (not_passed applied)
 
             epoch_is : judged_block C block st ≡ Applied → awaited_epoch s l life (suc i) ≡ epoch_of C.blocks_per_epoch (block.height + 1)
             epoch_is applied = ap (epoch_of n) (height_is applied) ∙ ap (λ (k : ℕ). epoch_of k (block.height + 1)) (sym (blocks_are (suc i)))
@@ -486,6 +503,17 @@ module _ (s : Setting) (ends : List (Option CutAt)) (form : IsFormOfInclusion s.
                 epoch_is applied ∙ next_last C.blocks_per_epoch block.height (form_at g here (suc i)).counted last_one
                 ∙ sym (ap (λ (o : Option (OneShot U)). if is_some o then 0 else epoch_of C.blocks_per_epoch block.height + 1) (form_at g here (suc i)).reshare)
 
+            enters : judged_block C block st ≡ Applied → is_last_height C block.height ≡ true → Enters s l life i (e (suc i))
+            enters applied last_one = record {
+              number = number;
+              event = event_is;
+              block = its_height.b;
+              block_is = its_height.there;
+              ends_below = ap (λ (h : ℕ). h + 1) (sym its_height.same) ∙ first_above C.blocks_per_epoch block.height (form_at g here (suc i)).counted last_one
+                  ∙ ap (first C.blocks_per_epoch) (sym (epoch_is applied ∙ next_last C.blocks_per_epoch block.height (form_at g here (suc i)).counted last_one)) ∙ ap (λ (k : ℕ). first k (e (suc i))) (blocks_are (suc i));
+              awaited = subst (λ (h : ℕ). awaited_height s l life i ≤ h) its_height.same (not_passed applied);
+            }
+
             low : epoch_of C.blocks_per_epoch (block.height + 1) - 1 ≤ most
             low = subst (λ (k : ℕ). epoch_of k (block.height + 1) - 1 ≤ most) (sym (blocks_are (suc i))) (block_reach s reshares l life life_is cuts some back i number block its_height event_is reached)
 
@@ -493,7 +521,7 @@ module _ (s : Setting) (ends : List (Option CutAt)) (form : IsFormOfInclusion s.
             takes applied last_one stage = inl (
               (block, message_is, applied, last_one),
               run_stores Into most At begun_w x0 IsSetUpBy (node_step C (event_of (Finalized block)) st) ended begun_w new x0
-                  (taken_leads C Into most At (form_at g here (suc i)) block low (epoch_is applied) (expected_is applied last_one) st x0 refl refl applied last_one stage) (start At) (run_of (Finalized block) message_is),
+                  (taken_leads C Into most At (form_at g here (suc i)) block low (subst Into (epoch_is applied) (enters applied last_one)) (subst Into (expected_is applied last_one) (enters applied last_one)) st x0 refl refl applied last_one stage) (start At) (run_of (Finalized block) message_is),
             )
 
             by_stage : judged_block C block st ≡ Applied → is_last_height C block.height ≡ true → (stage : Stage) → st.participation.stage ≡ stage → Stored ended
@@ -727,7 +755,7 @@ module _ (s : Setting) (ends : List (Option CutAt)) (form : IsFormOfInclusion s.
             (sym (begun_cut after_it at_cut (suc i) (ap length same_cuts ∙ at.lives) (same_cuts ∙ are) (taken_within life at_cut (suc i) there within)))
             (subst (λ (ls : List Entry). HoldsTold s ((before ++ ls) ++ entry.Cut at_cut.step at_cut.call ∷ []) (bg (suc i)) new.held) (lines_are Where y its)
             (cut_holds Into Where begun_w new x0 y before (bg i) (bg (suc i)) also.held rises its at_cut (subst (λ (ls : List Entry). (come s (before ++ ls)).cuts ≡ (come s before).cuts) (sym (lines_are Where y its)) same_cuts) at.lives
-            (λ epoch into. ap (awaited_epoch s l life) there ∙ into) within));
+            (λ epoch into. subst (λ (k : ℕ). MayStore s l life k epoch) (sym there) into) within));
       }
 
       pub cut_left : (cause : Cause) → ended ≡ broken cause → (at_cut : cut.Cut) → at_cut.step ≡ suc i → 0 < at_cut.call → ExactBetween s (says new (entry.Cut at_cut.step at_cut.call)) (after_it ++ entry.Cut at_cut.step at_cut.call ∷ [])
@@ -750,7 +778,7 @@ module _ (s : Setting) (ends : List (Option CutAt)) (form : IsFormOfInclusion s.
     y0 = record { last = set_up_last None before; untold = None }
 
     abbrev IntoFirst : ℕ → Type 0
-    IntoFirst epoch = awaited_epoch s l life 0 ≡ epoch
+    IntoFirst epoch = (awaited_epoch s l life 0 ≡ epoch) × (lacks_boundary s l life ≡ false)
 
     abbrev Anywhere : Option (ℕ × Part) → Type 0
     Anywhere last = Unit {0}
@@ -762,9 +790,17 @@ module _ (s : Setting) (ends : List (Option CutAt)) (form : IsFormOfInclusion s.
     later = subst (λ (x : List (Option CutAt)). begun_before s x (length (come s before).cuts) ≤ bg 0) (sym are) (subst (λ (x : ℕ). begun_before s cuts x ≤ bg 0) (sym at.lives) (begun_more s reshares cuts l life 0 life_is))
 
     opened : Leaves IntoFirst (bg 0 - 1) Anywhere opens_w y0 IsSetUpBy ended new
-    opened = run_stores IntoFirst (bg 0 - 1) Anywhere opens_w y0 IsSetUpBy (node_opening (c 0)) ended opens_w new y0 (opening_leads (c 0) IntoFirst (bg 0 - 1) Anywhere (form_at g here 0) tt low (sym first_is) y0 refl)
+    opened = run_stores IntoFirst (bg 0 - 1) Anywhere opens_w y0 IsSetUpBy (node_opening (c 0)) ended opens_w new y0 (opening_leads (c 0) IntoFirst (bg 0 - 1) Anywhere (form_at g here 0) tt low (λ block found. (sym first_is, lacks_none block found)) y0 refl)
         (begins_so IntoFirst (bg 0 - 1) Anywhere opens_w y0 refl) run
       where
+        -- it has the block that begins its epoch
+        lacks_none : (block : made.Block U) → first_block (c 0) ≡ Some block → lacks_boundary s l life ≡ false
+        lacks_none block found = lacks_alike s l life (life_in g here).no_sync its_meant.none_found ∙ none_of (lacks_boundary (alone s.script) l life) (sym (first_block_is g here) ∙ ap is_some found)
+          where
+            none_of : (t : Bool) → not t ≡ true → t ≡ false
+            none_of true wrong = absurd (let its : false ≡ true = wrong in cc)
+            none_of false its = refl
+
         least : (x y z : ℕ) → x ≡ y → y ≤ z → x - 1 ≤ z - 1
         least x y z p q = omega (arith, p, q)
 
@@ -840,7 +876,7 @@ module _ (s : Setting) (ends : List (Option CutAt)) (form : IsFormOfInclusion s.
                 (sym (begun_cut (before ++ added) at_cut 0 (ap length same_cuts ∙ at.lives) (same_cuts ∙ are) (taken_within life at_cut 0 there within)))
                 (subst (λ (ls : List Entry). HoldsTold s ((before ++ ls) ++ entry.Cut at_cut.step at_cut.call ∷ []) (bg 0) new.held) (first_lines its.0 its.1)
                 (cut_holds IntoFirst Anywhere opens_w new y0 its.0 before (begun_before s (come s before).cuts (length (come s before).cuts)) (bg 0) between.held later its.1 at_cut (same_of its.0 its.1) at.lives
-                (λ epoch into. ap (awaited_epoch s l life) there ∙ into) within));
+                (λ epoch into. subst (λ (k : ℕ). MayStore s l life k epoch) (sym there) into) within));
           }
 
   -- BEHIND THE LIFE

@@ -1,6 +1,6 @@
 -- Each line that commits the epoch behind one that its life takes part in has a share just where it stands: line by line, with what the lives record.
 use Rattle.std.proofs.Common.{◌≡◌, ◌⊎◌, inl, inr, ℕ, suc, true, false, ◌+◌, ◌-◌, ◌*◌, ◌<◌, ◌≤◌, List, [], ◌∷◌, ◌++◌, Option, Some, None, refl, sym, ◌∙◌, ap, subst, length, arith, append-nil, append_assoc}
-use Rattle.std.specs.Prelude.{IsSomeAnd, is_some, slice_get}
+use Rattle.std.specs.Prelude.{◌↔◌, IsSome, IsSomeAnd, is_some, slice_get}
 use Rattle.std.specs.FinMap.{get}
 use Rattle.std.specs.List.{AllByRecursion}
 use Rattle.std.proofs.lemmas.List.{append_cancel_left}
@@ -25,14 +25,14 @@ use Rattle.dkg_text.specs.declared.script.Event.TheVariants as event
 use Rattle.dkg_text.specs.declared.script.Life.{Life}
 use Rattle.dkg_script.specs.Blocks.{Block, block_at, known_info}
 use Rattle.dkg_script.specs.Consistent.{MayEndSo}
-use Rattle.dkg_script.specs.History.{IsHonestlyDerived, IsWholeHistory}
+use Rattle.dkg_script.specs.History.{CarriesNext, IsWholeHistory}
 use Rattle.dkg_script.specs.Inclusion.{IsFormOfInclusion}
 use Rattle.dkg_script.specs.OwnMarks.{IsKnownAt}
 use Rattle.dkg_script.specs.Position.{awaited_before, awaited_epoch, event_of_step, follows}
 use Rattle.dkg_script.specs.Progress.{Progress, progress, read}
 use Rattle.dkg_script.specs.Readings.{Info}
 use Rattle.dkg_script.specs.Setting.{CutAt, Setting, blocks_per_epoch, is_oneshot, life_at}
-use Rattle.dkg_script.specs.Views.{seen_provided}
+use Rattle.dkg_script.specs.Views.{seen_block, seen_provided}
 use Rattle.dkg_store.specs.Acts.{Ended, Held, World, broken, notes, stopped, went}
 use Rattle.dkg_store.specs.Noted.{logs_in}
 use Rattle.dkg_core.specs.Asked.{OfShares}
@@ -51,7 +51,7 @@ use Rattle.dkg_core.proofs.Heights.{epoch_is}
 use Rattle.dkg_core.proofs.Said.{runs_say}
 use Rattle.dkg_run.specs.Epochs.{IsLifeInForm}
 use Rattle.dkg_run.specs.Given.{AreBytes, Lived, at_step, lived, provided_by, step_of}
-use Rattle.dkg_run.specs.SharesStand.{EndsEpoch, HeldShare, StandsBy, StandsSo, WasCutInto}
+use Rattle.dkg_run.specs.SharesStand.{EndsEpoch, EndsHonestly, HeldShare, StandsBy, StandsSo, WasCutInto}
 use Rattle.dkg_run.specs.Ways.{by_worlds}
 use Rattle.dkg_run.proofs.Awaiting.{IsReached}
 use Rattle.dkg_run.proofs.Blaming.{same_place}
@@ -93,7 +93,8 @@ cuts_as s before passed same = sym same
 -- WHAT IS TOLD OF A LINE: a share that is committed stands exactly, where the lines up to it are the first ones of those that tell how the lives ended.
 abbrev pub IsExactLine : Setting → Type 0 → List Entry → Entry → Type 0
 IsExactLine s marks before (entry.Committed epoch share) =
-    marks → (ended : ℕ) → epoch ≡ ended + 1 → EndsEpoch s (come s before) ended → IsSomeAnd (known_info s (ended + 1)) (λ info. StandsSo s before ended share info.outcome)
+    (ended : ℕ) → epoch ≡ ended + 1 → (ends_it : EndsEpoch s (come s before) ended)
+    → IsSomeAnd (known_info s (ended + 1)) (λ info. StandsSo s before ended share (EndsHonestly s (come s before) ended ends_it) marks info.outcome)
 IsExactLine s marks before line = Unit {0}
 
 module _ (s : Setting) (ends : List (Option CutAt)) where
@@ -102,7 +103,7 @@ module _ (s : Setting) (ends : List (Option CutAt)) where
 
   -- no step is in hand in an opening
   line_opening : (marks : Type 0) (before : List Entry) (line : Entry) → (come s before).step ≡ 0 → ExactEntry marks before line
-  line_opening marks before (entry.Committed epoch share) first front = λ known ended same its.
+  line_opening marks before (entry.Committed epoch share) first front = λ ended same its.
       absurd (none_some (sym (ap (event_of_step its.life) first) ∙ its.event))
   line_opening marks before line first front = tt
 
@@ -128,7 +129,7 @@ module _ (s : Setting) (ends : List (Option CutAt)) where
   uncommitted_told (line ∷ lines) last marks before none = ((λ front. tt), uncommitted_told lines (last_line last line) (marks × IsKnownAt s (come s before) line) (before ++ line ∷ []) none.1)
 
 module _ (s : Setting) (ends : List (Option CutAt)) (reshares : is_oneshot s ≡ false) (history : IsWholeHistory s ends) (form : IsFormOfInclusion s.script) (bytes : AreBytes s.script.blocks)
-    (honest : IsHonestlyDerived s (seen_provided unit_spelling (provided_by s.script))) (may : MayEndSo s.script.lives ends) (secrets : (seen : Held → Seen) → by_worlds.reads seen → ReadsSecrets seen)
+    (may : MayEndSo s.script.lives ends) (secrets : (seen : Held → Seen) → by_worlds.reads seen → ReadsSecrets seen)
     (meant : (l : ℕ) (life : Life) (seen : Held → Seen) (files : Files) → life_at s l ≡ Some life → by_worlds.reads seen → IsLifeInForm (lived s.script l life seen files) × IsLifeOfSetting s ends (lived s.script l life seen files)) where
   -- beside what is kept of recorded dealings and logs, and what is noted of the chain's: shares, between lives and within one
   abbrev pub SharesBetween : OfRests
@@ -224,16 +225,24 @@ module _ (s : Setting) (ends : List (Option CutAt)) (reshares : is_oneshot s ≡
         abbrev TakenLine : Entry → Type 0
         TakenLine = Tells (IsTakenShare C Stored block st w.held)
 
+        abbrev Carries : Block → Type 0
+        Carries = CarriesNext s (seen_provided unit_spelling (provided_by s.script))
+
+        abbrev Honest : Type 0
+        Honest = Carries (seen_block unit_spelling block)
+
         -- what is known of a line's place
-        pub record IsPlaced (ended_epoch : ℕ) : Type 0 where
+        pub record IsPlaced (b : List Entry) (ended_epoch : ℕ) (so : EndsEpoch s (come s b) ended_epoch) : Type 0 where
           pub epoch : ended_epoch ≡ e
           pub delivers : block.height ≡ last n e
+          pub honest : EndsHonestly s (come s b) ended_epoch so ↔ Honest
           pub part : follows s l life e ≡ false
 
-        placed : (b : List Entry) → length (come s b).cuts ≡ l → (come s b).step ≡ suc i → (ended_epoch : ℕ) → EndsEpoch s (come s b) ended_epoch → IsPlaced ended_epoch
+        placed : (b : List Entry) → length (come s b).cuts ≡ l → (come s b).step ≡ suc i → (ended_epoch : ℕ) → (so : EndsEpoch s (come s b) ended_epoch) → IsPlaced b ended_epoch so
         placed b lives step ended_epoch so = record {
           epoch = sym same_epoch;
           delivers = delivered_so ∙ ap (last n) (sym same_epoch);
+          honest = ((λ its_carries. subst (λ (o : Option Block). IsSomeAnd o Carries) block_there its_carries), (λ its_carries. subst (λ (o : Option Block). IsSomeAnd o Carries) (sym block_there) its_carries));
           part = ap (follows s l life) same_epoch ∙ ap (λ (k : ℕ). follows s k life ended_epoch) (sym lives) ∙ ap (λ (x : Life). follows s (length (come s b).cuts) x ended_epoch) (sym same_life) ∙ so.takes_part;
         }
           where
@@ -258,9 +267,12 @@ module _ (s : Setting) (ends : List (Option CutAt)) (reshares : is_oneshot s ≡
                 of_event : ◌≡◌ {A = Option script.Event} (Some (event.Final number)) (Some (event.Final so.number)) → number ≡ so.number
                 of_event same = cc
 
+            block_there : block_at s so.number ≡ Some (seen_block unit_spelling block)
+            block_there = ap (block_at s) (sym same_number) ∙ seen_at s form bytes number block made_it.is
+
             delivered_so : block.height ≡ last n ended_epoch
             delivered_so =
-                subst (λ (o : Option Block). IsSomeAnd o (λ b. b.height ≡ last n ended_epoch)) (ap (block_at s) (sym same_number) ∙ seen_at s form bytes number block made_it.is) so.delivers
+                subst (λ (o : Option Block). IsSomeAnd o (λ b. b.height ≡ last n ended_epoch)) block_there so.delivers
 
         -- no share of the epoch itself is told
         none_told : block.height ≡ last n e → (lines : List Entry) → AllByRecursion TakenLine lines → TellsShare lines e → ⊥
@@ -289,10 +301,10 @@ module _ (s : Setting) (ends : List (Option CutAt)) (reshares : is_oneshot s ≡
             by_info (Some info) so = apart info.epoch so.0 (so.1 ∙ next_is)
 
         -- what stands before the step stands before the line
-        stands_then : block.height ≡ last n e → (passed : List Entry) → AllByRecursion TakenLine passed → (come s (before ++ passed)).cuts ≡ (come s before).cuts → (part : Part) (share : Option ℕ) (outcome : EpochOutcome)
-            → StandsBy s before e part share outcome → StandsBy s (before ++ passed) e part share outcome
-        stands_then delivers passed all same part share Success so = so
-        stands_then delivers passed all same part share Failure so = (
+        stands_then : block.height ≡ last n e → (passed : List Entry) → AllByRecursion TakenLine passed → (come s (before ++ passed)).cuts ≡ (come s before).cuts → (later : Type 0) → (later → marks) → (part : Part) (share : Option ℕ) (outcome : EpochOutcome)
+            → StandsBy s before e part share marks outcome → StandsBy s (before ++ passed) e part share later outcome
+        stands_then delivers passed all same its_marks known part share Success so = λ its. so (known its)
+        stands_then delivers passed all same its_marks known part share Failure so = (
           λ told. so.0 (before_it told),
           λ some. later (so.1 some),
         )
@@ -339,28 +351,32 @@ module _ (s : Setting) (ends : List (Option CutAt)) (reshares : is_oneshot s ≡
 
             committed : (epoch : ℕ) (share : Option ℕ) → set_up_last None (before ++ passed) ≡ set_up_last None before → IsTakenShare C Stored block st w.held epoch share
                 → IsFront s ends ((before ++ passed) ++ line ∷ []) → IsExactLine s later (before ++ passed) (entry.Committed epoch share)
-            committed epoch share at_commit is_taken front so ended_epoch same_epoch ends_it =
-                subst (λ (k : ℕ). IsSomeAnd (known_info s (k + 1)) (λ info. StandsSo s (before ++ passed) k share info.outcome)) (sym where_it.epoch) (by_known (known_info s (e + 1)) stands)
+            committed epoch share at_commit is_taken front ended_epoch same_epoch ends_it =
+                subst (λ (k : ℕ). IsSomeAnd (known_info s (k + 1)) (λ info. StandsSo s (before ++ passed) k share ItsHonest later info.outcome)) (sym where_it.epoch) (by_known (known_info s (e + 1)) stands)
               where
-                where_it : IsPlaced ended_epoch
+                ItsHonest : Type 0
+                ItsHonest = EndsHonestly s (come s (before ++ passed)) ended_epoch ends_it
+
+                where_it : IsPlaced (before ++ passed) ended_epoch ends_it
                 where_it = placed (before ++ passed) lives step ended_epoch ends_it
 
                 its_front : IsFront s ends before
                 its_front = earlier (front_of s ends (before ++ passed) (line ∷ []) front)
 
-                stands : IsSomeAnd (known_info s (e + 1)) (λ info. (part : Part) × (set_up_last None before ≡ Some (e, part)) × StandsBy s before e part share info.outcome)
+                stands : IsSomeAnd (known_info s (e + 1)) (λ info. (part : Part) × (set_up_last None before ≡ Some (e, part)) × (IsSome share → Honest) × (Honest → StandsBy s before e part share marks info.outcome))
                 stands =
-                    line_stands s ends form bytes reshares history.consistent honest secrets l life seen files life_is reads here its cuts back marks (known so) i one is reached st w before going also number final block made_it.is
+                    line_stands s ends form bytes reshares history.consistent secrets l life seen files life_is reads here its cuts back marks i one is reached st w before going also number final block made_it.is
                     where_it.part applied where_it.delivers (recorded its_front) share
                     (subst (λ (k : ℕ). IsTakenShare C Stored block st w.held k share) (same_epoch ∙ ap (λ (k : ℕ). k + 1) where_it.epoch) is_taken)
 
-                by_known : (o : Option Info) → IsSomeAnd o (λ info. (part : Part) × (set_up_last None before ≡ Some (e, part)) × StandsBy s before e part share info.outcome)
-                    → IsSomeAnd o (λ info. StandsSo s (before ++ passed) e share info.outcome)
+                by_known : (o : Option Info) → IsSomeAnd o (λ info. (part : Part) × (set_up_last None before ≡ Some (e, part)) × (IsSome share → Honest) × (Honest → StandsBy s before e part share marks info.outcome))
+                    → IsSomeAnd o (λ info. StandsSo s (before ++ passed) e share ItsHonest later info.outcome)
                 by_known None none = absurd none
-                by_known (Some info) (part, is_set_up, by_it) = (
+                by_known (Some info) (part, is_set_up, only, by_it) = (
                   part,
                   set_up_there e part (before ++ passed) (at_commit ∙ is_set_up),
-                  stands_then where_it.delivers passed all same part share info.outcome by_it,
+                  (λ some_share. where_it.honest.1 (only some_share)),
+                  (λ honest. stands_then where_it.delivers passed all same later known part share info.outcome (by_it (where_it.honest.0 honest))),
                 )
 
             line_told : (x : Entry) → AtCommits (λ y. y ≡ set_up_last None before) (set_up_last None (before ++ passed)) (x ∷ more) → AllByRecursion TakenLine (x ∷ more)

@@ -157,7 +157,7 @@ module _ (script : Script) (form : IsFormOfInclusion script) (o : Over) (disk_of
         leaves = none_left script o answered old new added is none;
         paths = λ told here form history devices. none_paths script o answered old new added is none (setting_as_cut script o.before.files o.before.held added);
         shares = λ told here form consistent fit. none_commits script o answered old new added is none (Fits (setting_as_cut script o.before.files o.before.held added));
-        exactly = λ told here form history honest devices fit before after epoch share parts own ends_it. absurd (none_committed script o answered old new added is none before after (epoch + 1) share parts);
+        exactly = λ told here form history devices fit before after epoch share parts ends_it. absurd (none_committed script o answered old new added is none before after (epoch + 1) share parts);
         complete = none_completes script o answered old new added is none;
         gives_back = λ told. record {
           fit = fits told;

@@ -472,7 +472,7 @@ module _ {Dir : Type 0} (c : Fixed Dir) where
     commits goes info seed None now next x none at into more = (tt, (at, more x none at))
     commits goes info seed (Some share) now next x none at into more = ((none, into), (tt, ((refl, at), more (record { last = x.last; untold = None }) refl at)))
 
-    judged : (standing : s.Standing) (info : EpochInfo Dir) (now : Live Dir) (valid : Result (Unit {0}) ParticipantsError) (x : Telling) → x.untold ≡ None → At x.last → now.participation.epoch - 1 ≤ most → Into info.epoch
+    judged : (standing : s.Standing) (info : EpochInfo Dir) (now : Live Dir) (valid : Result (Unit {0}) ParticipantsError) (x : Telling) → x.untold ≡ None → At x.last → now.participation.epoch - 1 ≤ most → (standing ≡ s.Uncommitted → Into info.epoch)
         → Leads IsSetUpBy x (s.judged c None standing info now valid)
     judged standing info now (Err e) x none at low into = tt
     judged s.WasCommitted info now (Ok passed) x none at low into = λ h. behind_prune info (s.recovered_share c (c.seen h) info) (s.seed_for c info.epoch (lookup info.epoch (c.seen h).seeds)) now x none low
@@ -481,25 +481,30 @@ module _ {Dir : Type 0} (c : Fixed Dir) where
         let seed : List ℕ = s.seed_for c info.epoch (lookup info.epoch (c.seen h).seeds) in
         let last : Live Dir → Course Dir Fault (Live Dir) = λ st. bind (s.prunes (st.participation.epoch - 1) st) (λ st. if s.is_late_floor c None then s.follows c st else s.draws_up c (s.participants_of info) (Some info.output) share seed st) in
         leads_then Into most At (λ y end. (y.untold ≡ None) × (end.participation.epoch ≡ now.participation.epoch)) IsSetUpBy x (bind (s.commits info seed share now) (λ st. s.registers c info share st)) last
-        (commits (λ y end. (y.untold ≡ None) × (end.participation.epoch ≡ now.participation.epoch)) info seed share now (λ st. s.registers c info share st) x none at into (λ y none at. (tt, (none, refl))))
+        (commits (λ y end. (y.untold ≡ None) × (end.participation.epoch ≡ now.participation.epoch)) info seed share now (λ st. s.registers c info share st) x none at (into refl) (λ y none at. (tt, (none, refl))))
         (λ y end so. behind_prune info share seed end y so.0 (subst (λ (e : ℕ). e - 1 ≤ most) (sym so.1) low))
 
-    with_info : (standing : s.Standing) (info : EpochInfo Dir) (now : Live Dir) (x : Telling) → x.untold ≡ None → At x.last → now.participation.epoch - 1 ≤ most → Into now.participation.epoch → Leads IsSetUpBy x (s.with_info c None standing info now)
+    with_info : (standing : s.Standing) (info : EpochInfo Dir) (now : Live Dir) (x : Telling) → x.untold ≡ None → At x.last → now.participation.epoch - 1 ≤ most → (standing ≡ s.Uncommitted → Into now.participation.epoch) → Leads IsSetUpBy x (s.with_info c None standing info now)
     with_info standing info now x none at low into =
         if_so x (info.epoch == now.participation.epoch) (s.judged c None standing info now (validity c info)) (Stops (WrongEpoch now.participation.epoch info.epoch))
-        (λ e. judged standing info now (validity c info) x none at low (subst Into (sym (same_number info.epoch now.participation.epoch e)) into)) (λ e. tt)
+        (λ e. judged standing info now (validity c info) x none at low (λ is. subst Into (sym (same_number info.epoch now.participation.epoch e)) (into is))) (λ e. tt)
 
     -- (without its boundary block there is no round)
-    from_boundary : (found : Option (Block Dir)) (now : Live Dir) (x : Telling) → x.untold ≡ None → At x.last → now.participation.epoch - 1 ≤ most → Into now.participation.epoch → now.participation.round ≡ None → Leads IsSetUpBy x (s.from_boundary c found now)
+    from_boundary : (found : Option (Block Dir)) (now : Live Dir) (x : Telling) → x.untold ≡ None → At x.last → now.participation.epoch - 1 ≤ most → ((block : Block Dir) → found ≡ Some block → Into now.participation.epoch) → now.participation.round ≡ None → Leads IsSetUpBy x (s.from_boundary c found now)
     from_boundary None now x untold at low into none = (tt, ((λ round there. absurd (none_round (sym none ∙ there))), untold))
     from_boundary (Some block) now x untold at low into none =
-        leads_option Into most At IsSetUpBy x (λ (info : EpochInfo Dir). s.with_info c None s.Uncommitted info now) (info_of block.payload) (Stops (MissingEpochInfo block.height)) (λ info. with_info s.Uncommitted info now x untold at low into) tt
+        leads_option Into most At IsSetUpBy x (λ (info : EpochInfo Dir). s.with_info c None s.Uncommitted info now) (info_of block.payload) (Stops (MissingEpochInfo block.height)) (λ info. with_info s.Uncommitted info now x untold at low (λ is. into block refl)) tt
 
-    sets_up : (committed : Option (EpochInfo Dir)) (now : Live Dir) (x : Telling) → x.untold ≡ None → At x.last → now.participation.epoch - 1 ≤ most → Into now.participation.epoch → now.participation.round ≡ None → Leads IsSetUpBy x (s.sets_up_by c None committed now)
-    sets_up (Some info) now x untold at low into none = with_info s.WasCommitted info now x untold at low into
+    sets_up : (committed : Option (EpochInfo Dir)) (now : Live Dir) (x : Telling) → x.untold ≡ None → At x.last → now.participation.epoch - 1 ≤ most
+        → ((block : Block Dir) → c.source.block (boundary c.blocks_per_epoch now.participation.epoch) ≡ Some block → Into now.participation.epoch) → now.participation.round ≡ None → Leads IsSetUpBy x (s.sets_up_by c None committed now)
+    sets_up (Some info) now x untold at low into none = with_info s.WasCommitted info now x untold at low (λ is. absurd (let wrong : ◌≡◌ {A = s.Standing} s.WasCommitted s.Uncommitted = is in cc))
     sets_up None now x untold at low into none = from_boundary (c.source.block (boundary c.blocks_per_epoch now.participation.epoch)) now x untold at low into none
 
-    setup_so : (now : Live Dir) (x : Telling) → x.untold ≡ None → At x.last → epoch_of c.blocks_per_epoch (awaited_height now) - 1 ≤ most → Into (epoch_of c.blocks_per_epoch (awaited_height now)) → Leads IsSetUpBy x (s.setup c None now)
+    -- an epoch whose boundary block is there
+    abbrev pub Served : (height : ℕ) → Type 0
+    Served height = (block : Block Dir) → c.source.block (boundary c.blocks_per_epoch (epoch_of c.blocks_per_epoch height)) ≡ Some block → Into (epoch_of c.blocks_per_epoch height)
+
+    setup_so : (now : Live Dir) (x : Telling) → x.untold ≡ None → At x.last → epoch_of c.blocks_per_epoch (awaited_height now) - 1 ≤ most → Served (awaited_height now) → Leads IsSetUpBy x (s.setup c None now)
     setup_so now x none at low into = if_so x (s.is_past_range c (awaited_height now)) (Stops HeightRange) (s.sets_up c None now) (λ e. tt) (λ e. sets_up (s.committed_info (s.anew c now)) (s.anew c now) x none at low into refl)
 
     module _ (form : IsForm c) where
@@ -508,7 +513,7 @@ module _ {Dir : Type 0} (c : Fixed Dir) where
       abbrev begins : ℕ
       begins = option_map_or (λ t. t.height + 1) (startup c.source.anchor None) 0
 
-      opening_so : At None → epoch_of c.blocks_per_epoch begins - 1 ≤ most → Into (epoch_of c.blocks_per_epoch begins) → (x : Telling) → x.untold ≡ None → Leads IsSetUpBy x (opening c)
+      opening_so : At None → epoch_of c.blocks_per_epoch begins - 1 ≤ most → Served begins → (x : Telling) → x.untold ≡ None → Leads IsSetUpBy x (opening c)
       opening_so at low into x none = (tt, (tt, λ h. (tt, opens (begun (c.seen h)) (record { last = None; untold = x.untold }) none at)))
         where
           opens : (now : Live Dir) (y : Telling) → y.untold ≡ None → At y.last → Leads IsSetUpBy y (opens_in c c.oneshot now)
@@ -525,7 +530,7 @@ module _ {Dir : Type 0} (c : Fixed Dir) where
             → Leads IsSetUpBy x (bind (b.answers_all queue now) (λ now. if is_some c.oneshot then b.ends_once c outcome now else s.setup c None now))
         next_setup outcome [] now x none at tip =
             subst (λ (o : Option (OneShot Dir)). Leads IsSetUpBy x (if is_some o then b.ends_once c outcome (with_queue [] now) else s.setup c None (with_queue [] now))) (sym form.reshare)
-            (setup_so (with_queue [] now) x none at (subst (λ (h : ℕ). epoch_of c.blocks_per_epoch h - 1 ≤ most) (sym awaited) low) (subst (λ (h : ℕ). Into (epoch_of c.blocks_per_epoch h)) (sym awaited) into))
+            (setup_so (with_queue [] now) x none at (subst (λ (h : ℕ). epoch_of c.blocks_per_epoch h - 1 ≤ most) (sym awaited) low) (λ found is. subst (λ (h : ℕ). Into (epoch_of c.blocks_per_epoch h)) (sym awaited) into))
           where
             awaited : awaited_height now ≡ block.height + 1
             awaited = ap (λ (o : Option Tip). option_map_or (λ t. t.height + 1) o 0) tip
@@ -617,7 +622,7 @@ module _ {Dir : Type 0} (c : Fixed Dir) where
         follows_so st x none at = carried (λ info. b.follows_into c block info st) x (λ info its h.
             let share : Option ℕ = s.recovered_share c (c.seen h) info in
             commits IsSetUpBy info (s.seed_for c info.epoch (lookup info.epoch (c.seen h).seeds)) share st (λ st. bind (s.registers c info share st) (λ st. s.setup c None (with_tip block st))) x none at its
-            (λ y untold at. (tt, setup_so (with_tip block (s.with_registered info.epoch (s.scheme_for c info share) (with_participation (record st.participation { current = Some info }) st))) y untold at low into)))
+            (λ y untold at. (tt, setup_so (with_tip block (s.with_registered info.epoch (s.scheme_for c info share) (with_participation (record st.participation { current = Some info }) st))) y untold at low (λ found is. into))))
 
         taken_so : (st : Live Dir) (x : Telling) → x.untold ≡ None → At x.last → is_last_height c block.height ≡ true → (st.participation.stage ≡ Follows) ⊎ ((st.participation.stage ≡ Includes) × ((round : Round) × (st.participation.round ≡ Some round)))
             → Leads IsSetUpBy x (b.applies c block st)
@@ -636,7 +641,7 @@ module _ {Dir : Type 0} (c : Fixed Dir) where
         (λ left same. (still_seated x.last end left (ap (λ (y : Live Dir). y.participation.round) same) (ap (λ (y : Live Dir). y.participation.epoch) same) (ap (λ (y : Live Dir). y.participation.seat) same) so.0, so.1))
 
     -- A NODE'S OPENING
-    pub opening_leads : (form : IsForm c) → At None → epoch_of c.blocks_per_epoch (option_map_or (λ t. t.height + 1) (startup c.source.anchor None) 0) - 1 ≤ most → Into (epoch_of c.blocks_per_epoch (option_map_or (λ t. t.height + 1) (startup c.source.anchor None) 0))
+    pub opening_leads : (form : IsForm c) → At None → epoch_of c.blocks_per_epoch (option_map_or (λ t. t.height + 1) (startup c.source.anchor None) 0) - 1 ≤ most → Served (option_map_or (λ t. t.height + 1) (startup c.source.anchor None) 0)
         → (x : Telling) → x.untold ≡ None → LeadsTo Into most At IsSetUpBy x (node_opening c)
     opening_leads form at low into x none =
         leads_then Into most At IsSetUpBy IsSetUpBy x (under Faulted (opening c)) (λ st. unless_once c (kept_material c st) (Goes st)) (leads_under Into most At IsSetUpBy Faulted x (opening c) (opening_so form at low into x none))

@@ -2,7 +2,6 @@
 -- no block between an epoch's midpoint and a life's start was missed.
 use Rattle.std.specs.Prelude.{ℕ, zero, suc, ◌≡◌, ◌+◌, ◌-◌, ◌<◌, ◌≤◌, true, false, List, [], ◌++◌, Option, Some, None, filter_map, option_to_list, IfSome}
 use Rattle.std.specs.FinMap.{get}
-use Rattle.std.specs.List.{AllByRecursion}
 use Rattle.dkg_ceremony.specs.declared.dealer_log.DealerLog.{DealerLog}
 use Rattle.dkg_ceremony.specs.declared.round.RoundParts.{RoundParts as Round}
 use Rattle.dkg_ceremony.specs.Outcomes.{LogMap, outcome_of}
@@ -15,7 +14,7 @@ use Rattle.dkg_types.specs.NextInfos.{Provided, next_info}
 use Rattle.dkg_types.specs.Paths.{counts, logs_from}
 use Rattle.dkg_text.specs.declared.script.Event.TheVariants.{Final}
 use Rattle.dkg_text.specs.declared.script.Life.{Life}
-use Rattle.dkg_script.specs.Blocks.{Block, block_at, chain, known_info, round_at, used}
+use Rattle.dkg_script.specs.Blocks.{Block, block_at, chain, known_info, round_at}
 use Rattle.dkg_script.specs.Consistent.{IsConsistentScript}
 use Rattle.dkg_script.specs.Position.{awaited_epoch, awaited_height, cut_of, event_of_step, follows}
 use Rattle.dkg_script.specs.Readings.{Info}
@@ -103,11 +102,8 @@ pub record IsWholeHistory (s : Setting) (ends : List (Option CutAt)) : Type 0 wh
   pub logs : AreChainLogs s
   pub missed : MissesNone s ends
 
--- WHERE SHARES STAND EXACTLY: an epoch's last block carries the info that the chain's logs of the epoch make, whatever the provider says
+-- WHERE SHARES STAND: an epoch's last block carries the info that the chain's logs of the epoch make, whatever the provider says
 abbrev pub CarriesNext : Setting → Provided (List ℕ) → Block → Type 0
 CarriesNext s provided b =
     (epoch : ℕ) (info : Info) (round : Round) → b.height ≡ last (blocks_per_epoch s) epoch → known_info s epoch ≡ Some info → round_at s epoch ≡ Some round
     → b.info ≡ Some (next_info outcome_of provided info round (chain_logs s round epoch))
-
-abbrev pub IsHonestlyDerived : Setting → Provided (List ℕ) → Type 0
-IsHonestlyDerived s provided = AllByRecursion (CarriesNext s provided) (used s)
