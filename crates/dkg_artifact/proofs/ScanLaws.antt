@@ -10,7 +10,7 @@ use Rattle.dkg_ceremony.specs.declared.round.RoundParts.{RoundParts as Round}
 use Rattle.dkg_ceremony.specs.declared.signed_log.SignedDealerLog.{SignedDealerLog}
 use Rattle.dkg_ceremony.specs.Outcomes.{LogMap}
 use Rattle.dkg_types.specs.Blocks.{Block}
-use Rattle.dkg_types.specs.Paths.{counts, logs_from, logs_of_path, log_of_block}
+use Rattle.dkg_types.specs.Paths.{log_counts, logs_from, logs_of_path, log_of_block}
 use Rattle.dkg_types.specs.PayloadCodes.{its_log}
 use Rattle.dkg_artifact.specs.declared.scan.Tip.{Tip}
 use Rattle.dkg_artifact.specs.Found.{with_log}
@@ -45,33 +45,33 @@ module _ {Dir : Type 0} where
 
 module _ (check : Check) (middle last : ℕ) (round : Round) where
   from_more : (p : ℕ × SignedDealerLog) (placed : List (ℕ × SignedDealerLog))
-      → logs_from check middle last round (p ∷ placed) ≡ cond (counts check middle last round p) (with_pair (p.1.dealer, p.1.log) (logs_from check middle last round placed)) (logs_from check middle last round placed)
+      → logs_from check middle last round (p ∷ placed) ≡ cond (log_counts check middle last round p) (with_pair (p.1.dealer, p.1.log) (logs_from check middle last round placed)) (logs_from check middle last round placed)
   unfolding logs_from
   from_more p placed =
-      let rest = filter (counts check middle last round) placed in
+      let rest = filter (log_counts check middle last round) placed in
       let pairs : List (ℕ × SignedDealerLog) → LogMap = λ l. map_of (map (λ (p : ℕ × SignedDealerLog). (p.1.dealer, p.1.log)) l) in
-      elim (counts check middle last round p) as (λ b. pairs (cond b (p ∷ rest) rest) ≡ cond b (with_pair (p.1.dealer, p.1.log) (pairs rest)) (pairs rest)) [ true ↦ refl | false ↦ refl ]
+      elim (log_counts check middle last round p) as (λ b. pairs (cond b (p ∷ rest) rest) ≡ cond b (with_pair (p.1.dealer, p.1.log) (pairs rest)) (pairs rest)) [ true ↦ refl | false ↦ refl ]
 
   -- nothing is found on no path
   pub from_none : logs_from check middle last round [] ≡ []
   unfolding logs_from
   from_none = refl
 
-  early : (p : ℕ × SignedDealerLog) → p.0 < middle → counts check middle last round p ≡ false
+  early : (p : ℕ × SignedDealerLog) → p.0 < middle → log_counts check middle last round p ≡ false
   early p lt = let e : nat_le middle p.0 ≡ false = grind (arith, nat_tests) in rw e refl
 
-  late : (p : ℕ × SignedDealerLog) → last ≤ p.0 → counts check middle last round p ≡ false
+  late : (p : ℕ × SignedDealerLog) → last ≤ p.0 → log_counts check middle last round p ≡ false
   late p ge =
       rw (le-ltb p.0 last ge) (elim (nat_le middle p.0) as (λ (b : Bool). (b && false && is_some (place_of p.1.dealer round.dealers) && check round p.1) ≡ false) [ true ↦ refl | false ↦ refl ])
 
-  within : (p : ℕ × SignedDealerLog) → middle ≤ p.0 → p.0 < last → counts check middle last round p ≡ is_counted check round p.1
+  within : (p : ℕ × SignedDealerLog) → middle ≤ p.0 → p.0 < last → log_counts check middle last round p ≡ is_counted check round p.1
   within p ge lt = let e : nat_le middle p.0 ≡ true = grind (arith, nat_tests) in rw (e, lt-ltb p.0 last lt) refl
 
   -- what a log at a block's height adds to the logs found above
   adds : (height : ℕ) → Option SignedDealerLog → LogMap → LogMap
-  adds height log found = option_map_or (λ s. cond (counts check middle last round (height, s)) (with_pair (s.dealer, s.log) found) found) log found
+  adds height log found = option_map_or (λ s. cond (log_counts check middle last round (height, s)) (with_pair (s.dealer, s.log) found) found) log found
 
-  adds_none : (height : ℕ) (log : Option SignedDealerLog) (found : LogMap) → ((s : SignedDealerLog) → counts check middle last round (height, s) ≡ false) → adds height log found ≡ found
+  adds_none : (height : ℕ) (log : Option SignedDealerLog) (found : LogMap) → ((s : SignedDealerLog) → log_counts check middle last round (height, s) ≡ false) → adds height log found ≡ found
   unfolding adds
   adds_none height None found none = refl
   adds_none height (Some s) found none = rw (none s) refl
@@ -90,7 +90,7 @@ module _ (check : Check) (middle last : ℕ) (round : Round) where
     ]
 
     -- a block that adds nothing
-    same_path : (tip : Option Tip) (b : Block Dir) (path : List (Block Dir)) → (is_above tip b ≡ true → (s : SignedDealerLog) → counts check middle last round (b.height, s) ≡ false)
+    same_path : (tip : Option Tip) (b : Block Dir) (path : List (Block Dir)) → (is_above tip b ≡ true → (s : SignedDealerLog) → log_counts check middle last round (b.height, s) ≡ false)
         → logs_of_path check middle last round (above tip (b ∷ path)) ≡ logs_of_path check middle last round (above tip path)
     same_path tip b path none = elim (is_above tip b) as (λ (v : Bool). is_above tip b ≡ v → logs_of_path check middle last round (cond v (b ∷ above tip path) (above tip path)) ≡ logs_of_path check middle last round (above tip path)) [
       | true ↦ λ is. path_more b (above tip path) ∙ adds_none b.height (option_and_then its_log b.payload) (logs_of_path check middle last round (above tip path)) (none is)

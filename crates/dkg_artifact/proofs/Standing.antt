@@ -22,7 +22,7 @@ use Rattle.dkg_artifact.specs.declared.scan.Stand.TheVariants.{Final, Between, L
 use Rattle.dkg_artifact.specs.declared.scan.Tip.{Tip}
 use Rattle.dkg_artifact.specs.Found.{with_log}
 use Rattle.dkg_artifact.specs.Scans.{Check, lowest, tip_below, first_next, is_final, is_other, link_of, stand_of, added, with_lower, answers, feeds, above}
-use Rattle.dkg_artifact.specs.Ancestries.{IsLinked, BeginsBelow, IsUnderWay, awaited, named, IsNamed, Stands, IsNext, Completes, IsLogs, Answers, Says, SaysOfPath}
+use Rattle.dkg_artifact.specs.Ancestries.{IsLinked, BeginsBelow, IsUnderWay, awaited, named, IsNamed, StandsAtPath, IsNext, CompletesPath, IsLogs, SaysOfBlock, Says, SaysOfPath}
 use Rattle.dkg_artifact.proofs.ScanLaws.{from_none, lower_path, final_path}
 
 -- WHAT A TEST SAYS
@@ -141,7 +141,7 @@ module _ {Dir : Type 0} (bounds : Bounds) (tip : Option Tip) (some : 0 < bounds.
 
 module _ {Dir : Type 0} (check : Check) (round : Round) (bounds : Bounds) (tip : Option Tip) where
   pub begun : (s : Scan) → s.round ≡ round → s.last ≡ bounds.last → s.down_to ≡ lowest bounds.midpoint tip → s.below ≡ tip_below bounds.midpoint tip → s.next ≡ first_next bounds.last → s.found ≡ [] → 0 < bounds.last
-      → Stands {Dir = Dir} check round bounds tip [] s
+      → StandsAtPath {Dir = Dir} check round bounds tip [] s
   begun s its_round its_last its_lowest its_below its_first empty some = record {
     under_way = record { linked = tt; begins = tt; higher = tt };
     some = some;
@@ -153,7 +153,7 @@ module _ {Dir : Type 0} (check : Check) (round : Round) (bounds : Bounds) (tip :
     its_logs = empty ∙ sym (from_none check bounds.midpoint bounds.last round);
   }
 
-  module _ (path : List (Block Dir)) (s : Scan) (b : Block Dir) (known : Stands check round bounds tip path s) where
+  module _ (path : List (Block Dir)) (s : Scan) (b : Block Dir) (known : StandsAtPath check round bounds tip path s) where
     abbrev next : Next
     next = record { height = awaited bounds.last path; digest = named path }
 
@@ -268,7 +268,7 @@ module _ {Dir : Type 0} (bounds : Bounds) (tip : Option Tip) (some : 0 < bounds.
     | inr final ↦ let below = awaited_below bounds tip some path under.linked under.begins in absurd (omega arith)
   ]
 
-  pub need_alone : (check : Check) (round : Round) (path : List (Block Dir)) (b : Block Dir) (answer : Fed) → IsUnderWay bounds tip path → Answers check round bounds tip path b answer → IsUnderWay bounds tip (b ∷ path) → answer ≡ Need
+  pub need_alone : (check : Check) (round : Round) (path : List (Block Dir)) (b : Block Dir) (answer : Fed) → IsUnderWay bounds tip path → SaysOfBlock check round bounds tip path b answer → IsUnderWay bounds tip (b ∷ path) → answer ≡ Need
   need_alone check round path b Need under said way = refl
   need_alone check round path b (Logs logs) under said way = elim way.higher.0 [
     | inl higher ↦ let low = said.0.low in absurd (omega arith)
@@ -284,7 +284,7 @@ module _ {Dir : Type 0} (bounds : Bounds) (tip : Option Tip) (some : 0 < bounds.
   need_alone check round path b (Unavailable Finished) under said way = absurd said
   need_alone check round path b (Unavailable Held) under said way = absurd said
 
-  pub logs_alone : (check : Check) (round : Round) (path : List (Block Dir)) (b : Block Dir) (answer : Fed) → IsUnderWay bounds tip path → Answers check round bounds tip path b answer → Completes bounds tip path b → IsLogs answer
+  pub logs_alone : (check : Check) (round : Round) (path : List (Block Dir)) (b : Block Dir) (answer : Fed) → IsUnderWay bounds tip path → SaysOfBlock check round bounds tip path b answer → CompletesPath bounds tip path b → IsLogs answer
   logs_alone check round path b Need under said done = elim said.higher.0 [
     | inl higher ↦ let low = done.low in absurd (omega arith)
     | inr final ↦ let below = done.below_final in absurd (omega arith)

@@ -59,7 +59,7 @@ IsOnTip middle tip b = IfSome (tip_below middle tip) (λ digest. digest ≡ link
 -- WHERE A SCAN STANDS, AND WHAT IT ANSWERS
 
 -- A scan of a round above a tip that has read a path, and answered its lowest block by Need.
-pub record Stands {Dir : Type 0} (check : Check) (round : Round) (bounds : Bounds) (tip : Option Tip) (path : List (Block Dir)) (s : Scan) : Type 0 where
+pub record StandsAtPath {Dir : Type 0} (check : Check) (round : Round) (bounds : Bounds) (tip : Option Tip) (path : List (Block Dir)) (s : Scan) : Type 0 where
   pub under_way : IsUnderWay bounds tip path
   pub some : 0 < bounds.last
   pub its_round : s.round ≡ round
@@ -87,7 +87,7 @@ Refuses bounds tip path b Finished = ⊥
 Refuses bounds tip path b Held = ⊥
 
 -- A block that completes an ancestry, at or below the last needed height.
-pub record Completes {Dir : Type 0} (bounds : Bounds) (tip : Option Tip) (path : List (Block Dir)) (b : Block Dir) : Type 0 where
+pub record CompletesPath {Dir : Type 0} (bounds : Bounds) (tip : Option Tip) (path : List (Block Dir)) (b : Block Dir) : Type 0 where
   pub linked : IsLinked (b ∷ path)
   pub begins : BeginsBelow bounds.last (b ∷ path)
   pub below_final : b.height < bounds.last
@@ -95,22 +95,22 @@ pub record Completes {Dir : Type 0} (bounds : Bounds) (tip : Option Tip) (path :
   pub on_tip : IsOnTip bounds.midpoint tip b
 
 -- What an answer to a block says of it and of the path that was read above it.
-abbrev pub Answers : {Dir : Type 0} → Check → Round → Bounds → Option Tip → (path : List (Block Dir)) → Block Dir → Fed → Type 0
-Answers check round bounds tip path b Need = IsUnderWay bounds tip (b ∷ path)
-Answers check round bounds tip path b (Logs logs) =
-    Completes bounds tip path b × (logs ≡ logs_of_path check bounds.midpoint bounds.last round (above tip (b ∷ path)))
-Answers check round bounds tip path b (Unavailable why) = Refuses bounds tip path b why
+abbrev pub SaysOfBlock : {Dir : Type 0} → Check → Round → Bounds → Option Tip → (path : List (Block Dir)) → Block Dir → Fed → Type 0
+SaysOfBlock check round bounds tip path b Need = IsUnderWay bounds tip (b ∷ path)
+SaysOfBlock check round bounds tip path b (Logs logs) =
+    CompletesPath bounds tip path b × (logs ≡ logs_of_path check bounds.midpoint bounds.last round (above tip (b ∷ path)))
+SaysOfBlock check round bounds tip path b (Unavailable why) = Refuses bounds tip path b why
 
 -- A scan that stands at a path answers a block by what is so of both, and goes on from there where it needs more.
 pub record Says {Dir : Type 0} (check : Check) (round : Round) (bounds : Bounds) (tip : Option Tip) (path : List (Block Dir)) (b : Block Dir)
     (answer : Fed) (after : Scan) : Type 0 where
-  pub answers : Answers check round bounds tip path b answer
-  pub goes_on : answer ≡ Need → Stands check round bounds tip (b ∷ path) after
+  pub answers : SaysOfBlock check round bounds tip path b answer
+  pub goes_on : answer ≡ Need → StandsAtPath check round bounds tip (b ∷ path) after
 
 -- It does so of each path at which it stands.
 abbrev pub SaysOfPath : {Dir : Type 0} → Check → (before : Scan) → Block Dir → (answer : Fed) → (after : Scan) → Type 0
 SaysOfPath {Dir} check before b answer after = (round : Round) (bounds : Bounds) (tip : Option Tip) (path : List (Block Dir))
-    → Stands check round bounds tip path before → Says check round bounds tip path b answer after
+    → StandsAtPath check round bounds tip path before → Says check round bounds tip path b answer after
 
 -- EACH ANSWER EXCLUDES THE OTHERS
 
@@ -122,6 +122,6 @@ IsLogs (Unavailable why) = ⊥
 -- A block that leads on is answered by Need alone, and one that completes an ancestry by logs alone.
 pub record AreApart (Dir : Type 0) (check : Check) : Type 0 where
   pub need : (round : Round) (bounds : Bounds) (tip : Option Tip) (path : List (Block Dir)) (b : Block Dir) (answer : Fed) → 0 < bounds.last
-      → IsUnderWay bounds tip path → Answers check round bounds tip path b answer → IsUnderWay bounds tip (b ∷ path) → answer ≡ Need
+      → IsUnderWay bounds tip path → SaysOfBlock check round bounds tip path b answer → IsUnderWay bounds tip (b ∷ path) → answer ≡ Need
   pub logs : (round : Round) (bounds : Bounds) (tip : Option Tip) (path : List (Block Dir)) (b : Block Dir) (answer : Fed) → 0 < bounds.last
-      → IsUnderWay bounds tip path → Answers check round bounds tip path b answer → Completes bounds tip path b → IsLogs answer
+      → IsUnderWay bounds tip path → SaysOfBlock check round bounds tip path b answer → CompletesPath bounds tip path b → IsLogs answer

@@ -53,5 +53,5 @@ checked outcome_of finish_of round player logs = record {
 }
 
 -- A result is a job's: of its round and its logs, and for its player.
-abbrev pub IsAnswered : Job → Checked → Type 0
-IsAnswered job c = (c.round ≡ job.round) × (c.me ≡ option_map (λ p. p.me) job.player) × (c.logs ≡ job.logs)
+abbrev pub IsResultOfJob : Job → Checked → Type 0
+IsResultOfJob job c = (c.round ≡ job.round) × (c.me ≡ option_map (λ p. p.me) job.player) × (c.logs ≡ job.logs)

@@ -5,7 +5,7 @@ ghost use Rattle.std.specs.Option.{option_copied};
 ghost use Rattle.dkg_values.specs.Rising.{lookup};
 ghost use Rattle.dkg_ceremony.specs.Finishes.{has_public};
 ghost use Rattle.dkg_artifact.specs.Lacking.{lacks};
-ghost use Rattle.dkg_artifact.specs.Results.{IsAnswered};
+ghost use Rattle.dkg_artifact.specs.Results.{IsResultOfJob};
 
 use crate::verified::{VerifiedLogs, player_of};
 use dkg_ceremony::{Ceremony, DealerLog, Private, Public, Round, finishes_agree};
@@ -30,7 +30,7 @@ pub struct Job {
 impl Job {
     /// Whether a result is this job's: of its round and its logs, and for its player. A result may come when another job runs.
     pub fn is_answered_by<C: Ceremony>(&self, verified: &VerifiedLogs<C>) -> bool
-        ensures { IsTrue result ↔ IsAnswered self.now verified.now }
+        ensures { IsTrue result ↔ IsResultOfJob self.now verified.now }
     {
         player_of(&self.player) == verified.me
             && self.round.same(&verified.round)

@@ -46,7 +46,7 @@ fn pairs_of(
 
 /// Fewer than 2^32 pairs as a map, whose keys rise.
 fn in_order(pairs: Vec<(Key, DealerLog)>) -> Map<DealerLog>
-    requires few { vec_len pairs < 2 ^ 32 }
+    requires in_bound { vec_len pairs < 2 ^ 32 }
     requires rising { IsStrictlyIncreasing (keys_of pairs.items) }
     ensures { result ≡ pairs.items }
 {
@@ -104,7 +104,7 @@ impl Lowest {
         ensures empty { IfOk result (λ pairs. pairs.items ≡ []) }
         ensures none { IfOk result (λ pairs. vec_len pairs ≡ 0) }
         ensures enough { IfOk result (λ pairs. length self.now + 1 ≤ vec_capacity pairs) }
-        ensures few { IfOk result (λ pairs. length self.now + 1 < 2 ^ 32) }
+        ensures in_bound { IfOk result (λ pairs. length self.now + 1 < 2 ^ 32) }
     {
         let count = self.logs.len();
         if count >= u32::MAX as usize {

@@ -4,7 +4,7 @@
 ghost use Rattle.std.specs.Prelude.{◌≡◌, ◌↔◌, ◌+◌, ◌<◌, ◌^◌, [], IfOk, OnOk, OnErr, IfSome, IsTrue, option_and_then};
 ghost use Rattle.std.specs.Option.{option_copied};
 ghost use Rattle.dkg_types.specs.PayloadCodes.{its_log};
-ghost use Rattle.dkg_artifact.specs.Ancestries.{SaysOfPath, Stands};
+ghost use Rattle.dkg_artifact.specs.Ancestries.{SaysOfPath, StandsAtPath};
 ghost use Rattle.dkg_artifact.specs.Scans.{IsAwaiting, added, closes, counted, feeds, first_answer, first_next, is_other, link_of, lowest, passes, stand_of, starts, tip_below, with_lower};
 
 use crate::lowest::Lowest;
@@ -193,7 +193,7 @@ impl Scan {
         ensures scan { IfOk result (λ r. r.0 ≡ starts round.now bounds tip) }
         ensures answer { IfOk result (λ r. r.1 ≡ first_answer bounds.last) }
         ensures awaits { IfOk result (λ r. r.1 ≡ Fed.Need → IsAwaiting r.0) }
-        ensures begins { 0 < bounds.last → IfOk result (λ r. Stands {Dir = Dir} C.check_log_of round.now bounds tip [] r.0) }
+        ensures begins { 0 < bounds.last → IfOk result (λ r. StandsAtPath {Dir = Dir} C.check_log_of round.now bounds tip [] r.0) }
     {
         let down_to = lowest_height(bounds.midpoint, tip);
         let scan = Scan {

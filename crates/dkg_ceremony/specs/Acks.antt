@@ -19,10 +19,10 @@ abbrev pub ack_of : (me : ℕ) → Round → (dealer : ℕ) → List ℕ → Lis
 ack_of me round dealer public = mark_of me domains.Ack (ack_content round dealer public)
 
 -- What a check answered is its answer, unless memory ran out.
-abbrev pub Checks : Result (Unit {0}) AckError → Result (Unit {0}) AckError → Type 0
-Checks answer (Ok u) = answer ≡ Ok tt
-Checks answer (Err NoMemory) = Unit {0}
-Checks answer (Err e) = answer ≡ Err e
+abbrev pub AnswersAckCheck : Result (Unit {0}) AckError → Result (Unit {0}) AckError → Type 0
+AnswersAckCheck answer (Ok u) = answer ≡ Ok tt
+AnswersAckCheck answer (Err NoMemory) = Unit {0}
+AnswersAckCheck answer (Err e) = answer ≡ Err e
 
 -- what the check of an acknowledgement answers
 unfoldable pub check_ack_of : Round → (dealer : ℕ) → List ℕ → (player : ℕ) → List ℕ → Result (Unit {0}) AckError

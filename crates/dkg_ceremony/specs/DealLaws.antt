@@ -42,7 +42,7 @@ halves_more poly players i player value lt is at =
 -- Where all players were gone through, their keys rise.
 pub record AreHalves (poly players : List ℕ) (pairs : List (ℕ × ℕ)) : Type 0 where
   pub all : pairs ≡ halves_from poly 0 players
-  pub few : length pairs < 2 ^ 32
+  pub in_bound : length pairs < 2 ^ 32
   pub rising : IsStrictlyIncreasing (keys_of pairs)
 
 pub are_halves : (poly players : List ℕ) (pairs : List (ℕ × ℕ)) (i : ℕ) → IsSet players → length players ≤ i → pairs ≡ halves_from poly 0 (take i players) → AreHalves poly players pairs
@@ -50,7 +50,7 @@ are_halves poly players pairs i kept le is =
     let whole : pairs ≡ halves_from poly 0 players = is ∙ ap (halves_from poly 0) (take_all i players le) in
     record {
       all = whole;
-      few = omega (arith, ap length whole, length_halves poly 0 players, kept.few);
+      in_bound = omega (arith, ap length whole, length_halves poly 0 players, kept.in_bound);
       rising = subst (λ (ps : List (ℕ × ℕ)). IsStrictlyIncreasing (keys_of ps)) (sym whole) (subst IsStrictlyIncreasing (sym (keys_of_halves poly 0 players)) kept.rising);
     }
 

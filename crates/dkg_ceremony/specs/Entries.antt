@@ -6,11 +6,11 @@ use Rattle.dkg_ceremony.specs.declared.log_entry.LogEntry.{LogEntry}
 use Rattle.dkg_ceremony.specs.LogEntries.{EntryFits, EntriesFit}
 
 pub record AreEntries (entries : List LogEntry) : Type 0 where
-  pub few : length entries < 2 ^ 32
+  pub in_bound : length entries < 2 ^ 32
   pub each : AllByRecursion EntryFits entries
 
 pub entries_fit : (most : ℕ) (entries : List LogEntry) → AreEntries entries → length entries ≤ most → EntriesFit most entries
-entries_fit most entries kept le = record { few = le; small = kept.few; each = kept.each }
+entries_fit most entries kept le = record { in_bound = le; small = kept.in_bound; each = kept.each }
 
 fit_step : (entries : List LogEntry) (i : ℕ) (d : LogEntry) → i < length entries → AllByRecursion EntryFits (take i entries) → EntryFits (get_or entries i d) → AllByRecursion EntryFits (take (suc i) entries)
 fit_step [] i d lt all one = absurd (omega arith)

@@ -93,10 +93,10 @@ unfoldable pub finish_of : Round → (me : ℕ) → DealingMap → LogMap → Re
 finish_of round me dealings logs = finish_from round me dealings logs (selected_of round logs)
 
 -- What a call answered is the answer, unless memory ran out.
-abbrev pub Finishes : Result (Option (Output × ℕ)) FinishError → Result (Option (Output × ℕ)) FinishError → Type 0
-Finishes answer (Ok found) = answer ≡ Ok found
-Finishes answer (Err NoMemory) = Unit {0}
-Finishes answer (Err e) = answer ≡ Err e
+abbrev pub AnswersFinish : Result (Option (Output × ℕ)) FinishError → Result (Option (Output × ℕ)) FinishError → Type 0
+AnswersFinish answer (Ok found) = answer ≡ Ok found
+AnswersFinish answer (Err NoMemory) = Unit {0}
+AnswersFinish answer (Err e) = answer ≡ Err e
 
 -- which dealing is missing, where that is what is answered
 abbrev pub Lacks : Option ℕ → FinishError → Type 0

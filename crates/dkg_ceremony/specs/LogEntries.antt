@@ -88,7 +88,7 @@ abbrev pub entries_at : ℕ → List ℕ → Reading (List LogEntry)
 entries_at most bytes = count_at 0 most bytes >>= λ n. many_at entry_at n.0 n.1
 
 pub record EntriesFit (most : ℕ) (entries : List LogEntry) : Type 0 where
-  pub few : length entries ≤ most
+  pub in_bound : length entries ≤ most
   pub small : length entries < 2 ^ 32
   pub each : AllByRecursion EntryFits entries
 
@@ -98,12 +98,12 @@ entries_grammar most = record {
       let b = bind_ok (count_at 0 most bytes) (λ n. many_at entry_at n.0 n.1) (xs, rest) e in
       let c = count_found 0 most bytes b.0.0 b.0.1 are b.1 in
       let k = many_found EntryFits entry_spelling entry_at entry_grammar b.0.0 b.0.1 xs rest c.left b.2 in (
-        record { few = omega (arith, k.count, c.below); small = omega (arith, k.count, c.small); each = k.fit },
+        record { in_bound = omega (arith, k.count, c.below); small = omega (arith, k.count, c.small); each = k.fit },
         c.parts ∙ ap (λ (x : List ℕ). uint b.0.0 ++ x) k.parts ∙ sym (append_assoc (uint b.0.0) (flat_map entry_spelling xs) rest) ∙ ap (λ (n : ℕ). (uint n ++ flat_map entry_spelling xs) ++ rest) (sym k.count),
       );
   again = λ xs rest fits.
       ap (entries_at most) (append_assoc (uint (length xs)) (flat_map entry_spelling xs) rest)
-      ∙ rw (count_again 0 most (length xs) (flat_map entry_spelling xs ++ rest) (omega arith) fits.few fits.small, many_again EntryFits entry_spelling entry_at entry_grammar xs rest fits.each) refl;
+      ∙ rw (count_again 0 most (length xs) (flat_map entry_spelling xs ++ rest) (omega arith) fits.in_bound fits.small, many_again EntryFits entry_spelling entry_at entry_grammar xs rest fits.each) refl;
 }
 
 -- ---- how long they are

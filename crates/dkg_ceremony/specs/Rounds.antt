@@ -42,7 +42,7 @@ round_of namespace number previous mode reveal dealers players =
     else Ok (record { namespace = namespace; number = number; previous = previous; mode = mode; reveal = reveal; dealers = dealers; players = players })
 
 -- What a call answered is the answer, unless memory ran out.
-abbrev pub Draws : Result Round RoundError → Result Round RoundError → Type 0
-Draws answer (Ok round) = answer ≡ Ok round
-Draws answer (Err NoMemory) = Unit {0}
-Draws answer (Err e) = answer ≡ Err e
+abbrev pub AnswersRound : Result Round RoundError → Result Round RoundError → Type 0
+AnswersRound answer (Ok round) = answer ≡ Ok round
+AnswersRound answer (Err NoMemory) = Unit {0}
+AnswersRound answer (Err e) = answer ≡ Err e

@@ -87,11 +87,11 @@ pub trait Ceremony {
     ghost use Rattle.dkg_ceremony.specs.declared.finish.FinishError.{FinishError};
     ghost use Rattle.dkg_ceremony.specs.declared.dealer_log.DealerLog.{DealerLog};
     ghost use Rattle.dkg_ceremony.specs.declared.signed_log.SignedDealerLog.{SignedDealerLog};
-    ghost use Rattle.dkg_ceremony.specs.Rounds.{Draws};
+    ghost use Rattle.dkg_ceremony.specs.Rounds.{AnswersRound};
     ghost use Rattle.dkg_ceremony.specs.Deals.{Deals};
-    ghost use Rattle.dkg_ceremony.specs.Acks.{Checks};
+    ghost use Rattle.dkg_ceremony.specs.Acks.{AnswersAckCheck};
     ghost use Rattle.dkg_ceremony.specs.ValidLogs.{has_entry};
-    ghost use Rattle.dkg_ceremony.specs.Finishes.{Finishes, IsMissing};
+    ghost use Rattle.dkg_ceremony.specs.Finishes.{AnswersFinish, IsMissing};
 
     type Signer: Signer;
 
@@ -149,7 +149,7 @@ pub trait Ceremony {
         dealers: &Set,
         players: &Set,
     ) -> Result<Round, RoundError>
-        ensures { Draws (round_of namespace.now number (option_copied previous.entry) mode reveal dealers.now players.now) result };
+        ensures { AnswersRound (round_of namespace.now number (option_copied previous.entry) mode reveal dealers.now players.now) result };
 
     /// Deals to the players of a round. A key that is dealt again takes the dealer's share of it.
     ///
@@ -199,7 +199,7 @@ pub trait Ceremony {
         player: Key,
         ack: &Ack,
     ) -> Result<(), AckError>
-        ensures { Checks (check_ack_of round.now dealer public.now player ack.now) result };
+        ensures { AnswersAckCheck (check_ack_of round.now dealer public.now player ack.now) result };
 
     /// Makes the log of a dealing: for each player the acknowledgement that came in, or else its private half, which
     /// is then revealed.
@@ -249,7 +249,7 @@ pub trait Ceremony {
     ) -> Result<Option<(Output, Share)>, FinishError>
         requires player { Contains round.now.players me }
         requires checked { (dealer : ℕ) → IfSome (lookup dealer dealings.now) (λ d. dealing_of round.now me dealer d.0 d.1 ≡ Ok tt) }
-        ensures { Finishes (finish_of round.now me dealings.now logs.now) result };
+        ensures { AnswersFinish (finish_of round.now me dealings.now logs.now) result };
 
     /// The public element of a share.
     fn share_public(&self, share: &Share) -> Element

@@ -110,7 +110,7 @@ fn revealed_players(
     selected: &[Key],
 ) -> Mem<Vec<Key>>
     ensures exact { IfOk result (λ keys. keys.items ≡ revealed_from logs.now selected.now 0 players.now) }
-    ensures few { IfOk result (λ keys. vec_len keys < 2 ^ 32) }
+    ensures in_bound { IfOk result (λ keys. vec_len keys < 2 ^ 32) }
 {
     let mut revealed = Vec::new(alloc);
     let keys = players.as_slice();

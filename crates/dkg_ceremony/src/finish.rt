@@ -5,7 +5,7 @@
 ghost use Rattle.std.specs.Prelude.{◌≡◌, length, Some, None, Contains, IfOk, IfErr};
 ghost use Rattle.std.specs.List.{zip};
 ghost use Rattle.std.specs.Str.{bytes_eq};
-ghost use Rattle.dkg_ceremony.specs.Finishes.{Finishes, Lacks, finish_of, first_missing, first_that, known_privates, lacks_dealing, private_in, weighted_total};
+ghost use Rattle.dkg_ceremony.specs.Finishes.{AnswersFinish, Lacks, finish_of, first_missing, first_that, known_privates, lacks_dealing, private_in, weighted_total};
 ghost use Rattle.dkg_ceremony.specs.Outcomes.{selected_of};
 ghost use Rattle.dkg_ceremony.specs.declared.finish.FinishError.TheVariants.{NoMemory as NoMemoryLeft};
 
@@ -154,7 +154,7 @@ pub(crate) fn finish(
     logs: &Map<DealerLog>,
 ) -> Result<Option<(Output, Share)>, FinishError>
     requires { Contains round.now.players me }
-    ensures { Finishes (finish_of round.now me dealings.now logs.now) result }
+    ensures { AnswersFinish (finish_of round.now me dealings.now logs.now) result }
 {
     let Some(selected) = select(alloc, round, logs)? else {
         return Ok(None);

@@ -41,7 +41,7 @@ impl Public {
     /// The polynomial of these coefficients.
     pub fn new(elements: Vec<Element>) -> Public
         requires some { 1 ≤ vec_len elements }
-        requires few { vec_len elements < 2 ^ 32 }
+        requires in_bound { vec_len elements < 2 ^ 32 }
         ensures { result ≡ elements.items }
     {
         known(&elements);

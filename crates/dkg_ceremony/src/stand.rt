@@ -5,7 +5,7 @@ ghost use Rattle.std.specs.Prelude.{◌≡◌, ◌++◌, IfOk};
 ghost use Rattle.std.specs.Int.{w32, to_be_bytes};
 ghost use Rattle.std.specs.Option.{option_copied};
 ghost use Rattle.dkg_values.specs.Lists.{public_spelling};
-ghost use Rattle.dkg_ceremony.specs.Rounds.{Draws, has_too_many, are_previous};
+ghost use Rattle.dkg_ceremony.specs.Rounds.{AnswersRound, has_too_many, are_previous};
 
 use crate::ceremony::{AckError, Ceremony, DealingError};
 use crate::combine::observe;

@@ -22,7 +22,7 @@ use Rattle.dkg_core.specs.Including.{Fed, Need, Found, Lacks, can_finish, job_fo
 use Rattle.dkg_core.specs.Laws.{IsAmong}
 use Rattle.dkg_core.specs.Endings.{validity}
 use Rattle.dkg_core.specs.Forms.{IsForm, ComesOver, round_for}
-use Rattle.dkg_core.specs.Asked.{OfShares, Reads, IsArtifactIn, IsResultIn, IsJobIn, InRound, InEpoch, FirstNeeds, HasAsked, IsInformed, IsAskStop, IsMadeIn, IsStarted, IsReadOn, AdvancesLead}
+use Rattle.dkg_core.specs.Asked.{OfShares, ReadsShare, IsArtifactIn, IsResultIn, IsJobIn, InRound, InEpoch, FirstNeeds, HasAsked, IsInformed, IsAskStop, IsMadeIn, IsStarted, IsReadOn, AdvancesLead}
 use Rattle.dkg_core.proofs.Artifacts.{artifacts_lead}
 use Rattle.dkg_core.proofs.Counting.{some_is}
 use Rattle.dkg_core.proofs.Setups.{over_if, over_as, over_behind}
@@ -142,7 +142,7 @@ module _ {Dir : Type 0} (c : Fixed Dir) (stored : OfShares) (st : Live Dir) wher
   requeued i queue used told has none = record { served = has.served; none = none; early = has.early; waits = has.waits; runs = has.runs; kept = has.kept; made = has.made }
 
 module _ {Dir : Type 0} (c : Fixed Dir) (stored : OfShares) (st : Live Dir) (devices : Option Held) (form : IsForm c)
-    (reads : (r : VerifiedLogs) → st.inclusion.retained ≡ Some r → Reads c stored devices) (informed : IsInformed c st) where
+    (reads : (r : VerifiedLogs) → st.inclusion.retained ≡ Some r → ReadsShare c stored devices) (informed : IsInformed c st) where
   abbrev Stop : Fault → Type 0
   Stop = IsAskStop c st
 

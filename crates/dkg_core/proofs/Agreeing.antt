@@ -23,7 +23,7 @@ use Rattle.dkg_ceremony.specs.declared.signed_log.SignedDealerLog.{SignedDealerL
 use Rattle.dkg_ceremony.specs.Outcomes.{LogMap}
 use Rattle.dkg_ceremony.specs.Schedule.{boundary, midpoint, last}
 use Rattle.dkg_journal.specs.Operations.{Bars, Opens, Appends, Prunes, PutsPlan, ClearsPlan}
-use Rattle.dkg_journal.specs.Records.{Entry, from_section}
+use Rattle.dkg_journal.specs.Records.{SectionEntry, from_section}
 use Rattle.dkg_types.specs.Blocks.{Block}
 use Rattle.dkg_types.specs.BlockCodes.{info_of}
 use Rattle.dkg_types.specs.declared.entry.Entry.TheVariants as lines
@@ -48,7 +48,7 @@ use Rattle.dkg_store.specs.declared.event.Event.TheVariants as events
 use Rattle.dkg_secrets.specs.declared.secrets.SecretOp.TheVariants.{PutShare, PutSeed, PutDealing, Prune}
 use Rattle.dkg_secrets.specs.Keys.{key_cmp}
 use Rattle.dkg_store.specs.Noted.{Notes, noted_ack, noted_log, acks_in, logs_in}
-use Rattle.dkg_store.specs.Pairs.{Dealing, IsWhole, HasHalf, recovered, dealing_of, dealing_in}
+use Rattle.dkg_store.specs.Pairs.{Dealing, IsWhole, HasHalf, recovered, recorded_dealing, dealing_in_event}
 use Rattle.dkg_secrets.specs.Secrets.{Secrets}
 use Rattle.dkg_secrets.specs.Secrets as of_secrets
 use Rattle.dkg_store.proofs.Halves.{recovered_at, prune_halves}
@@ -69,7 +69,7 @@ use Rattle.dkg_core.specs.Including as i
 use Rattle.dkg_core.specs.Blocks as b
 use Rattle.dkg_core.specs.Plans as p
 use Rattle.dkg_core.specs.OneShots as o
-use Rattle.dkg_core.specs.Core.{opening, step, opens_in, begun}
+use Rattle.dkg_core.specs.Core.{opening, step, opens_in, begun_life}
 use Rattle.dkg_core.specs.Heard.{recovered_in, Fits}
 use Rattle.dkg_core.specs.Agreeing.{AreAgreed, CanRecord, BringsRecords, StepsAgree, SetupsAgree, OpeningsAgree}
 use Rattle.dkg_core.proofs.Keeping.{fold_silent, silent_whole}
@@ -117,9 +117,9 @@ has_half : (s t : Secrets) (found : Option Dealing) → t.privates ≡ s.private
 has_half s t None same has = tt
 has_half s t (Some d) same has = subst (λ (m : FinMap key_cmp ℕ). IsSome (get m d.key)) (sym same) has
 
-pub all_whole : (s t : Secrets) (es : List Entry) → t.privates ≡ s.privates → IsWhole es s → IsWhole es t
+pub all_whole : (s t : Secrets) (es : List SectionEntry) → t.privates ≡ s.privates → IsWhole es s → IsWhole es t
 all_whole s t [] same whole = tt
-all_whole s t (e ∷ es) same whole = (has_half s t (dealing_of e) same whole.0, all_whole s t es same whole.1)
+all_whole s t (e ∷ es) same whole = (has_half s t (recorded_dealing e) same whole.0, all_whole s t es same whole.1)
 
 -- a change of the secrets that leaves the private halves
 same_halves : (r : Records) (h : Held) (t : Secrets) → t.privates ≡ h.secrets.privates → AreAgreed r h → AreAgreed r (record { journaled = h.journaled; secrets = t })
@@ -159,7 +159,7 @@ cond_same true x y same = same refl
 cond_same false x y same = refl
 
 module _ (min : ℕ) (s t : Secrets) (halves : (k : ℕ × ℕ) → min ≤ k.0 → get t.privates k ≡ get s.privates k) where
-  recovered_kept : (es : List Entry) → recovered (from_section min es) t ≡ retain_keys (recovered es s) (kept min)
+  recovered_kept : (es : List SectionEntry) → recovered (from_section min es) t ≡ retain_keys (recovered es s) (kept min)
   recovered_kept es =
       recovered_from min es t
       ∙ same_map keys_total exact_keys (retain_keys (recovered es t) (kept min)) (retain_keys (recovered es s) (kept min)) (λ k.
@@ -171,7 +171,7 @@ module _ (min : ℕ) (s t : Secrets) (halves : (k : ℕ × ℕ) → min ≤ k.0 
   IsUnder section None = Unit {0}
   IsUnder section (Some d) = d.key.0 ≡ section
 
-  under : (epoch : ℕ) (read : Result Event CodecError) → IsUnder epoch (dealing_in epoch read)
+  under : (epoch : ℕ) (read : Result Event CodecError) → IsUnder epoch (dealing_in_event epoch read)
   under epoch (Ok (events.Dealing dealer public)) = refl
   under epoch (Ok (events.Ack player ack)) = tt
   under epoch (Ok (events.Log dealer log)) = tt
@@ -182,11 +182,11 @@ module _ (min : ℕ) (s t : Secrets) (halves : (k : ℕ × ℕ) → min ≤ k.0 
   half_above section None is above has = tt
   half_above section (Some d) is above has = subst IsSome (sym (halves d.key (subst (λ (n : ℕ). min ≤ n) (sym is) above))) has
 
-  pub whole_kept : (es : List Entry) → IsWhole es s → IsWhole (from_section min es) t
+  pub whole_kept : (es : List SectionEntry) → IsWhole es s → IsWhole (from_section min es) t
   whole_kept [] all = tt
   whole_kept (e ∷ es) all =
       elim (nat_le min e.0) as (λ (stays : Bool). nat_le min e.0 ≡ stays → IsWhole (cond stays (e ∷ from_section min es) (from_section min es)) t) [
-        | true ↦ λ is. (half_above e.0 (dealing_of e) (under e.0 _) (at_least min e.0 is) all.0, whole_kept es all.1)
+        | true ↦ λ is. (half_above e.0 (recorded_dealing e) (under e.0 _) (at_least min e.0 is) all.0, whole_kept es all.1)
         | false ↦ λ is. whole_kept es all.1
       ] refl
 
@@ -219,8 +219,8 @@ module _ (epoch : ℕ) (h : Held) where
   ack_more : (r : Records) (player : ℕ) (ack : List ℕ) → IsEvent (events.Ack player ack) → recorded_at r.acks epoch player ≡ None → AreAgreed r h
       → AreAgreed (record r { acks = put key_cmp (epoch, player) ack r.acks }) (after (OnDisk (Appends (epoch, event_spelling (events.Ack player ack)))) h)
   ack_more r player ack is none a =
-      let e : Entry = (epoch, event_spelling (events.Ack player ack)) in
-      let silent : dealing_of e ≡ None = says_dealing epoch (events.Ack player ack) is in
+      let e : SectionEntry = (epoch, event_spelling (events.Ack player ack)) in
+      let silent : recorded_dealing e ≡ None = says_dealing epoch (events.Ack player ack) is in
       record {
         whole = silent_whole h.secrets e silent (notes h) a.whole;
         dealings = a.dealings ∙ ap maps.entries (sym (fold_silent h.secrets e silent (notes h) empty));
@@ -233,8 +233,8 @@ module _ (epoch : ℕ) (h : Held) where
   log_more : (r : Records) (log : SignedDealerLog) (height : ℕ) → IsEvent (events.LogAt log.dealer height log.log) → recorded_at r.logs epoch log.dealer ≡ None → AreAgreed r h
       → AreAgreed (record r { logs = put key_cmp (epoch, log.dealer) (recorded_log height log.log) r.logs }) (after (OnDisk (Appends (epoch, event_spelling (log_event log.dealer height log.log)))) h)
   log_more r log height is none a =
-      let e : Entry = (epoch, event_spelling (log_event log.dealer height log.log)) in
-      let silent : dealing_of e ≡ None = says_dealing epoch (log_event log.dealer height log.log) is in
+      let e : SectionEntry = (epoch, event_spelling (log_event log.dealer height log.log)) in
+      let silent : recorded_dealing e ≡ None = says_dealing epoch (log_event log.dealer height log.log) is in
       record {
         whole = silent_whole h.secrets e silent (notes h) a.whole;
         dealings = a.dealings ∙ ap maps.entries (sym (fold_silent h.secrets e silent (notes h) empty));
@@ -249,7 +249,7 @@ module _ (epoch : ℕ) (h : Held) where
       → AreAgreed (record r { dealings = put key_cmp (epoch, dealer) (public, private) r.dealings })
       (after (OnDisk (Appends (epoch, event_spelling (events.Dealing dealer public)))) (after (Changes (PutDealing epoch dealer private)) h))
   dealing_more r dealer public private is none a =
-      let e : Entry = (epoch, event_spelling (events.Dealing dealer public)) in
+      let e : SectionEntry = (epoch, event_spelling (events.Dealing dealer public)) in
       let fresh : get (recovered_in h) (epoch, dealer) ≡ None = unnoted (recovered_in h) r.dealings (epoch, dealer) a.dealings none in
       let more = record_one epoch dealer private public is (recovered_in h) fresh h.secrets (notes h) a.whole refl in
       record {
@@ -765,4 +765,4 @@ pub openings_agree : {Dir : Type 0} → OpeningsAgree Dir
 openings_agree c end w new reads whole done =
     let opened : Held = after (OnDisk (Opens c.opening_calls)) (after (OnDisk Bars) w.held) in
     lands_at (opening c) w new end
-    (opens c c.oneshot (begun (c.seen opened)) opened (record { whole = whole; dealings = reads.dealings opened; acks = reads.acks opened; logs = reads.logs opened })) done
+    (opens c c.oneshot (begun_life (c.seen opened)) opened (record { whole = whole; dealings = reads.dealings opened; acks = reads.acks opened; logs = reads.logs opened })) done

@@ -169,7 +169,7 @@ module _ {Dir : Type 0} (c : Fixed Dir) (stored : OfShares) (round : Round) (inf
       (λ none. courses.stopped (InvalidParticipants ProviderEmpty) (none_of count none))
       (λ there. courses.if_so (nat_lt c.limit count) (Stops (InvalidParticipants (ProviderAbove count c.limit))) acts
       (λ many. courses.stopped (InvalidParticipants (ProviderAbove count c.limit)) (refl, refl, below c.limit count many))
-      (λ enough. by_result (record { in_range = not_at_most (2 ^ 64) (info.epoch + 2) within; some = some_of count there; few = not_below c.limit count enough }) r.result refl)))
+      (λ enough. by_result (record { in_range = not_at_most (2 ^ 64) (info.epoch + 2) within; some = some_of count there; in_bound = not_below c.limit count enough }) r.result refl)))
 
   by_cached : (cached : Option (Artifact Dir)) → cached_for st.inclusion.cached r.logs ≡ cached → C (i.artifact_by c r cached st next)
   by_cached (Some made) is = so made st (record { artifact = cached_is c stored round info st asked of_epoch of_info r.logs made is; same = refl; is = is; all = all c stored round info st asked of_epoch of_info })

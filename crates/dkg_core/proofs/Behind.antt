@@ -125,7 +125,7 @@ module _ {Dir : Type 0} (c : Fixed Dir) where
       by_waiting None = refl
       by_waiting (Some w) = only_behind IsAside (IsHalfOf st) (IsSameBeside st) (half.enters c w st) (half.acked_late w.block) (enters_aside st w) (late w.block)
 
-  delivered_aside : (b : Block Dir) (st : Live Dir) → Aside st (half.delivered c b st)
+  delivered_aside : (b : Block Dir) (st : Live Dir) → Aside st (half.takes_delivered c b st)
   delivered_aside b st =
       only_behind IsAside (IsSameBeside st) (IsHalfOf st) (half.asks_again c st) (λ st. half.delivered_in c b st (half.active st.orchestrator)) (asks_aside st)
       (λ mid same. only_as mid same (half.delivered_in c b mid (half.active mid.orchestrator)) (judged mid (half.active mid.orchestrator)))
@@ -156,10 +156,10 @@ module _ {Dir : Type 0} (c : Fixed Dir) where
   heard_aside st = only_if IsAside (IsSameBeside st) (is_some c.oneshot) (Goes st) (half.asks_again c st) refl (asks_aside st)
 
   pub block_aside : (b : Block Dir) (st : Live Dir)
-      → OnlySays IsAside (IsSameBeside st) (unless_once c (bind (half.delivered c b st) (λ left. half.acked_at b.height left.answer left.live)) (Say (Acked b.height) (Goes st)))
+      → OnlySays IsAside (IsSameBeside st) (unless_once c (bind (half.takes_delivered c b st) (λ left. half.acked_at b.height left.answer left.live)) (Say (Acked b.height) (Goes st)))
   block_aside b st =
-      only_if IsAside (IsSameBeside st) (is_some c.oneshot) (Say (Acked b.height) (Goes st)) (bind (half.delivered c b st) (λ left. half.acked_at b.height left.answer left.live)) (tt, refl)
-      (only_behind IsAside (IsHalfOf st) (IsSameBeside st) (half.delivered c b st) (λ left. half.acked_at b.height left.answer left.live) (delivered_aside b st)
+      only_if IsAside (IsSameBeside st) (is_some c.oneshot) (Say (Acked b.height) (Goes st)) (bind (half.takes_delivered c b st) (λ left. half.acked_at b.height left.answer left.live)) (tt, refl)
+      (only_behind IsAside (IsHalfOf st) (IsSameBeside st) (half.takes_delivered c b st) (λ left. half.acked_at b.height left.answer left.live) (delivered_aside b st)
       (λ left same. acked_aside st left.live b.height left.answer same))
 
 -- WHAT SUCH A COURSE LEAVES
@@ -382,7 +382,7 @@ openings_run_behind c ended w new run = runs_behind (opening c) (λ st. unless_o
 pub steps_run_behind : {Dir : Type 0} → StepsRunBehind Dir
 steps_run_behind c st (Sent mail) ended w new run = runs_behind (step c (Sent mail) st) (λ st. unless_once c (half.asks_again c st) (Goes st)) (heard_aside c) ended w new run
 steps_run_behind c st (Finalized b) ended w new run =
-    runs_behind (step c (Finalized b) st) (λ st. unless_once c (bind (half.delivered c b st) (λ left. half.acked_at b.height left.answer left.live)) (Say (Acked b.height) (Goes st))) (block_aside c b) ended w new run
+    runs_behind (step c (Finalized b) st) (λ st. unless_once c (bind (half.takes_delivered c b st) (λ left. half.acked_at b.height left.answer left.live)) (Say (Acked b.height) (Goes st))) (block_aside c b) ended w new run
 
 pub openings_say_behind : {Dir : Type 0} → OpeningsSayBehind Dir
 openings_say_behind c ended old new said = said_behind (opening c) (λ st. unless_once c (kept_material c st) (Goes st)) (opened_aside c) ended old new said
@@ -390,4 +390,4 @@ openings_say_behind c ended old new said = said_behind (opening c) (λ st. unles
 pub steps_say_behind : {Dir : Type 0} → StepsSayBehind Dir
 steps_say_behind c st (Sent mail) ended old new said = said_behind (step c (Sent mail) st) (λ st. unless_once c (half.asks_again c st) (Goes st)) (heard_aside c) ended old new said
 steps_say_behind c st (Finalized b) ended old new said =
-    said_behind (step c (Finalized b) st) (λ st. unless_once c (bind (half.delivered c b st) (λ left. half.acked_at b.height left.answer left.live)) (Say (Acked b.height) (Goes st))) (block_aside c b) ended old new said
+    said_behind (step c (Finalized b) st) (λ st. unless_once c (bind (half.takes_delivered c b st) (λ left. half.acked_at b.height left.answer left.live)) (Say (Acked b.height) (Goes st))) (block_aside c b) ended old new said

@@ -13,7 +13,7 @@ use Rattle.dkg_core.specs.Fixed.{Fixed}
 use Rattle.dkg_core.specs.Live.{Live, Message, Sent, Peer, Finalized, NextLog, ReleaseLog, EpochInfoOf, Feed, Over, Cancel, Work}
 use Rattle.dkg_core.specs.Core.{step}
 use Rattle.dkg_core.specs.Behind.{IsAside}
-use Rattle.dkg_core.specs.Laws.{Law, Holds, PeerOperation, peer_law, IsOwn, IsOffered, OtherLine, OtherOperation, other_law, reach_of}
+use Rattle.dkg_core.specs.Laws.{Law, Holds, PeerOperation, peer_law, IsDealtToItself, IsOffered, OtherLine, OtherOperation, other_law, reach_of}
 use Rattle.dkg_core.specs.Heard.{recovered_in}
 use Rattle.dkg_core.specs.Enduring.{IsKeptFrom}
 use Rattle.dkg_core.specs.Forms.{IsTakenIn}
@@ -33,7 +33,7 @@ use Rattle.dkg_core.proofs.Said.{runs_say}
 use Rattle.dkg_core.proofs.Stepping.{not_included}
 
 module _ {Dir : Type 0} (c : Fixed Dir) (st : Live Dir) where
-  any_past : (past : List (Deed Dir)) (line : Line) → OtherLine c (IsOwn c st) (IsOffered c st) past line → IsBlockLine c st line
+  any_past : (past : List (Deed Dir)) (line : Line) → OtherLine c (IsDealtToItself c st) (IsOffered c st) past line → IsBlockLine c st line
   any_past past (Recorded epoch dealer public private) h = h
   any_past past (Ack epoch dealer ack) h = h
   any_past past (Offer epoch player public private) h = h
@@ -58,7 +58,7 @@ module _ {Dir : Type 0} (c : Fixed Dir) (st : Live Dir) where
   peer_spares_plan from past (OnDisk ClearsPlan) h = absurd h
   peer_spares_plan from past op h = tt
 
-  other_spares_plan : (most : ℕ) (past : List (Deed Dir)) (op : Operation) → OtherOperation c (IsOwn c st) most past op → SparesPlan op
+  other_spares_plan : (most : ℕ) (past : List (Deed Dir)) (op : Operation) → OtherOperation c (IsDealtToItself c st) most past op → SparesPlan op
   other_spares_plan most past (OnDisk (PutsPlan bytes)) h = absurd h
   other_spares_plan most past (OnDisk ClearsPlan) h = absurd h
   other_spares_plan most past op h = tt
@@ -66,9 +66,9 @@ module _ {Dir : Type 0} (c : Fixed Dir) (st : Live Dir) where
   abbrev plans : Law Dir (Live Dir)
   plans = sparing SparesPlan
 
-  of_other : (message : Message Dir) → Holds (other_law c (IsOwn c st) (IsOffered c st) (reach_of c message)) [] (step c message st) → Holds plans [] (step c message st)
+  of_other : (message : Message Dir) → Holds (other_law c (IsDealtToItself c st) (IsOffered c st) (reach_of c message)) [] (step c message st) → Holds plans [] (step c message st)
   of_other message holds =
-      holds_as (other_law c (IsOwn c st) (IsOffered c st) (reach_of c message)) plans [] (step c message st) (λ past line h. tt) (other_spares_plan (reach_of c message)) (λ past end h. tt) holds
+      holds_as (other_law c (IsDealtToItself c st) (IsOffered c st) (reach_of c message)) plans [] (step c message st) (λ past line h. tt) (other_spares_plan (reach_of c message)) (λ past end h. tt) holds
 
   step_plan : (message : Message Dir) → Holds plans [] (step c message st)
   step_plan (Finalized b) = of_other (Finalized b) (others_acknowledge_nothing c st (Finalized b) tt)
@@ -107,7 +107,7 @@ blocks_keep {Dir} c block st ended most w new low agreed can run =
     let message : Message Dir = Finalized block in
     let behind = steps_run_behind c st message ended w new run in
     let course = on_devices (step c message st) in
-    let law = other_law c (IsOwn c st) (IsOffered c st) (reach_of c message) in
+    let law = other_law c (IsDealtToItself c st) (IsOffered c st) (reach_of c message) in
     let front = lines_obey law [] (step c message st) behind.half w.out behind.mid.out (others_acknowledge_nothing c st message tt) (runs_say course behind.half w behind.mid behind.run) in
     record {
       lines = lines_of front.deeds ++ behind.lines;

@@ -18,7 +18,7 @@ use Rattle.dkg_core.specs.Including.{can_finish, job_for, verified, cached_for, 
 use Rattle.dkg_core.specs.Blocks as b
 use Rattle.dkg_core.specs.Endings.{validity}
 use Rattle.dkg_core.specs.Forms.{ComesOver, round_for}
-use Rattle.dkg_core.specs.Asked.{OfShares, Reads, IsArtifactIn, IsResultIn, IsJobIn, HasAsked, IsAskStop, IsMadeIn}
+use Rattle.dkg_core.specs.Asked.{OfShares, ReadsShare, IsArtifactIn, IsResultIn, IsJobIn, HasAsked, IsAskStop, IsMadeIn}
 use Rattle.dkg_core.specs.Through.{IsFormThrough, IsLiveThrough, IsShareTaken}
 use Rattle.dkg_core.proofs.Advancing.{included, of_round, some_of, retained_is, both_found, none_found}
 use Rattle.dkg_core.proofs.Artifacts.{artifacts_lead, cached_is}
@@ -42,7 +42,7 @@ retained_logs (Some its) logs r e = either (same_logs its.logs logs) refl e
     either false is e = absurd (none_apart r e)
 
 module _ {Dir : Type 0} (c : Fixed Dir) (form : IsFormThrough c) (stored : OfShares) (block : Block Dir) (last : is_last_height c block.height ≡ true) (st : Live Dir) (live : IsLiveThrough c stored st)
-    (includes : st.participation.stage ≡ Includes) (round : Round) (of_epoch : st.participation.round ≡ Some round) (devices : Option Held) (reads : Reads c stored devices) where
+    (includes : st.participation.stage ≡ Includes) (round : Round) (of_epoch : st.participation.round ≡ Some round) (devices : Option Held) (reads : ReadsShare c stored devices) where
   abbrev pub FinalStop : Fault → Type 0
   FinalStop fault = IsAskStop c st fault ⊎ passing.PassingStop c form.form stored block last st devices fault
 

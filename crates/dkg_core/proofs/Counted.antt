@@ -7,7 +7,7 @@ use Rattle.dkg_journal.specs.Fuse.{counted, spent_once, burnt, Reached}
 use Rattle.dkg_journal.proofs.Fuses.{burnt_call}
 use Rattle.dkg_store.specs.Acts.{Operation, World, says, does, device_calls, Completes, Faults, Breaks, Cause, by_cut, by_disk, by_secrets, by_want, Ended, went, stopped, broken}
 use Rattle.dkg_core.specs.Courses.{Course, Say, Do, Call, Ask, Goes, Stops, on_devices}
-use Rattle.dkg_core.specs.Counted.{calls_of, HasMade, Counts, RunsCount, CutsFall}
+use Rattle.dkg_core.specs.Counted.{calls_of, HasMade, CountsCalls, RunsCount, CutsFall}
 
 -- CALLS, ONE AFTER ANOTHER
 
@@ -45,23 +45,23 @@ burnt_reaches (suc n) f call before low among =
 -- WHAT A RUN COUNTS
 
 module _ {Dir F S : Type 0} where
-  none_made : (course : Course Dir F S) (ended : Ended F S) (w new : World) → new.fuse ≡ w.fuse → HasMade ended 0 (calls_of course w.held) → Counts course ended w new
+  none_made : (course : Course Dir F S) (ended : Ended F S) (w new : World) → new.fuse ≡ w.fuse → HasMade ended 0 (calls_of course w.held) → CountsCalls course ended w new
   none_made course ended w new same made = record { made = 0; fuse = same; of_course = made }
 
   as_made : (course next : Course Dir F S) (ended : Ended F S) (w mid new : World) → mid.fuse ≡ w.fuse → ((made : ℕ) → HasMade ended made (calls_of next mid.held) → HasMade ended made (calls_of course w.held))
-      → Counts next ended mid new → Counts course ended w new
+      → CountsCalls next ended mid new → CountsCalls course ended w new
   as_made course next ended w mid new same so counts = record { made = counts.made; fuse = counts.fuse ∙ ap (burnt counts.made) same; of_course = so counts.made counts.of_course }
 
   more_made : (op : Operation) (course : Course Dir F S) (ended : Ended F S) (w new : World)
       → ((made : ℕ) → HasMade ended made (calls_of course (does w op).held) → HasMade ended (device_calls op w.held + made) (calls_of (Do op course) w.held))
-      → Counts course ended (does w op) new → Counts (Do op course) ended w new
+      → CountsCalls course ended (does w op) new → CountsCalls (Do op course) ended w new
   more_made op course ended w new so counts = record {
     made = device_calls op w.held + counts.made;
     fuse = counts.fuse ∙ burnt_both (device_calls op w.held) counts.made w.fuse;
     of_course = so counts.made counts.of_course;
   }
 
-  goes : (course : Course Dir F S) (end : S) (w new : World) → Completes (on_devices course) end w new → Counts course (went end) w new
+  goes : (course : Course Dir F S) (end : S) (w new : World) → Completes (on_devices course) end w new → CountsCalls course (went end) w new
   goes (Say line course) end w new run = as_made (Say line course) course (went end) w (says w line) new refl (λ made h. h) (goes course end (says w line) new run)
   goes (Do op course) end w new run = more_made op course (went end) w new (λ made h. ap (λ (n : ℕ). device_calls op w.held + n) h) (goes course end (does w op) new run)
   goes (Call outer course) end w new run = as_made (Call outer course) course (went end) w w new refl (λ made h. h) (goes course end w new run)
@@ -69,7 +69,7 @@ module _ {Dir F S : Type 0} where
   goes (Goes its) end w new run = none_made (Goes its) (went end) w new (ap (λ (x : World). x.fuse) run.0) refl
   goes (Stops fault) end w new run = absurd run
 
-  stops : (course : Course Dir F S) (fault : F) (w new : World) → Faults (on_devices course) fault w new → Counts course (stopped fault) w new
+  stops : (course : Course Dir F S) (fault : F) (w new : World) → Faults (on_devices course) fault w new → CountsCalls course (stopped fault) w new
   stops (Say line course) fault w new run = as_made (Say line course) course (stopped fault) w (says w line) new refl (λ made h. h) (stops course fault (says w line) new run)
   stops (Do op course) fault w new run = more_made op course (stopped fault) w new (λ made h. ap (λ (n : ℕ). device_calls op w.held + n) h) (stops course fault (does w op) new run)
   stops (Call outer course) fault w new run = as_made (Call outer course) course (stopped fault) w w new refl (λ made h. h) (stops course fault w new run)
@@ -77,7 +77,7 @@ module _ {Dir F S : Type 0} where
   stops (Goes its) fault w new run = absurd run
   stops (Stops its) fault w new run = none_made (Stops its) (stopped fault) w new (ap (λ (x : World). x.fuse) run.0) refl
 
-  breaks : (cause : Cause) (course : Course Dir F S) (w new : World) → Breaks cause (on_devices course) w new → Counts course (broken cause) w new
+  breaks : (cause : Cause) (course : Course Dir F S) (w new : World) → Breaks cause (on_devices course) w new → CountsCalls course (broken cause) w new
   breaks cause (Say line course) w new (inl none) = none_made (Say line course) (broken cause) w new (ap (λ (x : World). x.fuse) none.1) (omega arith)
   breaks cause (Say line course) w new (inr run) = as_made (Say line course) course (broken cause) w (says w line) new refl (λ made h. h) (breaks cause course (says w line) new run)
   breaks cause (Do op course) w new (inl tears) =

@@ -5,7 +5,7 @@ use Rattle.std.specs.Option.{option_map_or}
 use Rattle.dkg_store.specs.Acts.{Operation, World, says, does}
 use Rattle.dkg_types.specs.declared.entry.Entry.{Entry as Line}
 use Rattle.dkg_core.specs.Courses.{Course, Say, Do, Call, Ask, Goes, Stops, bind, Deed, Said, Did, Called, Throughout}
-use Rattle.dkg_core.specs.Laws.{Law, Holds, Keeps}
+use Rattle.dkg_core.specs.Laws.{Law, Holds, LawKeeps}
 
 -- one after another: what the first end in is what the next begin with
 pub holds_bind : {Dir F S T : Type 0} (first : Law Dir S) (law : Law Dir T) (past : List (Deed Dir)) (course : Course Dir F S) (next : S → Course Dir F T)
@@ -44,7 +44,7 @@ holds_as first law past (Goes end) lines ops ends h = ends past end h
 holds_as first law past (Stops fault) lines ops ends h = tt
 
 -- What a law keeps, it keeps along a course, before and after each act and within.
-pub along : {Dir F S : Type 0} (law : Law Dir S) (P : World → Type 0) → Keeps law P → (past : List (Deed Dir)) (course : Course Dir F S) (w : World) → Holds law past course → P w
+pub along : {Dir F S : Type 0} (law : Law Dir S) (P : World → Type 0) → LawKeeps law P → (past : List (Deed Dir)) (course : Course Dir F S) (w : World) → Holds law past course → P w
     → Throughout P course w
 along law P keeps past (Say line course) w h p = (p, along law P keeps (Said line ∷ past) course (says w line) h.1 (keeps.said past w line h.0 p))
 along law P keeps past (Do op course) w h p =

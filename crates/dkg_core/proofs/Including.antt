@@ -21,8 +21,8 @@ use Rattle.dkg_core.specs.Dealing as d
 use Rattle.dkg_core.specs.Including.{advanced}
 use Rattle.dkg_core.specs.Blocks as b
 use Rattle.dkg_core.specs.Endings.{stage_in, validity}
-use Rattle.dkg_core.specs.Forms.{IsForm, IsMine, IsLiveIn, ComesOver, Finds, round_for}
-use Rattle.dkg_core.specs.Asked.{OfShares, Reads, IsArtifactIn, IsResultIn, IsJobIn, InRound, HasAsked, IsInformed, IsDeriveStop, IsAskStop, IsReadOn}
+use Rattle.dkg_core.specs.Forms.{IsForm, IsMine, IsLiveIn, ComesOver, FindsHeld, round_for}
+use Rattle.dkg_core.specs.Asked.{OfShares, ReadsShare, IsArtifactIn, IsResultIn, IsJobIn, InRound, HasAsked, IsInformed, IsDeriveStop, IsAskStop, IsReadOn}
 use Rattle.dkg_core.specs.Through.{unasked, IsLiveThrough, IsReadFrom, observed_log, observed, included, StepReads}
 use Rattle.dkg_core.proofs.Advancing.{advances_lead, included as asked_in}
 use Rattle.dkg_core.proofs.Counting.{some_is}
@@ -241,9 +241,9 @@ module _ {Dir : Type 0} (c : Fixed Dir) (form : IsForm c) (stored : OfShares) (b
     abbrev To : Live Dir → Option Held → Type 0
     To end left = IsLiveThrough c stored end × InRound st (λ round. IsReadFrom c (included c round block st) end)
 
-    reads_at : (left : Option Held) → Few c round block st devices left → Reads c stored left
-    reads_at left (inl is) h epoch found = reads h epoch (inl (subst (λ (o : Option Held). Finds o h) is found))
-    reads_at left (inr more) h epoch found = reads h epoch (inr (more.0, more.1, subst (λ (o : Option Held). Finds o h) more.2 found))
+    reads_at : (left : Option Held) → Few c round block st devices left → ReadsShare c stored left
+    reads_at left (inl is) h epoch found = reads h epoch (inl (subst (λ (o : Option Held). FindsHeld o h) is found))
+    reads_at left (inr more) h epoch found = reads h epoch (inr (more.0, more.1, subst (λ (o : Option Held). FindsHeld o h) more.2 found))
 
     behind : (left : Option Held) → Few c round block st devices left → ComesOver (IsAskStop c st) To (advanced c at) left
     behind left few =

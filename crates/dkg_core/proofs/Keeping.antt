@@ -10,7 +10,7 @@ use Rattle.dkg_values.specs.declared.codec.CodecError.{CodecError}
 use Rattle.dkg_ceremony.specs.declared.ceremony.AckError.{AckError}
 use Rattle.dkg_ceremony.specs.declared.ceremony.DealingError.{DealingError}
 use Rattle.dkg_ceremony.specs.declared.round.RoundParts.{RoundParts as Round}
-use Rattle.dkg_journal.specs.Records.{Entry, placed}
+use Rattle.dkg_journal.specs.Records.{SectionEntry, placed}
 use Rattle.dkg_types.specs.declared.entry.Entry.{Entry as Line}
 use Rattle.dkg_types.specs.declared.entry.Entry.TheVariants.{Recorded, Ack}
 use Rattle.dkg_types.specs.declared.message.Message.{Message as Channel}
@@ -22,7 +22,7 @@ use Rattle.dkg_core.specs.Courses.{Course, Goes, Throughout, Finishes}
 use Rattle.dkg_store.specs.Events.{event_spelling, IsEvent}
 use Rattle.dkg_store.specs.declared.event.Event.TheVariants as events
 use Rattle.dkg_secrets.specs.Keys.{key_cmp}
-use Rattle.dkg_store.specs.Pairs.{Pairs, IsWhole, HasHalf, recovered, dealing_of, with_dealing}
+use Rattle.dkg_store.specs.Pairs.{Pairs, IsWhole, HasHalf, recovered, recorded_dealing, with_dealing}
 use Rattle.dkg_secrets.specs.Secrets.{Secrets, after}
 use Rattle.dkg_secrets.specs.declared.secrets.SecretOp.TheVariants.{PutDealing}
 use Rattle.dkg_store.proofs.Pairs.{step as add, whole_placed, put_one, record_one, get_here}
@@ -45,22 +45,22 @@ nothing_more [] = refl
 nothing_more (x ∷ xs) = ap (λ ys. x ∷ ys) (nothing_more xs)
 
 -- what an append that was ended within leaves of the entries
-pub left_entries : (e : Entry) (j new : Journaled) → IsLeft (Appends e) j new → (new.entries ≡ j.entries) ⊎ (new.entries ≡ placed j.entries e)
+pub left_entries : (e : SectionEntry) (j new : Journaled) → IsLeft (Appends e) j new → (new.entries ≡ j.entries) ⊎ (new.entries ≡ placed j.entries e)
 left_entries e j new (inl is) = inl (ap (λ (x : Journaled). x.entries) is)
 left_entries e j new (inr (inl is)) = inr (ap (λ (x : Journaled). x.entries) is)
 left_entries e j new (inr (inr is)) = inl (ap (λ (x : Journaled). x.entries) is)
 
 -- A RECORD OF NO DEALING
 
-module _ (s : Secrets) (e : Entry) (silent : dealing_of e ≡ None) where
-  pub fold_silent : (es : List Entry) (m : Pairs) → fold (add s) m (placed es e) ≡ fold (add s) m es
+module _ (s : Secrets) (e : SectionEntry) (silent : recorded_dealing e ≡ None) where
+  pub fold_silent : (es : List SectionEntry) (m : Pairs) → fold (add s) m (placed es e) ≡ fold (add s) m es
   fold_silent [] m = ap (with_dealing s m) silent
   fold_silent (x ∷ xs) m = elim (nat_lt e.0 x.0) as (λ b. fold (add s) m (cond b (e ∷ x ∷ xs) (x ∷ placed xs e)) ≡ fold (add s) m (x ∷ xs)) [
     | true ↦ ap (λ (n : Pairs). fold (add s) n (x ∷ xs)) (ap (with_dealing s m) silent)
     | false ↦ fold_silent xs (add s m x)
   ]
 
-  pub silent_whole : (es : List Entry) → IsWhole es s → IsWhole (placed es e) s
+  pub silent_whole : (es : List SectionEntry) → IsWhole es s → IsWhole (placed es e) s
   silent_whole es whole = whole_placed s e (subst (HasHalf s) (sym silent) tt) es whole
 
 module _ {Dir : Type 0} (c : Fixed Dir) (st : Live Dir) (from : ℕ) (round : Round) (w : World) (pairs : Pairs) (is_round : st.participation.round ≡ Some round)
@@ -73,10 +73,10 @@ module _ {Dir : Type 0} (c : Fixed Dir) (st : Live Dir) (from : ℕ) (round : Ro
   unsaid new same whole gives = record { whole = whole; gives = gives; added = []; out = same ∙ nothing_more w.out; said = tt }
 
   -- .. and the entries and the secrets are these
-  unsaid_over : (new : World) → new.out ≡ w.out → (es : List Entry) (s : Secrets) → notes new.held ≡ es → new.held.secrets ≡ s → IsWhole es s → MayHave c st from round pairs (recovered es s) → P new
+  unsaid_over : (new : World) → new.out ≡ w.out → (es : List SectionEntry) (s : Secrets) → notes new.held ≡ es → new.held.secrets ≡ s → IsWhole es s → MayHave c st from round pairs (recovered es s) → P new
   unsaid_over new same es s is_es is_s whole gives =
-      unsaid new same (subst (λ (x : List Entry). IsWhole x new.held.secrets) (sym is_es) (subst (λ (x : Secrets). IsWhole es x) (sym is_s) whole))
-      (subst (λ (x : List Entry). MayHave c st from round pairs (recovered x new.held.secrets)) (sym is_es) (subst (λ (x : Secrets). MayHave c st from round pairs (recovered es x)) (sym is_s) gives))
+      unsaid new same (subst (λ (x : List SectionEntry). IsWhole x new.held.secrets) (sym is_es) (subst (λ (x : Secrets). IsWhole es x) (sym is_s) whole))
+      (subst (λ (x : List SectionEntry). MayHave c st from round pairs (recovered x new.held.secrets)) (sym is_es) (subst (λ (x : Secrets). MayHave c st from round pairs (recovered es x)) (sym is_s) gives))
 
   begins : P w
   begins = unsaid w refl is_whole (inl is_given)
@@ -195,10 +195,10 @@ module _ {Dir : Type 0} (c : Fixed Dir) (st : Live Dir) (from : ℕ) (round : Ro
   -- AN ACKNOWLEDGEMENT
 
   module _ (ack : List ℕ) (is_event : IsEvent (events.Ack from ack)) where
-    abbrev entry : Entry
+    abbrev entry : SectionEntry
     entry = (round.number, event_spelling (events.Ack from ack))
 
-    silent : dealing_of entry ≡ None
+    silent : recorded_dealing entry ≡ None
     silent = says_dealing round.number (events.Ack from ack) is_event
 
     with_record : IsWhole (placed (notes w.held) entry) w.held.secrets × (recovered (placed (notes w.held) entry) w.held.secrets ≡ pairs)
@@ -290,10 +290,10 @@ module _ {Dir : Type 0} (c : Fixed Dir) (st : Live Dir) (from : ℕ) (round : Ro
   dealing_lands public private Watches is_event end new done = at_end st end _ new done (told_only _)
 
   module _ (ack : List ℕ) (is_event : IsEvent (events.Ack from ack)) where
-    abbrev ack_entry : Entry
+    abbrev ack_entry : SectionEntry
     ack_entry = (round.number, event_spelling (events.Ack from ack))
 
-    ack_silent : dealing_of ack_entry ≡ None
+    ack_silent : recorded_dealing ack_entry ≡ None
     ack_silent = says_dealing round.number (events.Ack from ack) is_event
 
     taken_lands : (d : Dealer) (end : Live Dir) (new : World) → Finishes (takes_ack round.number d from ack st) end w new → Q end new

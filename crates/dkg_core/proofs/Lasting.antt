@@ -2,7 +2,7 @@
 use Rattle.std.proofs.Common.{◌≡◌, ◌≤◌, ◌<◌, ◌⊎◌, inl, inr, ℕ, cond, Bool, true, false, nat_le, List, [], None, refl, sym, ◌∙◌, ap, arith}
 use Rattle.std.specs.Prelude.{◌-◌}
 use Rattle.std.specs.FinMap.{get, get-retain_keys}
-use Rattle.dkg_journal.specs.Records.{Entry, from_section}
+use Rattle.dkg_journal.specs.Records.{SectionEntry, from_section}
 use Rattle.dkg_ceremony.specs.Schedule.{epoch_of}
 use Rattle.dkg_journal.specs.Operations as of_journal
 use Rattle.dkg_journal.specs.Operations.{Bars, Opens, Appends, Prunes, PutsPlan, ClearsPlan, Journaled, InPart}
@@ -18,7 +18,7 @@ use Rattle.dkg_store.proofs.Pruned.{recovered_from}
 use Rattle.dkg_secrets.proofs.Tried.{all_done}
 use Rattle.dkg_core.specs.Fixed.{Fixed}
 use Rattle.dkg_core.specs.Live.{awaited_height}
-use Rattle.dkg_core.specs.Laws.{Keeps, prune_law, PrunesAtMost, OpeningOperation, opening_law}
+use Rattle.dkg_core.specs.Laws.{LawKeeps, prune_law, PrunesAtMost, OpeningOperation, opening_law}
 use Rattle.dkg_core.specs.Setup.{setup}
 use Rattle.dkg_core.specs.Heard.{recovered_in, KeepsFrom, SetupsKeep, OpeningsKeep}
 use Rattle.dkg_core.specs.Core.{opening}
@@ -27,7 +27,7 @@ use Rattle.dkg_core.proofs.Holding.{along}
 use Rattle.dkg_core.proofs.Pruning.{setups_prune}
 
 -- the journal's prune
-pub pruned_at : (min : ℕ) (es : List Entry) (s : Secrets) (k : ℕ × ℕ) → min ≤ k.0 → get (recovered (from_section min es) s) k ≡ get (recovered es s) k
+pub pruned_at : (min : ℕ) (es : List SectionEntry) (s : Secrets) (k : ℕ × ℕ) → min ≤ k.0 → get (recovered (from_section min es) s) k ≡ get (recovered es s) k
 pruned_at min es s k above =
     ap (λ (m : Pairs). get m k) (recovered_from min es s)
     ∙ get-retain_keys (recovered es s) (λ (x : ℕ × ℕ). nat_le min x.0) k (λ x tied. ap (λ (y : ℕ × ℕ). nat_le min y.0) (sym (exact_keys k x tied)))
@@ -38,7 +38,7 @@ pruned_at min es s k above =
     is_above (inr here) = here.1
 
 -- a change of the secrets that was tried
-secrets_at : {Dir : Type 0} (most : ℕ) (op : SecretOp) (past : List (Deed Dir)) (es : List Entry) (s t : Secrets) (k : ℕ × ℕ) → PrunesAtMost most past (Changes op) → Tries op s t → most ≤ k.0
+secrets_at : {Dir : Type 0} (most : ℕ) (op : SecretOp) (past : List (Deed Dir)) (es : List SectionEntry) (s t : Secrets) (k : ℕ × ℕ) → PrunesAtMost most past (Changes op) → Tries op s t → most ≤ k.0
     → get (recovered es t) k ≡ get (recovered es s) k
 secrets_at most (PutShare epoch share) past es s t k law tries above = recovered_at s t k es (ap (λ (m : _). get m k) (share_halves epoch share s t tries))
 secrets_at most (PutSeed epoch seed) past es s t k law tries above = recovered_at s t k es (ap (λ (m : _). get m k) (seed_halves epoch seed s t tries))
@@ -61,8 +61,8 @@ by_both h k key same is = ap (λ (s : Secrets). get (recovered (notes k) s) key)
 opened_part : (op : of_journal.Operation) (s : Secrets) (j new : Journaled) (k : ℕ × ℕ) → (of_journal.after_operation op j).entries ≡ j.entries → (InPart op j new → new.entries ≡ j.entries) → IsLeft op j new
     → get (recovered new.entries s) k ≡ get (recovered j.entries s) k
 opened_part op s j new k kept part (inl is) = ap (λ (x : Journaled). get (recovered x.entries s) k) is
-opened_part op s j new k kept part (inr (inl is)) = ap (λ (x : Journaled). get (recovered x.entries s) k) is ∙ ap (λ (es : List Entry). get (recovered es s) k) kept
-opened_part op s j new k kept part (inr (inr is)) = ap (λ (es : List Entry). get (recovered es s) k) (part is)
+opened_part op s j new k kept part (inr (inl is)) = ap (λ (x : Journaled). get (recovered x.entries s) k) is ∙ ap (λ (es : List SectionEntry). get (recovered es s) k) kept
+opened_part op s j new k kept part (inr (inr is)) = ap (λ (es : List SectionEntry). get (recovered es s) k) (part is)
 
 module _ {Dir : Type 0} where
   -- an operation that is done
@@ -113,14 +113,14 @@ module _ {Dir : Type 0} where
   opening_torn most (OnDisk (Prunes min)) past cause w new k law tears above = torn_at most (OnDisk (Prunes min)) past cause w new k law tears above
   opening_torn most (Changes op) past cause w new k law tears above = torn_at most (Changes op) past cause w new k law tears above
 
-  keeps : (epoch : ℕ) (h : Held) → Keeps (prune_law {Dir = Dir} epoch) (KeepsFrom (epoch - 1) h)
+  keeps : (epoch : ℕ) (h : Held) → LawKeeps (prune_law {Dir = Dir} epoch) (KeepsFrom (epoch - 1) h)
   keeps epoch h = record {
     said = λ past w line law kept. kept;
     done = λ past w op law kept key above. done_at (epoch - 1) op past w key law above ∙ kept key above;
     torn = λ past cause w new op law kept tears key above. torn_at (epoch - 1) op past cause w new key law tears above ∙ kept key above;
   }
 
-  opening_keeps : (c : Fixed Dir) (most : ℕ) (h : Held) → Keeps (opening_law c most) (KeepsFrom most h)
+  opening_keeps : (c : Fixed Dir) (most : ℕ) (h : Held) → LawKeeps (opening_law c most) (KeepsFrom most h)
   opening_keeps c most h = record {
     said = λ past w line law kept. kept;
     done = λ past w op law kept key above. opening_done most op past w key law above ∙ kept key above;

@@ -18,7 +18,7 @@ use Rattle.dkg_core.specs.Core.{step}
 use Rattle.dkg_core.specs.Laws.{IsAmong}
 use Rattle.dkg_core.specs.Endings.{stage_in}
 use Rattle.dkg_core.specs.Forms.{IsLiveIn, ComesOver}
-use Rattle.dkg_core.specs.Asked.{OfShares, Reads, IsResultIn, InRound, FirstNeeds, HasAsked, IsAskStop, IsStarted, IsReadOn}
+use Rattle.dkg_core.specs.Asked.{OfShares, ReadsShare, IsResultIn, InRound, FirstNeeds, HasAsked, IsAskStop, IsStarted, IsReadOn}
 use Rattle.dkg_core.specs.Through.{IsFormThrough, IsLiveThrough, IsTakenThrough, IsReadFrom, asked_by, cancelled, finished, waits_for, unasked}
 use Rattle.dkg_core.proofs.Advancing.{advances_lead, included, needs_again, read_again, requeued}
 use Rattle.dkg_core.proofs.Counting.{some_is}
@@ -106,7 +106,7 @@ module _ {Dir : Type 0} (c : Fixed Dir) (st : Live Dir) where
     starts = λ job none e. absurd (none_apart job (sym (running ∙ none) ∙ e));
   }
 
-module _ {Dir : Type 0} (c : Fixed Dir) (form : IsFormThrough c) (stored : OfShares) (st : Live Dir) (live : IsLiveThrough c stored st) (devices : Option Held) (reads : Reads c stored devices) where
+module _ {Dir : Type 0} (c : Fixed Dir) (form : IsFormThrough c) (stored : OfShares) (st : Live Dir) (live : IsLiveThrough c stored st) (devices : Option Held) (reads : ReadsShare c stored devices) where
   abbrev pub AskStop : Fault → Type 0
   AskStop = IsAskStop c st
 

@@ -4,7 +4,7 @@ use Rattle.std.specs.Prelude.{◌==◌, ◌&&◌, ◌||◌, not, nat_le, filter,
 use Rattle.std.specs.Option.{option_map_or}
 use Rattle.std.specs.FinMap.{put, empty}
 use Rattle.dkg_values.specs.Rising.{with_pair}
-use Rattle.dkg_journal.specs.Records.{Entry}
+use Rattle.dkg_journal.specs.Records.{SectionEntry}
 use Rattle.dkg_types.specs.declared.entry.Entry.{Entry as Line}
 use Rattle.dkg_values.specs.declared.name.Name.{Name}
 use Rattle.dkg_values.specs.declared.name.Name.TheVariants.{Plan}
@@ -13,7 +13,7 @@ use Rattle.dkg_store.specs.Acts.{Operation, OnDisk, Changes, Held, device_calls,
 use Rattle.dkg_core.specs.Courses.{Course, Say, Do, Call, Ask, Goes, Stops, Outer}
 use Rattle.dkg_secrets.specs.Keys.{key_cmp}
 use Rattle.dkg_store.specs.Noted.{Note, noted_ack, noted_log}
-use Rattle.dkg_store.specs.Pairs.{Dealing, dealing_of}
+use Rattle.dkg_store.specs.Pairs.{Dealing, recorded_dealing}
 use Rattle.dkg_store.specs.Recorded.{Pair}
 use Rattle.dkg_secrets.specs.declared.secrets.SecretOp.{SecretOp}
 use Rattle.dkg_secrets.specs.declared.secrets.SecretOp.TheVariants.{PutShare, PutSeed, PutDealing, Prune}
@@ -23,20 +23,20 @@ use Rattle.dkg_core.specs.Seen.{Seen}
 abbrev pub secrets : ℕ
 secrets = 1208925819614629174706176
 
-abbrev pub secret : (epoch : ℕ) → List ℕ → Entry
+abbrev pub secret : (epoch : ℕ) → List ℕ → SectionEntry
 secret epoch content = (secrets + epoch, content)
 
-abbrev pub is_secret : Entry → Bool
+abbrev pub is_secret : SectionEntry → Bool
 is_secret e = nat_le secrets e.0
 
-abbrev pub changed : SecretOp → List Entry → List Entry
+abbrev pub changed : SecretOp → List SectionEntry → List SectionEntry
 changed (PutShare epoch share) es = es ++ secret epoch (10 ∷ share ∷ []) ∷ []
 changed (PutSeed epoch seed) es = es ++ secret epoch (11 ∷ seed) ∷ []
 changed (PutDealing epoch dealer private) es = es ++ secret epoch (12 ∷ dealer ∷ private ∷ []) ∷ []
 changed (Prune min) es = filter (λ e. not (is_secret e) || nat_le (secrets + min) e.0) es
 
-abbrev pub journal_of : Held → List Entry
-journal_of h = filter (λ (e : Entry). not (is_secret e)) (notes h)
+abbrev pub journal_of : Held → List SectionEntry
+journal_of h = filter (λ (e : SectionEntry). not (is_secret e)) (notes h)
 
 abbrev pub with_journaled : Journaled → Held → Held
 with_journaled j h = record { journaled = j; secrets = h.secrets }
@@ -50,28 +50,28 @@ done (Changes op) h = with_journaled (record { entries = changed op (notes h); p
 
 -- WHAT IS SEEN
 
-abbrev pub share_in : Entry → Option (ℕ × ℕ)
+abbrev pub share_in : SectionEntry → Option (ℕ × ℕ)
 share_in (section, kind ∷ share ∷ []) = if nat_le secrets section && (kind == 10) then Some (section - secrets, share) else None
 share_in e = None
 
-abbrev pub seed_in : Entry → Option (ℕ × List ℕ)
+abbrev pub seed_in : SectionEntry → Option (ℕ × List ℕ)
 seed_in (section, kind ∷ seed) = if nat_le secrets section && (kind == 11) then Some (section - secrets, seed) else None
 seed_in e = None
 
-abbrev pub private_in : Entry → Option ((ℕ × ℕ) × ℕ)
+abbrev pub private_in : SectionEntry → Option ((ℕ × ℕ) × ℕ)
 private_in (section, kind ∷ dealer ∷ private ∷ []) = if nat_le secrets section && (kind == 12) then Some ((section - secrets, dealer), private) else None
 private_in e = None
 
-abbrev pub last_private : List Entry → (epoch dealer : ℕ) → Option ℕ
+abbrev pub last_private : List SectionEntry → (epoch dealer : ℕ) → Option ℕ
 last_private es epoch dealer = fold (λ found p. if (p.0.0 == epoch) && (p.0.1 == dealer) then Some p.1 else found) None (filter_map private_in es)
 
-abbrev pub with_dealing : List Entry → List Pair → Dealing → List Pair
+abbrev pub with_dealing : List SectionEntry → List Pair → Dealing → List Pair
 with_dealing es pairs d = option_map_or (λ private. put key_cmp d.key (d.public, private) pairs) (last_private es d.key.0 d.key.1) pairs
 
-abbrev pub dealings_in : List Entry → List Entry → List Pair
-dealings_in es journal = fold (with_dealing es) [] (filter_map dealing_of journal)
+abbrev pub dealings_in : List SectionEntry → List SectionEntry → List Pair
+dealings_in es journal = fold (with_dealing es) [] (filter_map recorded_dealing journal)
 
-abbrev pub notes_in : {V : Type 0} → (Entry → Option (Note V)) → List Entry → List ((ℕ × ℕ) × V)
+abbrev pub notes_in : {V : Type 0} → (SectionEntry → Option (Note V)) → List SectionEntry → List ((ℕ × ℕ) × V)
 notes_in note_of journal = fold (λ m n. put key_cmp n.0 n.1 m) [] (filter_map note_of journal)
 
 abbrev pub by_epoch : {V : Type 0} → List (ℕ × V) → List (ℕ × V)
@@ -88,7 +88,7 @@ mirrored h = record {
 }
 
 -- devices that hold these entries (secrets among them), in files of these names
-abbrev pub holding : List Entry → List Name → Held
+abbrev pub holding : List SectionEntry → List Name → Held
 holding es names = record { journaled = record { entries = es; plan = None; names = names }; secrets = record { shares = empty; seeds = empty; privates = empty } }
 
 abbrev pub nothing : Held

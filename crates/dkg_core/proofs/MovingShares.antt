@@ -44,11 +44,11 @@ use Rattle.dkg_core.specs.Node.{node_step}
 use Rattle.dkg_core.specs.Behind.{OnlySays}
 use Rattle.dkg_core.specs.Laws.{reach_of}
 use Rattle.dkg_core.specs.Endings.{validity}
-use Rattle.dkg_core.specs.Forms.{Applied, judged_block, ComesOver, Finds, round_for, share_read, seed_read}
+use Rattle.dkg_core.specs.Forms.{Applied, judged_block, ComesOver, FindsHeld, round_for, share_read, seed_read}
 use Rattle.dkg_core.specs.Idle.{IsAskedLine}
 use Rattle.dkg_core.specs.Stepping.{next_epoch}
 use Rattle.dkg_core.specs.Storing.{ReadsSecrets}
-use Rattle.dkg_core.specs.Asked.{OfShares, Reads, IsArtifactIn, IsResultIn, IsJobIn, HasAsked, IsAskStop, IsMadeIn}
+use Rattle.dkg_core.specs.Asked.{OfShares, ReadsShare, IsArtifactIn, IsResultIn, IsJobIn, HasAsked, IsAskStop, IsMadeIn}
 use Rattle.dkg_core.specs.Through.{IsFormThrough, IsLiveThrough}
 use Rattle.dkg_core.specs.SharesMoved.{IsSuchShare, BlocksMoveShares, BlocksPutShares}
 use Rattle.dkg_core.proofs.Advancing.{included, none_found, of_round, retained_is, some_of}
@@ -212,7 +212,7 @@ module _ {Dir : Type 0} (c : Fixed Dir) (Such : ℕ → ℕ → Type 0) (most : 
 -- A BLOCK
 
 module _ {Dir : Type 0} (c : Fixed Dir) (form : IsFormThrough c) (stored : OfShares) (block : Block Dir) (st : Live Dir) (live : IsLiveThrough c stored st)
-    (includes : st.participation.stage ≡ Includes) (most : ℕ) (low : (epoch_of c.blocks_per_epoch (block.height + 1) - 1) ≤ most) (held : Held) (reads : Reads c stored (Some held))
+    (includes : st.participation.stage ≡ Includes) (most : ℕ) (low : (epoch_of c.blocks_per_epoch (block.height + 1) - 1) ≤ most) (held : Held) (reads : ReadsShare c stored (Some held))
     (Q : Held → Type 0) (walks : Walks c (IsSuchShare c stored block st) most Q) (base : Q held) where
   abbrev Such : ℕ → ℕ → Type 0
   Such = IsSuchShare c stored block st
@@ -417,7 +417,7 @@ module _ {Dir : Type 0} (c : Fixed Dir) (form : IsFormThrough c) (stored : OfSha
       judged_is c block st (λ course. Throughout P course w) (λ t x y one other. along_if P w t x y one other) (λ fault is. begun w same) (λ is. begun w same) (λ is. applies w same) (λ is. begun w same)
 
 -- .. so what each change keeps is had wherever the node's step ends
-pub ends_kept : {Dir : Type 0} (c : Fixed Dir) (stored : OfShares) (block : Block Dir) (st : Live Dir) (ended : Ended NodeStop (Live Dir)) (most : ℕ) (w new : World) → IsFormThrough c → Reads c stored (Some w.held)
+pub ends_kept : {Dir : Type 0} (c : Fixed Dir) (stored : OfShares) (block : Block Dir) (st : Live Dir) (ended : Ended NodeStop (Live Dir)) (most : ℕ) (w new : World) → IsFormThrough c → ReadsShare c stored (Some w.held)
     → IsLiveThrough c stored st → st.participation.stage ≡ Includes → reach_of c (Finalized block) ≤ most → EndsSo (node_step c (Delivers block) st) ended w new
     → (P : Held → Type 0) → Walks c (IsSuchShare c stored block st) most P → P w.held → P new.held
 ends_kept c stored block st ended most w new form reads live includes low run P walks base =

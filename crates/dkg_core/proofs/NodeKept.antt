@@ -20,7 +20,7 @@ use Rattle.dkg_core.specs.Seen.{Seen}
 use Rattle.dkg_core.specs.Fixed.{Fixed}
 use Rattle.dkg_core.specs.Live.{Live, NodeStop, Faulted, Message, Sent, Peer, awaited_height}
 use Rattle.dkg_core.specs.Setup.{setup}
-use Rattle.dkg_core.specs.Core.{opening, step, opens_in, begun}
+use Rattle.dkg_core.specs.Core.{opening, step, opens_in, begun_life}
 use Rattle.dkg_core.specs.Laws.{Law, Holds, Anything, IsSilent, prune_law}
 use Rattle.dkg_core.specs.Meant.{ReadsRecords}
 use Rattle.dkg_core.specs.Heard.{recovered_in, KeepsFrom, IsSaid, MayHave, IsKeptAt}
@@ -87,11 +87,11 @@ module _ {Dir : Type 0} (c : Fixed Dir) where
     Lists ended new = (lines : List Line) × (new.out ≡ w.out ++ lines) × BeginsRestored c.life (restored_list (recovered_in w.held)) lines ended
 
     -- behind the first line
-    listed : (ended : Ended Fault (Live Dir)) (new : World) → EndsSo (opens_in c c.oneshot (begun seen)) ended (says opened first_line) new → Lists ended new
+    listed : (ended : Ended Fault (Live Dir)) (new : World) → EndsSo (opens_in c c.oneshot (begun_life seen)) ended (says opened first_line) new → Lists ended new
     listed ended new run =
-        let rest : Course Dir Fault (Live Dir) = opens_in c c.oneshot (begun seen) in
+        let rest : Course Dir Fault (Live Dir) = opens_in c c.oneshot (begun_life seen) in
         let said = runs_say (on_devices rest) ended (says opened first_line) new run in
-        let front = lines_obey aside_law [] rest ended (says opened first_line).out new.out (opens c aside_law (λ height. Unit {0}) reaching [] c.oneshot (begun seen)) said in (
+        let front = lines_obey aside_law [] rest ended (says opened first_line).out new.out (opens c aside_law (λ height. Unit {0}) reaching [] c.oneshot (begun_life seen)) said in (
           first_line ∷ lines_of front.deeds,
           front.added ∙ append_assoc w.out (first_line ∷ []) (lines_of front.deeds),
           (

@@ -18,7 +18,7 @@ use Rattle.dkg_core.specs.Fixed.{Fixed}
 use Rattle.dkg_core.specs.Live.{Live, Orchestrator, Waiting, NodeStop, Faulted, Sent, Finalized}
 use Rattle.dkg_core.specs.Core.{step}
 use Rattle.dkg_core.specs.Entering as half
-use Rattle.dkg_core.specs.Entering.{Half, HalfAnswer, Acknowledges, Withholds, active, delivered}
+use Rattle.dkg_core.specs.Entering.{Half, HalfAnswer, Acknowledges, Withholds, active, takes_delivered}
 use Rattle.dkg_core.specs.Node.{node_step, unless_once}
 use Rattle.dkg_core.specs.Behind.{event_of}
 use Rattle.dkg_core.specs.SayingThrough.{SaysSo, IsLineThrough}
@@ -97,23 +97,23 @@ module _ {Dir : Type 0} (c : Fixed Dir) (P : Line → Type 0) (tells : (line : L
       (λ e. so_if P (nat_lt block.height (last c.blocks_per_epoch epoch)) (half.leaves st.orchestrator Acknowledges st) (half.enters_at c block (epoch + 1) (Some block.height) st) (λ e. tt)
       (λ e. enters_at block (epoch + 1) (Some block.height) st))
 
-  delivers : (block : Block Dir) (st : Live Dir) → Half_so (delivered c block st)
+  delivers : (block : Block Dir) (st : Live Dir) → Half_so (takes_delivered c block st)
   delivers block st = so_behind P (half.asks_again c st) (λ now. half.delivered_in c block now (active now.orchestrator)) (again st) (λ now. delivers_in block now (active now.orchestrator))
 
   behind_mail : (st : Live Dir) → SaysSo P (unless_once c (half.asks_again c st) (Goes st))
   behind_mail st = so_if P (is_some c.oneshot) (Goes st) (half.asks_again c st) (λ e. tt) (λ e. again st)
 
-  behind_block : (block : Block Dir) (st : Live Dir) → SaysSo P (unless_once c (bind (delivered c block st) (λ left. half.acked_at block.height left.answer left.live)) (Say (Acked block.height) (Goes st)))
+  behind_block : (block : Block Dir) (st : Live Dir) → SaysSo P (unless_once c (bind (takes_delivered c block st) (λ left. half.acked_at block.height left.answer left.live)) (Say (Acked block.height) (Goes st)))
   behind_block block st =
-      so_if P (is_some c.oneshot) (Say (Acked block.height) (Goes st)) (bind (delivered c block st) (λ left. half.acked_at block.height left.answer left.live)) (λ e. (tells (Acked block.height) tt, tt))
-      (λ e. so_behind P (delivered c block st) (λ left. half.acked_at block.height left.answer left.live) (delivers block st) (λ left. acked block.height left.answer left.live))
+      so_if P (is_some c.oneshot) (Say (Acked block.height) (Goes st)) (bind (takes_delivered c block st) (λ left. half.acked_at block.height left.answer left.live)) (λ e. (tells (Acked block.height) tt, tt))
+      (λ e. so_behind P (takes_delivered c block st) (λ left. half.acked_at block.height left.answer left.live) (delivers block st) (λ left. acked block.height left.answer left.live))
 
 pub node_steps_say_through : {Dir : Type 0} → NodeStepsSayThrough Dir
 node_steps_say_through c stored st (Finalized block) ended old new form reads taken live said =
     let P : Line → Type 0 = λ line. IsLineThrough c stored st (Finalized block) line ⊎ IsHalfLine line in
     said_so P (node_step c (event_of (Finalized block)) st) ended old new
     (so_behind P (under Faulted (step c (Finalized block) st))
-    (λ now. unless_once c (bind (delivered c block now) (λ left. half.acked_at block.height left.answer left.live)) (Say (Acked block.height) (Goes now)))
+    (λ now. unless_once c (bind (takes_delivered c block now) (λ left. half.acked_at block.height left.answer left.live)) (Say (Acked block.height) (Goes now)))
     (so_under P Faulted (step c (Finalized block) st) (so_as (IsLineThrough c stored st (Finalized block)) P (step c (Finalized block) st) (λ line is. inl is) (block_so c form stored reads st live block)))
     (λ now. behind_block c P (λ line is. inr is) block now)) said
 node_steps_say_through c stored st (Sent mail) ended old new form reads taken live said =

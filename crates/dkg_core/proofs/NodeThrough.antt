@@ -26,7 +26,7 @@ use Rattle.dkg_core.specs.Live.{Live, Orchestrator, Inclusion, Waiting, NodeStop
 use Rattle.dkg_core.specs.Setup as s
 use Rattle.dkg_core.specs.Core.{step, no_inclusion}
 use Rattle.dkg_core.specs.Entering as half
-use Rattle.dkg_core.specs.Entering.{Half, HalfAnswer, Acknowledges, Withholds, active, delivered, is_ready}
+use Rattle.dkg_core.specs.Entering.{Half, HalfAnswer, Acknowledges, Withholds, active, takes_delivered, is_ready}
 use Rattle.dkg_core.specs.Node.{node_step, unless_once}
 use Rattle.dkg_core.specs.Behind.{OnlySays, IsAside, IsSameBeside, event_of}
 use Rattle.dkg_core.specs.Endings.{ComesTo, stage_in, first_block, validity, answer_in}
@@ -200,7 +200,7 @@ module _ {Dir : Type 0} (c : Fixed Dir) (st : Live Dir) (block : Block Dir) (epo
       (λ e. comes_if Never On (nat_lt block.height (last c.blocks_per_epoch epoch)) (half.leaves st.orchestrator Acknowledges st) (half.enters_at c block (epoch + 1) (Some block.height) st)
       (λ e. absurd (not_above block.height (last c.blocks_per_epoch epoch) at_last e)) (λ e. enters_at))
 
-  passes_on : ComesTo Never On (delivered c block st)
+  passes_on : ComesTo Never On (takes_delivered c block st)
   passes_on =
       subst (λ (o : Option (Waiting Dir)). ComesTo Never On (bind (option_map_or (λ w. bind (half.enters c w st) (half.acked_late w.block)) o (Goes st)) (λ now. half.delivered_in c block now (active now.orchestrator)))) (sym none)
       (subst (λ (o : Option ℕ). ComesTo Never On (half.delivered_in c block st o)) (sym act) at_epoch)
@@ -507,7 +507,7 @@ module _ {Dir : Type 0} (c : Fixed Dir) (form : IsFormThrough c) (full : LacksNo
 
   module _ (block : Block Dir) where
     abbrev next_half : Live Dir → Course Dir NodeStop (Live Dir)
-    next_half end = unless_once c (bind (delivered c block end) (λ left. half.acked_at block.height left.answer left.live)) (Say (Acked block.height) (Goes end))
+    next_half end = unless_once c (bind (takes_delivered c block end) (λ left. half.acked_at block.height left.answer left.live)) (Say (Acked block.height) (Goes end))
 
     acked : (P : Live Dir → Type 0) (answer : HalfAnswer) (end : Live Dir) → P end → ComesTo Never P (half.acked_at block.height answer end)
     acked P Acknowledges end p = p
@@ -517,16 +517,16 @@ module _ {Dir : Type 0} (c : Fixed Dir) (form : IsFormThrough c) (full : LacksNo
       goes_on : IsActiveThrough end → IsBelow c form stored st live is_active block devices end → ComesOver (Stops_at (Finalized block)) (To (Finalized block)) (next_half end) left
       goes_on act low =
           behind (Finalized block) end left (λ now. now ≡ end) (next_half end) (block_aside c block end)
-          (in_reshare (λ now. now ≡ end) (bind (delivered c block end) (λ left. half.acked_at block.height left.answer left.live)) (Say (Acked block.height) (Goes end))
-          (comes_behind Never (λ left. (left.live ≡ end) × (left.answer ≡ answer_in (active end.orchestrator))) (λ now. now ≡ end) (delivered c block end) (λ left. half.acked_at block.height left.answer left.live)
+          (in_reshare (λ now. now ≡ end) (bind (takes_delivered c block end) (λ left. half.acked_at block.height left.answer left.live)) (Say (Acked block.height) (Goes end))
+          (comes_behind Never (λ left. (left.live ≡ end) × (left.answer ≡ answer_in (active end.orchestrator))) (λ now. now ≡ end) (takes_delivered c block end) (λ left. half.acked_at block.height left.answer left.live)
           (halves_go_on c end block low act.active.unawaited) (λ left is. acked (λ now. now ≡ end) left.answer left.live is.0)))
           (still (Finalized block) end left next act)
 
       passes : IsPassing c form stored st live is_active block devices end → ComesOver (Stops_at (Finalized block)) (To (Finalized block)) (next_half end) left
       passes its =
           behind (Finalized block) end left (λ now. To (Finalized block) now left) (next_half end) (block_aside c block end)
-          (in_reshare (λ now. To (Finalized block) now left) (bind (delivered c block end) (λ left. half.acked_at block.height left.answer left.live)) (Say (Acked block.height) (Goes end))
-          (comes_behind Never (HasPassedOn end (its.epoch + 1)) (λ now. To (Finalized block) now left) (delivered c block end) (λ left. half.acked_at block.height left.answer left.live)
+          (in_reshare (λ now. To (Finalized block) now left) (bind (takes_delivered c block end) (λ left. half.acked_at block.height left.answer left.live)) (Say (Acked block.height) (Goes end))
+          (comes_behind Never (HasPassedOn end (its.epoch + 1)) (λ now. To (Finalized block) now left) (takes_delivered c block end) (λ left. half.acked_at block.height left.answer left.live)
           (halves_pass_on c end block its.epoch its.info full its.act its.at_last its.unawaited its.carries its.of_next its.ready its.there)
           (λ half on. acked (λ now. To (Finalized block) now left) half.answer half.live (passed_to half on)))) (λ now to. to)
         where

@@ -10,7 +10,7 @@ use Rattle.dkg_ceremony.specs.declared.round.RoundParts.{RoundParts as Round}
 use Rattle.dkg_ceremony.specs.declared.signed_log.SignedDealerLog.{SignedDealerLog}
 use Rattle.dkg_ceremony.specs.Schedule.{epoch_of}
 use Rattle.dkg_journal.specs.Operations.{Appends, Prunes, Journaled}
-use Rattle.dkg_journal.specs.Records.{Entry, placed, from_section}
+use Rattle.dkg_journal.specs.Records.{SectionEntry, placed, from_section}
 use Rattle.dkg_types.specs.Blocks.{Block}
 use Rattle.dkg_types.specs.declared.entry.Entry.TheVariants.{Offer}
 use Rattle.dkg_types.specs.declared.fault.Fault.{Fault}
@@ -64,7 +64,7 @@ not_none a found some none = let no : ◌≡◌ {A = Option _} (Some a) None = s
 
 -- ALONG A PRUNE
 
-module _ {Dir : Type 0} (c : Fixed Dir) (R : List Entry → Type 0) (most : ℕ) (pruned : (min : ℕ) (es : List Entry) → min ≤ most → R es → R (from_section min es)) where
+module _ {Dir : Type 0} (c : Fixed Dir) (R : List SectionEntry → Type 0) (most : ℕ) (pruned : (min : ℕ) (es : List SectionEntry) → min ≤ most → R es → R (from_section min es)) where
   abbrev Q : World → Type 0
   Q w = R (notes w.held)
 
@@ -85,23 +85,23 @@ module _ {Dir : Type 0} (c : Fixed Dir) (R : List Entry → Type 0) (most : ℕ)
 -- ALONG A STEP, by what each record of it keeps of the notes
 
 -- R is kept by the record of a dealing, by that of an acknowledgement that is new, and by a prune.
-pub record KeepsNotes (R : List Entry → Type 0) (most : ℕ) : Type 0 where
-  pub pruned : (min : ℕ) (es : List Entry) → min ≤ most → R es → R (from_section min es)
-  pub dealing : (epoch dealer : ℕ) (public : List ℕ) (es : List Entry) → IsEvent (events.Dealing dealer public) → R es → R (placed es (epoch, event_spelling (events.Dealing dealer public)))
+pub record KeepsNotes (R : List SectionEntry → Type 0) (most : ℕ) : Type 0 where
+  pub pruned : (min : ℕ) (es : List SectionEntry) → min ≤ most → R es → R (from_section min es)
+  pub dealing : (epoch dealer : ℕ) (public : List ℕ) (es : List SectionEntry) → IsEvent (events.Dealing dealer public) → R es → R (placed es (epoch, event_spelling (events.Dealing dealer public)))
   pub ack : (epoch player : ℕ) (ack : List ℕ) (r : Records) (h : Held) → IsEvent (events.Ack player ack) → AreAgreed r h → recorded_at r.acks epoch player ≡ None → R (notes h)
       → R (placed (notes h) (epoch, event_spelling (events.Ack player ack)))
 
 -- .. and by that of a log that is new
-abbrev pub KeepsLog : {Dir : Type 0} → Block Dir → (R : List Entry → Type 0) → Type 0
+abbrev pub KeepsLog : {Dir : Type 0} → Block Dir → (R : List SectionEntry → Type 0) → Type 0
 KeepsLog block R = (epoch : ℕ) (log : SignedDealerLog) (r : Records) (h : Held) → IsEvent (events.LogAt log.dealer block.height log.log) → AreAgreed r h → recorded_at r.logs epoch log.dealer ≡ None → R (notes h)
     → R (placed (notes h) (epoch, event_spelling (log_event log.dealer block.height log.log)))
 
-module _ {Dir : Type 0} (c : Fixed Dir) (R : List Entry → Type 0) (most : ℕ) (keeps : KeepsNotes R most) where
+module _ {Dir : Type 0} (c : Fixed Dir) (R : List SectionEntry → Type 0) (most : ℕ) (keeps : KeepsNotes R most) where
   abbrev P : World → Type 0
   P w = R (notes w.held)
 
   -- an entry is there, or it isn't yet
-  pub appended : (e : Entry) (cause : Cause) (w new : World) → R (placed (notes w.held) e) → Tears cause (OnDisk (Appends e)) w new → P w → P new
+  pub appended : (e : SectionEntry) (cause : Cause) (w new : World) → R (placed (notes w.held) e) → Tears cause (OnDisk (Appends e)) w new → P w → P new
   appended e cause w new more tears q = either (left_entries e w.held.journaled new.held.journaled tears.torn.1)
     where
       either : (notes new.held ≡ notes w.held) ⊎ (notes new.held ≡ placed (notes w.held) e) → P new
@@ -249,29 +249,29 @@ module _ {Dir : Type 0} (c : Fixed Dir) (R : List Entry → Type 0) (most : ℕ)
 
 -- WHAT IS NOTED
 
-module _ {V : Type 0} (note_of : Entry → Option (Note V)) (most : ℕ) (held : Notes V) where
-  abbrev pub Still : List Entry → Type 0
+module _ {V : Type 0} (note_of : SectionEntry → Option (Note V)) (most : ℕ) (held : Notes V) where
+  abbrev pub Still : List SectionEntry → Type 0
   Still es = StillNoted most held (noted note_of es)
 
-  abbrev pub Same : List Entry → Type 0
+  abbrev pub Same : List SectionEntry → Type 0
   Same es = SameNoted most held (noted note_of es)
 
   -- an entry of no note
-  still_silent : (e : Entry) (es : List Entry) → note_of e ≡ None → Still es → Still (placed es e)
+  still_silent : (e : SectionEntry) (es : List SectionEntry) → note_of e ≡ None → Still es → Still (placed es e)
   still_silent e es none was key value above got = ap (λ (m : Notes V). get m key) (noted_silent note_of e es none) ∙ was key value above got
 
-  same_silent : (e : Entry) (es : List Entry) → note_of e ≡ None → Same es → Same (placed es e)
+  same_silent : (e : SectionEntry) (es : List SectionEntry) → note_of e ≡ None → Same es → Same (placed es e)
   same_silent e es none was key above = ap (λ (m : Notes V). get m key) (noted_silent note_of e es none) ∙ was key above
 
   -- .. and of a new one
-  still_new : (e : Entry) (es : List Entry) (key : ℕ × ℕ) (value : V) → note_of e ≡ Some (key, value) → get (noted note_of es) key ≡ None → Still es → Still (placed es e)
+  still_new : (e : SectionEntry) (es : List SectionEntry) (key : ℕ × ℕ) (value : V) → note_of e ≡ Some (key, value) → get (noted note_of es) key ≡ None → Still es → Still (placed es e)
   still_new e es at new is none was key value above got = elim (same_key keys_total exact_keys key at) [
     | inl here ↦ absurd (not_none value (get (noted note_of es) at) (ap (get (noted note_of es)) (sym here) ∙ was key value above got) none)
     | inr apart ↦ ap (λ (m : Notes V). get m key) (noted_placed note_of at new e es is none) ∙ get_other keys_total exact_keys (noted note_of es) at key new apart ∙ was key value above got
   ]
 
-  module _ (from_is : (min : ℕ) (es : List Entry) → noted note_of (from_section min es) ≡ retain_keys (noted note_of es) (λ k. nat_le min k.0)) where
-    pub kept_at : (min : ℕ) (es : List Entry) (key : ℕ × ℕ) → min ≤ key.0 → get (noted note_of (from_section min es)) key ≡ get (noted note_of es) key
+  module _ (from_is : (min : ℕ) (es : List SectionEntry) → noted note_of (from_section min es) ≡ retain_keys (noted note_of es) (λ k. nat_le min k.0)) where
+    pub kept_at : (min : ℕ) (es : List SectionEntry) (key : ℕ × ℕ) → min ≤ key.0 → get (noted note_of (from_section min es)) key ≡ get (noted note_of es) key
     kept_at min es key above =
         ap (λ (m : Notes V). get m key) (from_is min es)
         ∙ get-retain_keys (noted note_of es) (λ (x : ℕ × ℕ). nat_le min x.0) key (λ x tied. ap (λ (y : ℕ × ℕ). nat_le min y.0) (sym (exact_keys key x tied)))
@@ -281,10 +281,10 @@ module _ {V : Type 0} (note_of : Entry → Option (Note V)) (most : ℕ) (held :
         is_above (inl below) = absurd (let lt = below.0 in omega (arith, lt, above))
         is_above (inr here) = here.1
 
-    still_pruned : (min : ℕ) (es : List Entry) → min ≤ most → Still es → Still (from_section min es)
+    still_pruned : (min : ℕ) (es : List SectionEntry) → min ≤ most → Still es → Still (from_section min es)
     still_pruned min es low was key value above got = kept_at min es key (omega (arith, low, above)) ∙ was key value above got
 
-    same_pruned : (min : ℕ) (es : List Entry) → min ≤ most → Same es → Same (from_section min es)
+    same_pruned : (min : ℕ) (es : List SectionEntry) → min ≤ most → Same es → Same (from_section min es)
     same_pruned min es low was key above = kept_at min es key (omega (arith, low, above)) ∙ was key above
 
 module _ (most : ℕ) where

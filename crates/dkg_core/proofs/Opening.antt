@@ -29,7 +29,7 @@ use Rattle.dkg_core.specs.Setup as s
 use Rattle.dkg_core.specs.Plans as p
 use Rattle.dkg_core.specs.OneShots as o
 use Rattle.dkg_core.specs.Blocks.{ends_once}
-use Rattle.dkg_core.specs.Core.{opens_in, begun}
+use Rattle.dkg_core.specs.Core.{opens_in, begun_life}
 use Rattle.dkg_core.specs.Laws.{Law, Holds, IsSilent, PrunesAtMost, prune_law, OpeningLine, OpeningOperation, opening_law, start_of, StartsWithin, OpeningsPrune}
 use Rattle.dkg_core.specs.Heard.{OpeningsRestore}
 use Rattle.dkg_core.proofs.Holding.{holds_as, holds_if}
@@ -174,10 +174,10 @@ reaching c most starts = record {
 pub openings_prune : {Dir : Type 0} → OpeningsPrune Dir
 openings_prune c most starts =
     let within : ℕ → Type 0 = λ height. epoch_of c.blocks_per_epoch height - 1 ≤ most in
-    (tt, (tt, λ h. ((refl, refl), opens c (opening_law c most) within (reaching c most starts) _ c.oneshot (begun (c.seen h)))))
+    (tt, (tt, λ h. ((refl, refl), opens c (opening_law c most) within (reaching c most starts) _ c.oneshot (begun_life (c.seen h)))))
 
 pub openings_restore : {Dir : Type 0} → OpeningsRestore Dir
 openings_restore c h reads =
     let opened : Held = after (OnDisk (Opens c.opening_calls)) (after (OnDisk Bars) h) in
-    let rest = deeds_of (opens_in c c.oneshot (begun (c.seen opened))) opened in
+    let rest = deeds_of (opens_in c c.oneshot (begun_life (c.seen opened))) opened in
     (rest, ap (λ (dealings : List Pair). Did (OnDisk Bars) ∷ Did (OnDisk (Opens c.opening_calls)) ∷ Said (Opened c.life (map restored_of dealings)) ∷ rest) (reads.dealings opened))

@@ -31,12 +31,12 @@ use Rattle.dkg_core.specs.Setup as s
 use Rattle.dkg_core.specs.Plans as p
 use Rattle.dkg_core.specs.Entering as half
 use Rattle.dkg_core.specs.Entering.{Half}
-use Rattle.dkg_core.specs.Core.{opening, opens_in, begun}
+use Rattle.dkg_core.specs.Core.{opening, opens_in, begun_life}
 use Rattle.dkg_core.specs.Node.{unless_once, kept_material, node_opening}
 use Rattle.dkg_core.specs.Laws.{start_of}
 use Rattle.dkg_core.specs.Endings.{stage_in, first_epoch, first_block, OnInfo, HasEntered, IsEntered}
 use Rattle.dkg_core.specs.NodeEndings.{LacksNobody, IsFaultBy}
-use Rattle.dkg_core.specs.Forms.{IsForm, IsLiveIn, IsActiveIn, ComesOver, Finds, IsSetupFault, IsSeated, share_read, seed_read, started, IsOpeningStop, IsSetUpIn, IsOpened, OpeningsLead, held_behind, LeavesHeld, set_up_by, OpeningsLeadOver, HalvesBegin, IsNodeBegun, NodeOpeningsLead, NodeOpeningsLeadOver}
+use Rattle.dkg_core.specs.Forms.{IsForm, IsLiveIn, IsActiveIn, ComesOver, FindsHeld, IsSetupFault, IsSeated, share_read, seed_read, started, IsOpeningStop, IsSetUpIn, IsOpened, OpeningsLead, held_behind, LeavesHeld, set_up_by, OpeningsLeadOver, HalvesBegin, IsNodeBegun, NodeOpeningsLead, NodeOpeningsLeadOver}
 use Rattle.dkg_core.proofs.Splitting.{came_to}
 use Rattle.dkg_core.proofs.Setups.{over_if, over_asks, comes_anywhere, came_over, over_as, over_behind, over_under, records_again, setups_come_to}
 
@@ -60,16 +60,16 @@ LeavesOver c devices k left (Some b) = IsSomeAnd (info_of b.payload) (λ info. l
 
 module _ {Dir : Type 0} (c : Fixed Dir) (form : IsForm c) (devices : Option Held) where
   abbrev F : Fault → Type 0
-  F fault = (h k : Held) × Finds devices h × Finds devices k × IsOpeningStop c (c.seen h) k fault
+  F fault = (h k : Held) × FindsHeld devices h × FindsHeld devices k × IsOpeningStop c (c.seen h) k fault
 
   abbrev G : Live Dir → Option Held → Type 0
-  G st left = (h k : Held) × Finds devices h × Finds devices k × IsOpened c (c.seen h) k st × LeavesOver c devices k left (first_block c)
+  G st left = (h k : Held) × FindsHeld devices h × FindsHeld devices k × IsOpened c (c.seen h) k st × LeavesOver c devices k left (first_block c)
 
   past_range : (tip : Option Tip) → option_map_or (λ t. s.is_past_range c (t.height + 1)) tip false ≡ true → s.is_past_range c (option_map_or (λ t. t.height + 1) tip 0) ≡ true
   past_range None e = absurd (let t : ◌≡◌ {A = Bool} false true = e in cc)
   past_range (Some t) e = e
 
-  module _ (h : Held) (found : Finds devices h) where
+  module _ (h : Held) (found : FindsHeld devices h) where
     abbrev seen : Seen
     seen = c.seen h
 
@@ -113,8 +113,8 @@ module _ {Dir : Type 0} (c : Fixed Dir) (form : IsForm c) (devices : Option Held
 
         by_info : ComesOver F G (s.with_info c None s.Uncommitted info fresh) devices
         by_info =
-            over_as (λ fault. (k : Held) × Finds devices k × IsSetupFault c (first_epoch c) info (share_read c info k) (seed_read c info k) fresh fault) F
-            (λ end left. (k : Held) × Finds devices k × IsSeated c s.Uncommitted info (share_read c info k) (seed_read c info k) fresh end
+            over_as (λ fault. (k : Held) × FindsHeld devices k × IsSetupFault c (first_epoch c) info (share_read c info k) (seed_read c info k) fresh fault) F
+            (λ end left. (k : Held) × FindsHeld devices k × IsSeated c s.Uncommitted info (share_read c info k) (seed_read c info k) fresh end
             × (left ≡ option_map (set_up_by s.Uncommitted (first_epoch c) info (share_read c info k) (seed_read c info k)) devices)) G (s.with_info c None s.Uncommitted info fresh) devices
             (λ fault stop. (h, stop.0, found, stop.1, stops_by stop.0 fault stop.2))
             (λ end left seated. (h, seated.0, found, seated.1, opened seated.0 end seated.2, leaves seated.0 left seated.3))
@@ -137,7 +137,7 @@ module _ {Dir : Type 0} (c : Fixed Dir) (form : IsForm c) (devices : Option Held
       from_boundary (Some block) is = from_info block is (info_of block.payload) refl
 
     abbrev start_of_life : Live Dir
-    start_of_life = begun seen
+    start_of_life = begun_life seen
 
     abbrev next : Option (Material Dir) → Course Dir Fault (Live Dir)
     next kept = p.in_range c (p.resolves_plan c (p.starts_from c start_of_life) kept)
@@ -157,8 +157,8 @@ module _ {Dir : Type 0} (c : Fixed Dir) (form : IsForm c) (devices : Option Held
         (subst (λ (m : Option (Material Dir)). ComesOver F G (p.finds_material c m next) devices) (sym form.bare)
         (over_asks F G devices (λ k. p.reads_plan c (c.seen k).plan next) (λ k of_k. subst (λ (plan : Option (List ℕ)). ComesOver F G (p.reads_plan c plan next) devices) (sym (form.unplanned k)) goes)))
 
-  reads : ComesOver F G (s.looks c (λ seen. Say (lines.Opened c.life (map restored_of seen.dealings)) (opens_in c c.oneshot (begun seen)))) devices
-  reads = over_asks F G devices (λ h. Say (lines.Opened c.life (map restored_of (c.seen h).dealings)) (opens_in c c.oneshot (begun (c.seen h)))) (λ h found. opens h found)
+  reads : ComesOver F G (s.looks c (λ seen. Say (lines.Opened c.life (map restored_of seen.dealings)) (opens_in c c.oneshot (begun_life seen)))) devices
+  reads = over_asks F G devices (λ h. Say (lines.Opened c.life (map restored_of (c.seen h).dealings)) (opens_in c c.oneshot (begun_life (c.seen h)))) (λ h found. opens h found)
 
 -- what the reads of an opening find
 abbrev behind : {Dir : Type 0} → Fixed Dir → Option Held → Option Held
@@ -336,7 +336,7 @@ module _ {Dir : Type 0} (c : Fixed Dir) (form : IsForm c) (full : LacksNobody c)
   Node_stops = IsFaultBy (F c form devices)
 
   abbrev Node_goes : Live Dir → Option Held → Type 0
-  Node_goes st left = (h k : Held) × Finds devices h × Finds devices k × IsNodeBegun c (c.seen h) k st × LeavesOver c devices k left (first_block c)
+  Node_goes st left = (h k : Held) × FindsHeld devices h × FindsHeld devices k × IsNodeBegun c (c.seen h) k st × LeavesOver c devices k left (first_block c)
 
   half_behind : (before : Live Dir) (left : Option Held) → G c form devices before left → ComesOver Node_stops Node_goes (bind (half.opens_half c None before) (λ half. Goes half.live)) left
   half_behind before left found =

@@ -38,7 +38,7 @@ use Rattle.dkg_core.specs.Setup as s
 use Rattle.dkg_core.specs.Dealing as d
 use Rattle.dkg_core.specs.Including as i
 use Rattle.dkg_core.specs.Blocks as b
-use Rattle.dkg_core.specs.Laws.{Law, Holds, IsSilent, PrunesAtMost, prune_law, OtherLine, OtherOperation, OfHalves, OfOffers, IsAmong, IsOwn, IsOffered, other_law, OthersAcknowledgeNothing}
+use Rattle.dkg_core.specs.Laws.{Law, Holds, IsSilent, PrunesAtMost, prune_law, OtherLine, OtherOperation, OfHalves, OfOffers, IsAmong, IsDealtToItself, IsOffered, other_law, OthersAcknowledgeNothing}
 use Rattle.dkg_core.proofs.Holding.{holds_as, holds_bind, holds_if, holds_option}
 use Rattle.dkg_core.proofs.Pruning.{setups_prune}
 use Rattle.dkg_core.proofs.Unsent.{all_as, found_among, IsUnsent, are_unsent}
@@ -400,9 +400,9 @@ module _ {Dir : Type 0} (c : Fixed Dir) (own : OfHalves) (offered : OfOffers) (b
   delivers past st Follows owns = in_range past st owns
   delivers past st Ends owns = tt
 
-owns : {Dir : Type 0} (c : Fixed Dir) (st : Live Dir) (most : ℕ) → Owns c (IsOwn c st) (IsOffered c st) most st
+owns : {Dir : Type 0} (c : Fixed Dir) (st : Live Dir) (most : ℕ) → Owns c (IsDealtToItself c st) (IsOffered c st) most st
 owns c st most round dealer is_round is_dealer =
-    all_as (IsUnsent dealer.acks dealer.privates round.players) (λ p. (p.0 ≡ c.me → IsOwn c st round.number dealer.public p.1) × ((p.0 ≡ c.me → ⊥) → IsOffered c st round.number p.0 dealer.public p.1))
+    all_as (IsUnsent dealer.acks dealer.privates round.players) (λ p. (p.0 ≡ c.me → IsDealtToItself c st round.number dealer.public p.1) × ((p.0 ≡ c.me → ⊥) → IsOffered c st round.number p.0 dealer.public p.1))
     (λ p is. (
       (λ me. record {
         round = round;
@@ -429,12 +429,12 @@ owns c st most round dealer is_round is_dealer =
     (s.unsent round dealer) (are_unsent dealer.acks dealer.privates round.players)
 
 pub others_acknowledge_nothing : {Dir : Type 0} → OthersAcknowledgeNothing Dir
-others_acknowledge_nothing c st (Finalized block) other = delivers c (IsOwn c st) (IsOffered c st) block [] st st.participation.stage (owns c st (reach c (IsOwn c st) (IsOffered c st) block))
+others_acknowledge_nothing c st (Finalized block) other = delivers c (IsDealtToItself c st) (IsOffered c st) block [] st st.participation.stage (owns c st (reach c (IsDealtToItself c st) (IsOffered c st) block))
 others_acknowledge_nothing c st (Sent (Peer from bytes)) other = absurd other
-others_acknowledge_nothing c st (Sent (NextLog request height)) other = serves c (IsOwn c st) (IsOffered c st) 0 [] request height (i.served_now st) (with_used request st)
+others_acknowledge_nothing c st (Sent (NextLog request height)) other = serves c (IsDealtToItself c st) (IsOffered c st) 0 [] request height (i.served_now st) (with_used request st)
 others_acknowledge_nothing c st (Sent (ReleaseLog height)) other = tt
-others_acknowledge_nothing c st (Sent (EpochInfoOf request)) other = asks_in c (IsOwn c st) (IsOffered c st) 0 [] request (with_used request st) st.participation.stage
-others_acknowledge_nothing c st (Sent (Feed request block)) other = advanced c (IsOwn c st) (IsOffered c st) 0 [] (i.changed request (λ r. if r.ended then r else record r { blocks = r.blocks ++ block ∷ [] }) st)
-others_acknowledge_nothing c st (Sent (Over request)) other = advanced c (IsOwn c st) (IsOffered c st) 0 [] (i.changed request (λ r. record r { ended = true }) st)
-others_acknowledge_nothing c st (Sent (Cancel request)) other = cancels c (IsOwn c st) (IsOffered c st) 0 [] request st
-others_acknowledge_nothing c st (Sent (Work handed)) other = works c (IsOwn c st) (IsOffered c st) 0 [] handed st
+others_acknowledge_nothing c st (Sent (EpochInfoOf request)) other = asks_in c (IsDealtToItself c st) (IsOffered c st) 0 [] request (with_used request st) st.participation.stage
+others_acknowledge_nothing c st (Sent (Feed request block)) other = advanced c (IsDealtToItself c st) (IsOffered c st) 0 [] (i.changed request (λ r. if r.ended then r else record r { blocks = r.blocks ++ block ∷ [] }) st)
+others_acknowledge_nothing c st (Sent (Over request)) other = advanced c (IsDealtToItself c st) (IsOffered c st) 0 [] (i.changed request (λ r. record r { ended = true }) st)
+others_acknowledge_nothing c st (Sent (Cancel request)) other = cancels c (IsDealtToItself c st) (IsOffered c st) 0 [] request st
+others_acknowledge_nothing c st (Sent (Work handed)) other = works c (IsDealtToItself c st) (IsOffered c st) 0 [] handed st

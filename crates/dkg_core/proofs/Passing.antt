@@ -19,7 +19,7 @@ use Rattle.dkg_core.specs.Live.{Live, Inclusion, Request, Artifact, Told, GaveNo
 use Rattle.dkg_core.specs.Setup as s
 use Rattle.dkg_core.specs.Blocks as b
 use Rattle.dkg_core.specs.Endings.{validity}
-use Rattle.dkg_core.specs.Forms.{IsForm, ComesOver, Finds, round_for, current_by, IsSetupFault, IsSeated, share_read, seed_read, committed_by, set_up_by}
+use Rattle.dkg_core.specs.Forms.{IsForm, ComesOver, FindsHeld, round_for, current_by, IsSetupFault, IsSeated, share_read, seed_read, committed_by, set_up_by}
 use Rattle.dkg_core.specs.Stepping.{next_epoch}
 use Rattle.dkg_core.specs.Asked.{OfShares, FirstNeeds, IsAsked, IsEmptied, IsInformed}
 use Rattle.dkg_core.specs.Through.{unasked, IsLiveThrough, IsShareTaken, held_with, IsCarriedOn, IsPassedOn, IsPassingStop}
@@ -113,7 +113,7 @@ module _ {Dir : Type 0} (c : Fixed Dir) (form : IsForm c) (stored : OfShares) (b
           (λ e. each info is (same_number info.epoch expected e ∙ expected_is))
           (λ e. (expected_is, on_info info is (λ i. (info.epoch ≡ i.epoch) × (i.epoch ≡ next_epoch c block → ⊥)) (refl, λ same. other_number info.epoch expected e (same ∙ sym expected_is))))
 
-  module _ (info : EpochInfo Dir) (carries : info_of block.payload ≡ Some info) (of_next : info.epoch ≡ next_epoch c block) (h : Held) (found : Finds devices h) (share : Option ℕ)
+  module _ (info : EpochInfo Dir) (carries : info_of block.payload ≡ Some info) (of_next : info.epoch ≡ next_epoch c block) (h : Held) (found : FindsHeld devices h) (share : Option ℕ)
       (shared : IsShareTaken c stored st h info share st.participation.stage) where
     awaited : epoch_of c.blocks_per_epoch (block.height + 1) ≡ next_epoch c block
     awaited = next_last c.blocks_per_epoch block.height form.counted last
@@ -125,11 +125,11 @@ module _ {Dir : Type 0} (c : Fixed Dir) (form : IsForm c) (stored : OfShares) (b
     behind_at : option_map (committed_by s.Uncommitted info share (seed_read c info h)) devices ≡ behind
     behind_at = either devices found
       where
-        either : (o : Option Held) → Finds o h → option_map (committed_by s.Uncommitted info share (seed_read c info h)) o ≡ option_map (held_with c info share) o
+        either : (o : Option Held) → FindsHeld o h → option_map (committed_by s.Uncommitted info share (seed_read c info h)) o ≡ option_map (held_with c info share) o
         either None found = refl
         either (Some held) found = ap (λ (x : Held). Some (committed_by s.Uncommitted info share (seed_read c info x) held)) found
 
-    abbrev carried_on : (k : Held) → Finds behind k → IsCarriedOn c stored block st devices
+    abbrev carried_on : (k : Held) → FindsHeld behind k → IsCarriedOn c stored block st devices
     carried_on k between = record { info = info; carried = carries; of_next = of_next; h = h; found = found; share = share; shared = shared; k = k; between = between }
 
     -- the life behind the registration, with an inclusion
@@ -144,15 +144,15 @@ module _ {Dir : Type 0} (c : Fixed Dir) (form : IsForm c) (stored : OfShares) (b
       empty = record { served = refl; queue = refl; running = refl; waiter = refl; retained = refl; cached = refl }
 
       abbrev of_setup : Fault → Type 0
-      of_setup fault = (k : Held) × Finds behind k × IsSetupFault c before.participation.epoch info (share_read c info k) (seed_read c info k) before fault
+      of_setup fault = (k : Held) × FindsHeld behind k × IsSetupFault c before.participation.epoch info (share_read c info k) (seed_read c info k) before fault
 
       abbrev set_up : Live Dir → Option Held → Type 0
       set_up end left =
-          (k : Held) × Finds behind k × IsSeated c s.WasCommitted info (share_read c info k) (seed_read c info k) (unasked before) (unasked end) × (end.inclusion ≡ before.inclusion)
+          (k : Held) × FindsHeld behind k × IsSeated c s.WasCommitted info (share_read c info k) (seed_read c info k) (unasked before) (unasked end) × (end.inclusion ≡ before.inclusion)
           × (left ≡ option_map (set_up_by s.WasCommitted before.participation.epoch info (share_read c info k) (seed_read c info k)) behind)
 
       -- a fault of the setup is no other one of the info
-      fault_at : (k : Held) → Finds behind k → (fault : Fault) → IsSetupFault c before.participation.epoch info (share_read c info k) (seed_read c info k) before fault → PassingStop fault
+      fault_at : (k : Held) → FindsHeld behind k → (fault : Fault) → IsSetupFault c before.participation.epoch info (share_read c info k) (seed_read c info k) before fault → PassingStop fault
       fault_at k between (WrongEpoch epoch got) stop = absurd (stop.2 (of_next ∙ sym awaited))
       fault_at k between HeightRange stop = absurd stop
       fault_at k between (MissingEpochInfo height) stop = absurd stop

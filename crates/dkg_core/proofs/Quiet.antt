@@ -15,8 +15,8 @@ use Rattle.dkg_core.specs.Seen.{Seen}
 use Rattle.dkg_core.specs.Fixed.{Fixed}
 use Rattle.dkg_core.specs.Live.{Live, Message, Sent, Peer, Finalized, NextLog, ReleaseLog, EpochInfoOf, Feed, Over, Cancel, Work, awaited_height}
 use Rattle.dkg_core.specs.Setup.{setup}
-use Rattle.dkg_core.specs.Core.{opening, step, opens_in, begun}
-use Rattle.dkg_core.specs.Laws.{Law, Holds, Anything, IsQuiet, IsSilent, PeerLine, peer_law, OtherLine, OfHalves, OfOffers, IsOwn, IsOffered, other_law, prune_law, reach_of}
+use Rattle.dkg_core.specs.Core.{opening, step, opens_in, begun_life}
+use Rattle.dkg_core.specs.Laws.{Law, Holds, Anything, IsQuiet, IsSilent, PeerLine, peer_law, OtherLine, OfHalves, OfOffers, IsDealtToItself, IsOffered, other_law, prune_law, reach_of}
 use Rattle.dkg_core.specs.Transcripts.{lines_of, StepsAreQuiet, BeginsOpened, OpeningsAreQuiet}
 use Rattle.dkg_core.proofs.Hearing.{heard}
 use Rattle.dkg_core.proofs.Holding.{holds_as}
@@ -59,8 +59,8 @@ module _ {Dir : Type 0} (c : Fixed Dir) (st : Live Dir) (ended : Ended Fault (Li
       let front = lines_obey law [] (step c message st) ended old new holds said in
       (lines_of front.deeds, front.added, all_lines law IsQuiet so [] front.deeds front.obeys)
 
-  of_other : (message : Message Dir) → Holds (other_law c (IsOwn c st) (IsOffered c st) (reach_of c message)) [] (step c message st) → SaysBy (on_devices (step c message st)) ended old new → AddsQuiet
-  of_other message holds said = of_law (other_law c (IsOwn c st) (IsOffered c st) (reach_of c message)) message (other_quiet c (IsOwn c st) (IsOffered c st)) holds said
+  of_other : (message : Message Dir) → Holds (other_law c (IsDealtToItself c st) (IsOffered c st) (reach_of c message)) [] (step c message st) → SaysBy (on_devices (step c message st)) ended old new → AddsQuiet
+  of_other message holds said = of_law (other_law c (IsDealtToItself c st) (IsOffered c st) (reach_of c message)) message (other_quiet c (IsDealtToItself c st) (IsOffered c st)) holds said
 
   each : (message : Message Dir) → SaysBy (on_devices (step c message st)) ended old new → AddsQuiet
   each (Finalized b) said = of_other (Finalized b) (others_acknowledge_nothing c st (Finalized b) tt) said
@@ -94,14 +94,14 @@ module _ {Dir : Type 0} (c : Fixed Dir) where
   }
 
   abbrev rest_of : Seen → Course Dir Fault (Live Dir)
-  rest_of seen = opens_in c c.oneshot (begun seen)
+  rest_of seen = opens_in c c.oneshot (begun_life seen)
 
   abbrev first_line : Seen → Line
   first_line seen = Opened c.life (map restored_of seen.dealings)
 
   rest_quiet : (seen : Seen) (ended : Ended Fault (Live Dir)) (lines : List Line) → said.SaysBy (on_devices (rest_of seen)) ended lines → AllByRecursion IsQuiet lines
   rest_quiet seen ended lines by =
-      let front = lines_obey quiet_law [] (rest_of seen) ended [] lines (opens c quiet_law (λ height. Unit {0}) reaching [] c.oneshot (begun seen)) (record { lines = lines; added = refl; by = by }) in
+      let front = lines_obey quiet_law [] (rest_of seen) ended [] lines (opens c quiet_law (λ height. Unit {0}) reaching [] c.oneshot (begun_life seen)) (record { lines = lines; added = refl; by = by }) in
       subst (AllByRecursion IsQuiet) (sym front.added) (all_lines {S = Live Dir} quiet_law IsQuiet (λ past line h. h) [] front.deeds front.obeys)
 
   begins : (seen : Seen) (ended : Ended Fault (Live Dir)) (lines rest : List Line) → lines ≡ first_line seen ∷ rest → said.SaysBy (on_devices (rest_of seen)) ended rest → BeginsOpened c.life lines ended

@@ -6,7 +6,7 @@ use Rattle.dkg_values.specs.Rising.{lookup}
 use Rattle.dkg_ceremony.specs.declared.round.RoundParts.{RoundParts as Round}
 use Rattle.dkg_ceremony.specs.declared.signed_log.SignedDealerLog.{SignedDealerLog}
 use Rattle.dkg_ceremony.specs.Schedule.{epoch_of}
-use Rattle.dkg_journal.specs.Records.{Entry, placed, from_section}
+use Rattle.dkg_journal.specs.Records.{SectionEntry, placed, from_section}
 use Rattle.dkg_secrets.proofs.Map.{keys_total, exact_keys, same_key, get_here, get_other}
 use Rattle.dkg_types.specs.Blocks.{Block}
 use Rattle.dkg_types.specs.PayloadCodes.{its_log}
@@ -46,17 +46,17 @@ module _ {Dir : Type 0} (c : Fixed Dir) (st : Live Dir) (block : Block Dir) (mos
   held = logs_in (notes w.held)
 
   -- every log is what it was, or is the block's
-  abbrev R : List Entry → Type 0
+  abbrev R : List SectionEntry → Type 0
   R es = (key : ℕ × ℕ) → most ≤ key.0 → (get (noted noted_log es) key ≡ get held key) ⊎ IsRecordedNow c st block key (get (noted noted_log es) key)
 
   -- .. of which the same is noted
-  still : (es more : List Entry) (key : ℕ × ℕ) → get (noted noted_log more) key ≡ get (noted noted_log es) key
+  still : (es more : List SectionEntry) (key : ℕ × ℕ) → get (noted noted_log more) key ≡ get (noted noted_log es) key
       → (get (noted noted_log es) key ≡ get held key) ⊎ IsRecordedNow c st block key (get (noted noted_log es) key)
       → (get (noted noted_log more) key ≡ get held key) ⊎ IsRecordedNow c st block key (get (noted noted_log more) key)
   still es more key same (inl was) = inl (same ∙ was)
   still es more key same (inr now) = inr (subst (λ (o : Option RecordedLog). IsRecordedNow c st block key o) (sym same) now)
 
-  silent : (e : Entry) (es : List Entry) → noted_log e ≡ None → R es → R (placed es e)
+  silent : (e : SectionEntry) (es : List SectionEntry) → noted_log e ≡ None → R es → R (placed es e)
   silent e es none was key above = still es (placed es e) key (ap (λ (m : Notes RecordedLog). get m key) (noted_silent noted_log e es none)) (was key above)
 
   keeps : KeepsNotes R most
@@ -85,7 +85,7 @@ module _ {Dir : Type 0} (c : Fixed Dir) (st : Live Dir) (block : Block Dir) (mos
       abbrev its_key : ℕ × ℕ
       its_key = (round.number, log.dealer)
 
-      abbrev its_entry : Entry
+      abbrev its_entry : SectionEntry
       its_entry = (round.number, event_spelling (log_event log.dealer block.height log.log))
 
       recorded : recorded_at st.records.logs round.number log.dealer ≡ None → R (placed (notes w.held) its_entry)

@@ -30,7 +30,7 @@ use Rattle.dkg_core.specs.Setup as s
 use Rattle.dkg_core.specs.Plans as p
 use Rattle.dkg_core.specs.OneShots as o
 use Rattle.dkg_core.specs.Blocks.{ends_once}
-use Rattle.dkg_core.specs.Core.{opening, opens_in, begun}
+use Rattle.dkg_core.specs.Core.{opening, opens_in, begun_life}
 use Rattle.dkg_core.specs.Laws.{StartsWithin}
 use Rattle.dkg_core.specs.Behind.{IsAside}
 use Rattle.dkg_core.specs.Enduring.{AckOf, IsSaidFrom, IsKeptFrom, OpeningsEndure}
@@ -150,10 +150,10 @@ module _ {Dir : Type 0} (c : Fixed Dir) (ack_of : AckOf) (most : ℕ) (base : Li
 
   -- the barrier, the journal's opening, the line with what was restored
   abbrev restores : Course Dir Fault (Live Dir)
-  restores = s.looks c (λ seen. Say (Opened c.life (map restored_of seen.dealings)) (opens_in c c.oneshot (begun seen)))
+  restores = s.looks c (λ seen. Say (Opened c.life (map restored_of seen.dealings)) (opens_in c c.oneshot (begun_life seen)))
 
   restored : (w : World) → P w → Throughout P restores w
-  restored w q = (q, opens c.oneshot (begun (c.seen w.held)) (says w _) (tell w _ tt q))
+  restored w q = (q, opens c.oneshot (begun_life (c.seen w.held)) (says w _) (tell w _ tt q))
 
   openings : (w : World) → P w → Throughout P (opening c) w
   openings w q =

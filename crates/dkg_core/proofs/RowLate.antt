@@ -23,7 +23,7 @@ use Rattle.dkg_types.specs.declared.entry.Part.TheVariants.{Player, Observer}
 use Rattle.dkg_types.specs.declared.entry.Restored.{Restored}
 use Rattle.dkg_types.specs.declared.entry.Role.TheVariants.{Member}
 use Rattle.dkg_types.specs.Validation.{validation}
-use Rattle.dkg_journal.specs.Records.{Entry}
+use Rattle.dkg_journal.specs.Records.{SectionEntry}
 use Rattle.dkg_values.specs.declared.name.Name.TheVariants.{Segment}
 use Rattle.dkg_store.specs.Acts.{OnDisk}
 use Rattle.dkg_journal.specs.Operations.{Bars, Opens}
@@ -39,7 +39,7 @@ use Rattle.dkg_core.proofs.Worked.{Dir, life_of, above, genesis, of_setup, body,
 abbrev pub log : DealerLog
 log = record { public = 15 ∷ 7 ∷ 1 ∷ []; entries = Ack ack_of_dealt ∷ Reveal 33 ∷ Reveal 45 ∷ Reveal 59 ∷ [] }
 
-abbrev pub journal : List Entry
+abbrev pub journal : List SectionEntry
 journal = (0, body) ∷ (0, event_spelling (events.Log 2 log)) ∷ []
 
 -- the tip stands at height 4

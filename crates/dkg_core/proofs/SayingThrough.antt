@@ -52,7 +52,7 @@ use Rattle.dkg_core.specs.Laws.{IsAmong}
 use Rattle.dkg_core.specs.Endings.{validity}
 use Rattle.dkg_core.specs.Forms.{IsForm, Applied, judged_block, ComesOver, round_for, share_read, seed_read}
 use Rattle.dkg_core.specs.Stepping.{IsDealingStop, given_itself, next_epoch}
-use Rattle.dkg_core.specs.Asked.{OfShares, Reads, IsArtifactIn, IsResultIn, IsJobIn, HasAsked, IsInformed, IsAskStop, IsMadeIn}
+use Rattle.dkg_core.specs.Asked.{OfShares, ReadsShare, IsArtifactIn, IsResultIn, IsJobIn, HasAsked, IsInformed, IsAskStop, IsMadeIn}
 use Rattle.dkg_core.specs.Through.{IsFormThrough, IsLiveThrough, IsTakenThrough, IsShareTaken, cancelled, finished, included as included_life, observed, waits_for}
 use Rattle.dkg_core.specs.SayingThrough.{SaysSo, payload_by, IsAskedAnswer, IsReadAnswer, IsUnasked, IsMailLine, IsFinalAnswer, IsBlockAnswer, IsBlockLineThrough, StepsSayThrough}
 use Rattle.dkg_core.proofs.Advancing as adv
@@ -154,7 +154,7 @@ module _ {Dir F S : Type 0} (P : Line → Type 0) where
 
 -- WHERE REQUESTS ARE READ
 
-module _ {Dir : Type 0} (c : Fixed Dir) (form : IsForm c) (stored : OfShares) (reads : Reads c stored None) (st : Live Dir) (informed : IsInformed c st) (P : Line → Type 0) where
+module _ {Dir : Type 0} (c : Fixed Dir) (form : IsForm c) (stored : OfShares) (reads : ReadsShare c stored None) (st : Live Dir) (informed : IsInformed c st) (P : Line → Type 0) where
   abbrev with : Inclusion Dir → Live Dir
   with its = with_inclusion its st
 
@@ -383,7 +383,7 @@ logs_of_result c (Some r) job = either (is_of_job r job) refl
     either true is = one_logs r.logs job.logs (last_of (same_round r.round job.round) (i.same_key r.me (i.its_key job)) (same_logs r.logs job.logs) is)
     either false is = refl
 
-module _ {Dir : Type 0} (c : Fixed Dir) (form : IsFormThrough c) (stored : OfShares) (reads : Reads c stored None) (st : Live Dir) (live : IsLiveThrough c stored st) (P : Line → Type 0) where
+module _ {Dir : Type 0} (c : Fixed Dir) (form : IsFormThrough c) (stored : OfShares) (reads : ReadsShare c stored None) (st : Live Dir) (live : IsLiveThrough c stored st) (P : Line → Type 0) where
   abbrev its_life : Inclusion Dir → Live Dir
   its_life its = with_inclusion its st
 
@@ -537,7 +537,7 @@ module _ {Dir : Type 0} (c : Fixed Dir) (form : IsFormThrough c) (stored : OfSha
 
 -- A LIFE READS ITS REQUESTS
 
-module _ {Dir : Type 0} (c : Fixed Dir) (form : IsForm c) (stored : OfShares) (reads : Reads c stored None) (at : Live Dir) (informed : IsInformed c at) (has : HasAsked c stored at) (P : Line → Type 0)
+module _ {Dir : Type 0} (c : Fixed Dir) (form : IsForm c) (stored : OfShares) (reads : ReadsShare c stored None) (at : Live Dir) (informed : IsInformed c at) (has : HasAsked c stored at) (P : Line → Type 0)
     (so : (line : Line) → IsReadAnswer c at line → P line) where
   -- each answer is one of those
   pub reads_so : SaysSo P (i.advanced c at)
@@ -549,7 +549,7 @@ module _ {Dir : Type 0} (c : Fixed Dir) (form : IsForm c) (stored : OfShares) (r
 
 -- MAIL
 
-module _ {Dir : Type 0} (c : Fixed Dir) (form : IsFormThrough c) (stored : OfShares) (reads : Reads c stored None) (st : Live Dir) (live : IsLiveThrough c stored st) where
+module _ {Dir : Type 0} (c : Fixed Dir) (form : IsFormThrough c) (stored : OfShares) (reads : ReadsShare c stored None) (st : Live Dir) (live : IsLiveThrough c stored st) where
   has_now : HasAsked c stored st
   has_now = live.asked.has
 
@@ -628,7 +628,7 @@ module _ {Dir : Type 0} (c : Fixed Dir) (form : IsFormThrough c) (stored : OfSha
 
 -- A BLOCK
 
-module _ {Dir : Type 0} (c : Fixed Dir) (form : IsFormThrough c) (stored : OfShares) (reads : Reads c stored None) (st : Live Dir) (live : IsLiveThrough c stored st) (block : Block Dir) where
+module _ {Dir : Type 0} (c : Fixed Dir) (form : IsFormThrough c) (stored : OfShares) (reads : ReadsShare c stored None) (st : Live Dir) (live : IsLiveThrough c stored st) (block : Block Dir) where
   abbrev P : Line → Type 0
   P = IsBlockLineThrough c stored st block
 

@@ -31,7 +31,7 @@ use Rattle.dkg_core.specs.Logs.{logs_of}
 use Rattle.dkg_core.specs.Setup as s
 use Rattle.dkg_core.specs.Core.{no_inclusion}
 use Rattle.dkg_core.specs.Endings.{ComesTo, CameTo, stage_in, validity, seat_in}
-use Rattle.dkg_core.specs.Forms.{IsForm, IsMine, ComesOver, Finds, round_for, signed_in, dealer_by, dealer_in, IsDealable, IsSetupFault, current_by, orchestrator_by, IsSeated, share_read, seed_read, set_up_by, StoresBoth, SetupsStore, SetupsComeTo}
+use Rattle.dkg_core.specs.Forms.{IsForm, IsMine, ComesOver, FindsHeld, round_for, signed_in, dealer_by, dealer_in, IsDealable, IsSetupFault, current_by, orchestrator_by, IsSeated, share_read, seed_read, set_up_by, StoresBoth, SetupsStore, SetupsComeTo}
 use Rattle.dkg_core.specs.Asked.{IsEmptied}
 use Rattle.dkg_core.specs.Through.{unasked, SetupsComeThrough}
 use Rattle.dkg_core.proofs.Sound.{first_of_three}
@@ -44,7 +44,7 @@ module _ {Dir F S : Type 0} (stops : F → Type 0) (goes : S → Option Held →
   over_if devices true x y one other = one refl
   over_if devices false x y one other = other refl
 
-  pub over_asks : (devices : Option Held) (f : Held → Course Dir F S) → ((h : Held) → Finds devices h → ComesOver stops goes (f h) devices) → ComesOver stops goes (Ask f) devices
+  pub over_asks : (devices : Option Held) (f : Held → Course Dir F S) → ((h : Held) → FindsHeld devices h → ComesOver stops goes (f h) devices) → ComesOver stops goes (Ask f) devices
   over_asks (Some h) f each = each h refl
   over_asks None f each = λ h. each h tt
 
@@ -126,7 +126,7 @@ over_under name stops goes (Stops fault) devices comes = (fault, refl, comes)
 pub no_held : Held
 no_held = record { journaled = record { entries = []; plan = None; names = [] }; secrets = record { shares = empty; seeds = empty; privates = empty } }
 
-pub some_found : (devices : Option Held) → (h : Held) × Finds devices h
+pub some_found : (devices : Option Held) → (h : Held) × FindsHeld devices h
 some_found (Some h) = (h, refl)
 some_found None = (no_held, tt)
 
@@ -433,14 +433,14 @@ module _ {Dir : Type 0} (c : Fixed Dir) (form : IsForm c) (standing : s.Standing
 
   module _ (devices : Option Held) where
     abbrev Stops_by : Fault → Type 0
-    Stops_by fault = (h : Held) × Finds devices h × IsSetupFault c at_epoch info (share_read c info h) (seed_read c info h) st fault
+    Stops_by fault = (h : Held) × FindsHeld devices h × IsSetupFault c at_epoch info (share_read c info h) (seed_read c info h) st fault
 
     abbrev Goes_to : Live Dir → Option Held → Type 0
     Goes_to end left =
-        (h : Held) × Finds devices h × IsSeated c standing info (share_read c info h) (seed_read c info h) (unasked st) (unasked end) × (end.inclusion ≡ st.inclusion)
+        (h : Held) × FindsHeld devices h × IsSeated c standing info (share_read c info h) (seed_read c info h) (unasked st) (unasked end) × (end.inclusion ≡ st.inclusion)
         × (left ≡ option_map (set_up_by standing at_epoch info (share_read c info h) (seed_read c info h)) devices)
 
-    shared : (h : Held) → Finds devices h → info.epoch ≡ at_epoch → validity c info ≡ Ok tt → ComesOver Stops_by Goes_to (s.with_share_and_seed c None standing info (share_read c info h) (seed_read c info h) st) devices
+    shared : (h : Held) → FindsHeld devices h → info.epoch ≡ at_epoch → validity c info ≡ Ok tt → ComesOver Stops_by Goes_to (s.with_share_and_seed c None standing info (share_read c info h) (seed_read c info h) st) devices
     shared h found same valid =
         let share : Option ℕ = share_read c info h in
         let seed : List ℕ = seed_read c info h in
@@ -478,7 +478,7 @@ pub setups_come_to : {Dir : Type 0} → SetupsComeTo Dir
 setups_come_to c standing info st devices form awaited idle =
     let empty = subst IsEmptied (sym idle) nothing_asked in
     over_as (Stops_by c form standing info st awaited empty devices) (Stops_by c form standing info st awaited empty devices) (Goes_to c form standing info st awaited empty devices)
-    (λ end left. (h : Held) × Finds devices h × IsSeated c standing info (share_read c info h) (seed_read c info h) st end
+    (λ end left. (h : Held) × FindsHeld devices h × IsSeated c standing info (share_read c info h) (seed_read c info h) st end
     × (left ≡ option_map (set_up_by standing st.participation.epoch info (share_read c info h) (seed_read c info h)) devices)) (s.with_info c None standing info st) devices (λ fault stop. stop)
     (λ end left its. (its.0, its.1, seated_idle c standing info st idle (share_read c info its.0) (seed_read c info its.0) end its.2 its.3, its.4))
     (by_info c form standing info st awaited empty devices)

@@ -4,7 +4,7 @@ use Rattle.std.proofs.lemmas.Bool.Decides.{nat_tests}
 use Rattle.std.specs.FinMap.{get, retain_keys, get-retain_keys}
 use Rattle.dkg_journal.specs.Operations as of_journal
 use Rattle.dkg_journal.specs.Operations.{Bars, Opens, Appends, Prunes, PutsPlan, ClearsPlan, Journaled, InPart}
-use Rattle.dkg_journal.specs.Records.{Entry, from_section}
+use Rattle.dkg_journal.specs.Records.{SectionEntry, from_section}
 use Rattle.dkg_secrets.proofs.Map.{exact_keys}
 use Rattle.dkg_store.specs.Acts.{Held, Operation, OnDisk, Changes, World, notes, plan}
 use Rattle.dkg_store.specs.Noted.{Note, Notes, noted, noted_ack, noted_log, acks_in, logs_in}
@@ -48,12 +48,12 @@ opening_notes c most starts =
 reaches : (min n : ℕ) → min ≤ n → nat_le min n ≡ true
 reaches min n low = grind (arith, nat_tests, low)
 
-module _ {V : Type 0} (note_of : Entry → Option (Note V)) (from_is : (min : ℕ) (es : List Entry) → noted note_of (from_section min es) ≡ retain_keys (noted note_of es) (λ k. nat_le min k.0))
+module _ {V : Type 0} (note_of : SectionEntry → Option (Note V)) (from_is : (min : ℕ) (es : List SectionEntry) → noted note_of (from_section min es) ≡ retain_keys (noted note_of es) (λ k. nat_le min k.0))
     (most : ℕ) (key : ℕ × ℕ) (above : most ≤ key.0) where
   abbrev at_key : Journaled → Option V
   at_key j = get (noted note_of j.entries) key
 
-  kept_at : (min : ℕ) (es : List Entry) → min ≤ most → get (noted note_of (from_section min es)) key ≡ get (noted note_of es) key
+  kept_at : (min : ℕ) (es : List SectionEntry) → min ≤ most → get (noted note_of (from_section min es)) key ≡ get (noted note_of es) key
   kept_at min es low =
       ap (λ (m : Notes V). get m key) (from_is min es)
       ∙ get-retain_keys (noted note_of es) (λ (x : ℕ × ℕ). nat_le min x.0) key (λ x tied. ap (λ (y : ℕ × ℕ). nat_le min y.0) (sym (exact_keys key x tied)))
@@ -69,7 +69,7 @@ module _ {V : Type 0} (note_of : Entry → Option (Note V)) (from_is : (min : �
 
   notes_in_part : (op : of_journal.Operation) (j new : Journaled) → SparesNotes most (OnDisk op) → InPart op j new → at_key new ≡ at_key j
   notes_in_part Bars j new spares part = absurd part
-  notes_in_part (Opens calls) j new spares part = ap (λ (es : List Entry). get (noted note_of es) key) part.0
+  notes_in_part (Opens calls) j new spares part = ap (λ (es : List SectionEntry). get (noted note_of es) key) part.0
   notes_in_part (Appends e) j new spares part = absurd spares
   notes_in_part (Prunes min) j new spares part =
       ap (λ (x : Journaled). get (noted note_of x.entries) key) part.2 ∙ kept_at part.0 j.entries (let least = part.1 in omega (arith, least, spares))

@@ -27,8 +27,8 @@ use Rattle.dkg_core.specs.Live.{Live, Dealer, Seat, Plays, Watches, Stage, Deals
 use Rattle.dkg_core.specs.Setup as s
 use Rattle.dkg_core.specs.Dealing as d
 use Rattle.dkg_core.specs.Plans as p
-use Rattle.dkg_core.specs.Core.{opening, step, opens_in, begun}
-use Rattle.dkg_core.specs.Laws.{Law, Holds, Keeps, Anything, PrunesAtMost, prune_law}
+use Rattle.dkg_core.specs.Core.{opening, step, opens_in, begun_life}
+use Rattle.dkg_core.specs.Laws.{Law, Holds, LawKeeps, Anything, PrunesAtMost, prune_law}
 use Rattle.dkg_core.proofs.Holding.{holds_as, holds_if, holds_option, along}
 use Rattle.dkg_core.proofs.Pruning.{setups_prune}
 
@@ -55,7 +55,7 @@ module _ {A : Type 0} (Spares : Operation → Type 0) (of : Journaled → A) (ke
   torn cause (OnDisk op) w new spares tears = left op w.held.journaled new.held.journaled spares tears.torn.1
   torn cause (Changes op) w new spares tears = ap of tears.torn.0
 
-  keeps : {Dir S : Type 0} (h : Held) → Keeps (sparing {Dir = Dir} {S = S} Spares) (Stays h)
+  keeps : {Dir S : Type 0} (h : Held) → LawKeeps (sparing {Dir = Dir} {S = S} Spares) (Stays h)
   keeps h = record {
     said = λ past w line law stays. stays;
     done = λ past w op law stays. done op w law ∙ stays;
@@ -125,7 +125,7 @@ module _ {Dir : Type 0} (c : Fixed Dir) (reshare : c.oneshot ≡ None) (bare : c
       (λ k. subst (λ (found : Option (List ℕ)). Holds plans past (p.reads_plan c found (next st))) (sym (unplanned k)) (goes past st)))
 
   pub opening_plan : Holds plans [] (opening c)
-  opening_plan = (tt, (tt, λ h. (tt, opens _ (begun (c.seen h)))))
+  opening_plan = (tt, (tt, λ h. (tt, opens _ (begun_life (c.seen h)))))
 
 -- A PEER'S MESSAGE puts a private half, and appends the record of a dealing or of an acknowledgement of its sender
 

@@ -19,7 +19,7 @@ use Rattle.dkg_core.specs.Setup as s
 use Rattle.dkg_core.specs.Blocks as b
 use Rattle.dkg_core.specs.Core.{no_inclusion}
 use Rattle.dkg_core.specs.Endings.{stage_in}
-use Rattle.dkg_core.specs.Forms.{IsForm, IsLiveIn, ComesOver, Finds, IsSetupFault, IsSeated, share_read, seed_read, committed_by, set_up_by}
+use Rattle.dkg_core.specs.Forms.{IsForm, IsLiveIn, ComesOver, FindsHeld, IsSetupFault, IsSeated, share_read, seed_read, committed_by, set_up_by}
 use Rattle.dkg_core.specs.Stepping.{next_epoch, taken_over, held_committed, held_behind_commit, IsTakeoverStop, IsTakenOver, IsFollowedEnd}
 use Rattle.dkg_core.proofs.Heights.{next_last}
 use Rattle.dkg_core.proofs.Setups.{over_if, over_asks, over_as, some_found, setups_come_to}
@@ -57,14 +57,14 @@ module _ {Dir : Type 0} (c : Fixed Dir) (form : IsForm c) (block : Block Dir) (s
 
   -- what the devices held as the info was committed, and as it was set up
   abbrev Stop : Fault → Type 0
-  Stop fault = (h k : Held) × Finds devices h × Finds (option_map (held_behind_commit c block) devices) k × IsTakeoverStop c block st h k fault
+  Stop fault = (h k : Held) × FindsHeld devices h × FindsHeld (option_map (held_behind_commit c block) devices) k × IsTakeoverStop c block st h k fault
 
   abbrev pub Taken : Held → Held → Type 0
   Taken k now = IsSomeAnd (info_of block.payload) (λ info. now ≡ set_up_by s.WasCommitted (next_epoch c block) info (share_read c info k) (seed_read c info k) k)
 
   abbrev To : Live Dir → Option Held → Type 0
   To end left =
-      (h k : Held) × Finds devices h × Finds (option_map (held_behind_commit c block) devices) k × IsLiveIn c end × IsTakenOver c block st h k end × IfLeft left (Taken k)
+      (h k : Held) × FindsHeld devices h × FindsHeld (option_map (held_behind_commit c block) devices) k × IsLiveIn c end × IsTakenOver c block st h k end × IfLeft left (Taken k)
 
   module _ (last : is_last_height c block.height ≡ true) (info : EpochInfo Dir) (carries : info_of block.payload ≡ Some info) (of_next : info.epoch ≡ next_epoch c block) where
     on_info : (P : EpochInfo Dir → Type 0) → P info → IsSomeAnd (info_of block.payload) P
@@ -80,7 +80,7 @@ module _ {Dir : Type 0} (c : Fixed Dir) (form : IsForm c) (block : Block Dir) (s
     behind_is : option_map (held_behind_commit c block) devices ≡ behind
     behind_is = ap (λ (o : Option (EpochInfo Dir)). option_map (λ h. option_map_or (λ x. held_committed c x h) o h) devices) carries
 
-    module _ (h : Held) (found : Finds devices h) where
+    module _ (h : Held) (found : FindsHeld devices h) where
       abbrev share : Option ℕ
       share = share_read c info h
 
@@ -93,20 +93,20 @@ module _ {Dir : Type 0} (c : Fixed Dir) (form : IsForm c) (block : Block Dir) (s
       behind_at : option_map (committed_by s.Uncommitted info share seed) devices ≡ behind
       behind_at = either devices found
         where
-          either : (o : Option Held) → Finds o h → option_map (committed_by s.Uncommitted info share seed) o ≡ option_map (held_committed c info) o
+          either : (o : Option Held) → FindsHeld o h → option_map (committed_by s.Uncommitted info share seed) o ≡ option_map (held_committed c info) o
           either None found = refl
           either (Some held) found = ap (λ (x : Held). Some (committed_by s.Uncommitted info (share_read c info x) (seed_read c info x) held)) found
 
       abbrev of_setup : Fault → Type 0
-      of_setup fault = (k : Held) × Finds behind k × IsSetupFault c before.participation.epoch info (share_read c info k) (seed_read c info k) before fault
+      of_setup fault = (k : Held) × FindsHeld behind k × IsSetupFault c before.participation.epoch info (share_read c info k) (seed_read c info k) before fault
 
       abbrev set_up : Live Dir → Option Held → Type 0
       set_up end left =
-          (k : Held) × Finds behind k × IsSeated c s.WasCommitted info (share_read c info k) (seed_read c info k) before end
+          (k : Held) × FindsHeld behind k × IsSeated c s.WasCommitted info (share_read c info k) (seed_read c info k) before end
           × (left ≡ option_map (set_up_by s.WasCommitted before.participation.epoch info (share_read c info k) (seed_read c info k)) behind)
 
-      as_found : (k : Held) → Finds behind k → Finds (option_map (held_behind_commit c block) devices) k
-      as_found k is = subst (λ (o : Option Held). Finds o k) (sym behind_is) is
+      as_found : (k : Held) → FindsHeld behind k → FindsHeld (option_map (held_behind_commit c block) devices) k
+      as_found k is = subst (λ (o : Option Held). FindsHeld o k) (sym behind_is) is
 
       -- a fault of the setup is no other one of the info
       fault_at : (k : Held) (fault : Fault) → IsSetupFault c before.participation.epoch info (share_read c info k) (seed_read c info k) before fault → IsTakeoverStop c block st h k fault
@@ -120,10 +120,10 @@ module _ {Dir : Type 0} (c : Fixed Dir) (form : IsForm c) (block : Block Dir) (s
       stopped : (fault : Fault) → of_setup fault → Stop fault
       stopped fault stop = (h, stop.0, found, as_found stop.0 stop.1, fault_at stop.0 fault stop.2)
 
-      left_at : (k : Held) (left : Option Held) → Finds behind k → left ≡ option_map (set_up_by s.WasCommitted before.participation.epoch info (share_read c info k) (seed_read c info k)) behind → IfLeft left (Taken k)
+      left_at : (k : Held) (left : Option Held) → FindsHeld behind k → left ≡ option_map (set_up_by s.WasCommitted before.participation.epoch info (share_read c info k) (seed_read c info k)) behind → IfLeft left (Taken k)
       left_at k left finds is = subst (λ (o : Option Held). IfLeft o (Taken k)) (sym is) (either behind finds)
         where
-          either : (o : Option Held) → Finds o k → IfLeft (option_map (set_up_by s.WasCommitted before.participation.epoch info (share_read c info k) (seed_read c info k)) o) (Taken k)
+          either : (o : Option Held) → FindsHeld o k → IfLeft (option_map (set_up_by s.WasCommitted before.participation.epoch info (share_read c info k) (seed_read c info k)) o) (Taken k)
           either None finds = tt
           either (Some held) finds =
               on_info (λ i. set_up_by s.WasCommitted before.participation.epoch info (share_read c info k) (seed_read c info k) held ≡ set_up_by s.WasCommitted (next_epoch c block) i (share_read c i k) (seed_read c i k) k)
@@ -172,7 +172,7 @@ module _ {Dir : Type 0} (c : Fixed Dir) (form : IsForm c) (block : Block Dir) (s
 
   -- A LAST BLOCK
 
-  known : (h k : Held) × Finds devices h × Finds (option_map (held_behind_commit c block) devices) k
+  known : (h k : Held) × FindsHeld devices h × FindsHeld (option_map (held_behind_commit c block) devices) k
   known = let first = some_found devices in let second = some_found (option_map (held_behind_commit c block) devices) in (first.0, second.0, first.1, second.1)
 
   abbrev expected : ℕ
@@ -195,11 +195,11 @@ module _ {Dir : Type 0} (c : Fixed Dir) (form : IsForm c) (block : Block Dir) (s
   -- ANY BLOCK
 
   abbrev pub FollowedStop : Fault → Type 0
-  FollowedStop fault = (h k : Held) × Finds devices h × Finds (option_map (held_behind_commit c block) devices) k × (is_last_height c block.height ≡ true) × IsTakeoverStop c block st h k fault
+  FollowedStop fault = (h k : Held) × FindsHeld devices h × FindsHeld (option_map (held_behind_commit c block) devices) k × (is_last_height c block.height ≡ true) × IsTakeoverStop c block st h k fault
 
   abbrev pub FollowedEnd : Live Dir → Option Held → Type 0
   FollowedEnd end left =
-      (h k : Held) × Finds devices h × Finds (option_map (held_behind_commit c block) devices) k × IsLiveIn c end × IsFollowedEnd c block st h k (is_last_height c block.height) end
+      (h k : Held) × FindsHeld devices h × FindsHeld (option_map (held_behind_commit c block) devices) k × IsLiveIn c end × IsFollowedEnd c block st h k (is_last_height c block.height) end
       × (is_last_height c block.height ≡ true → IfLeft left (Taken k))
 
   pub following_comes : ComesOver FollowedStop FollowedEnd (b.follows_at c block st) devices

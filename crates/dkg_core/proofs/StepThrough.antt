@@ -20,7 +20,7 @@ use Rattle.dkg_core.specs.Blocks as b
 use Rattle.dkg_core.specs.Core.{step}
 use Rattle.dkg_core.specs.Forms.{IsLiveIn, Judged, Applied, judged_block, ComesOver, share_read}
 use Rattle.dkg_core.specs.Stepping.{IsHeardBy, with_taken, own_half, with_own_dealing, with_own_ack, given_in, given_itself, IsDealingStop}
-use Rattle.dkg_core.specs.Asked.{OfShares, read_somewhere, Reads, InRound, HasAsked, IsInformed, IsAskStop, IsReadOn}
+use Rattle.dkg_core.specs.Asked.{OfShares, read_somewhere, ReadsShare, InRound, HasAsked, IsInformed, IsAskStop, IsReadOn}
 use Rattle.dkg_core.specs.Through.{IsFormThrough, IsLiveThrough, IsTakenThrough, IsReadFrom, IsShareTaken, IsAppliedStopThrough, IsBlockStopThrough, IsAppliedThrough, IsBlockThrough, IsFollowedThrough, IsIncludedThrough, IsStopThrough, IsNextThrough, StepReads, StepsComeThrough, StepsLeadThrough, StepsLeadThroughOver, WasAsked, asked_by, included, unasked}
 use Rattle.dkg_core.proofs.Advancing.{advances_lead}
 use Rattle.dkg_core.proofs.Applied.{judged_comes, deals_below, includes_above}
@@ -205,7 +205,7 @@ module _ {Dir : Type 0} (c : Fixed Dir) (form : IsFormThrough c) (stored : OfSha
   abbrev To : Stage → Live Dir → Option Held → Type 0
   To stage end left = IsLiveThrough c stored end × IsAppliedThrough c stored block st devices stage end left
 
-  reads_now : Reads c stored devices
+  reads_now : ReadsShare c stored devices
   reads_now h epoch found = reads h epoch (inl found)
 
   module _ (accepted : judged_block c block st ≡ Applied) where
@@ -391,7 +391,7 @@ module _ {Dir : Type 0} (c : Fixed Dir) (form : IsFormThrough c) (stored : OfSha
 -- A STEP
 
 module _ {Dir : Type 0} (c : Fixed Dir) (form : IsFormThrough c) (stored : OfShares) (st : Live Dir) (live : IsLiveThrough c stored st) (devices : Option Held) (reads : StepReads c stored devices) where
-  abbrev now_reads : Reads c stored devices
+  abbrev now_reads : ReadsShare c stored devices
   now_reads h epoch found = reads h epoch (inl found)
 
   abbrev Left : Message Dir → Live Dir → Option Held → Type 0

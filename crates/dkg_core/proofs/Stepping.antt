@@ -28,7 +28,7 @@ use Rattle.dkg_core.specs.Node.{node_step, unless_once}
 use Rattle.dkg_core.specs.Behind.{OnlySays, IsAside, IsSameBeside, event_of}
 use Rattle.dkg_core.specs.Endings.{ComesTo, CameTo, stage_in, answer_in}
 use Rattle.dkg_core.specs.NodeEndings.{IsFaultBy}
-use Rattle.dkg_core.specs.Forms.{IsForm, IsLiveIn, IsActiveIn, Judged, Refusal, Passed, Applied, judged_over, judged_block, IsTakenIn, ComesOver, Finds}
+use Rattle.dkg_core.specs.Forms.{IsForm, IsLiveIn, IsActiveIn, Judged, Refusal, Passed, Applied, judged_over, judged_block, IsTakenIn, ComesOver, FindsHeld}
 use Rattle.dkg_core.specs.Stepping.{with_taken, held_at_setup, given_itself, dealt_behind, IsDealingStop, IsFollowedEnd, IsAppliedStop, IsBlockStop, IsAppliedEnd, IsBlockEnd, IsStepStop, IsNextIn, IsHeardBy, LeavesTaken, StepsLead, StepsLeadOver, HalvesGoOn, NodeStepsLead, NodeStepsLeadOver, IsSameLife, NextLivesStay}
 use Rattle.dkg_core.proofs.Applied.{place_of, judged_comes}
 use Rattle.dkg_core.proofs.Behind.{heard_aside, block_aside}
@@ -92,14 +92,14 @@ module _ {Dir : Type 0} (c : Fixed Dir) (form : IsForm c) (st : Live Dir) (live 
 
   module _ (block : Block Dir) (taken : IsTakenIn c (Finalized block) st) where
     abbrev Stop : Fault → Type 0
-    Stop fault = (h k : Held) × Finds devices h × Finds (option_map (held_at_setup c (Finalized block)) devices) k × IsStepStop c st (Finalized block) h k fault
+    Stop fault = (h k : Held) × FindsHeld devices h × FindsHeld (option_map (held_at_setup c (Finalized block)) devices) k × IsStepStop c st (Finalized block) h k fault
 
     abbrev To : Live Dir → Option Held → Type 0
     To end left =
-        (h k : Held) × Finds devices h × Finds (option_map (held_at_setup c (Finalized block)) devices) k × IsNextIn c st (Finalized block) h k end
+        (h k : Held) × FindsHeld devices h × FindsHeld (option_map (held_at_setup c (Finalized block)) devices) k × IsNextIn c st (Finalized block) h k end
         × IfLeft left (LeavesTaken c st (Finalized block) k)
 
-    known : (h k : Held) × Finds devices h × Finds (option_map (held_at_setup c (Finalized block)) devices) k
+    known : (h k : Held) × FindsHeld devices h × FindsHeld (option_map (held_at_setup c (Finalized block)) devices) k
     known = let first = some_found devices in let second = some_found (option_map (held_at_setup c (Finalized block)) devices) in (first.0, second.0, first.1, second.1)
 
     refused : (fault : Fault) → judged_block c block st ≡ Refusal fault → Stop fault
@@ -228,11 +228,11 @@ module _ {Dir : Type 0} (c : Fixed Dir) (form : IsForm c) (st : Live Dir) (live 
 
 module _ {Dir : Type 0} (c : Fixed Dir) (form : IsForm c) (st : Live Dir) (live : IsLiveIn c st) (message : Message Dir) (devices : Option Held) where
   abbrev pub StepStop : Fault → Type 0
-  StepStop fault = (h k : Held) × Finds devices h × Finds (option_map (held_at_setup c message) devices) k × IsStepStop c st message h k fault
+  StepStop fault = (h k : Held) × FindsHeld devices h × FindsHeld (option_map (held_at_setup c message) devices) k × IsStepStop c st message h k fault
 
   abbrev pub StepTo : Live Dir → Option Held → Type 0
   StepTo end left =
-      (h k : Held) × Finds devices h × Finds (option_map (held_at_setup c message) devices) k × IsNextIn c st message h k end × IfLeft left (LeavesTaken c st message k)
+      (h k : Held) × FindsHeld devices h × FindsHeld (option_map (held_at_setup c message) devices) k × IsNextIn c st message h k end × IfLeft left (LeavesTaken c st message k)
 
 module _ {Dir : Type 0} (c : Fixed Dir) (form : IsForm c) (st : Live Dir) (live : IsLiveIn c st) (devices : Option Held) where
   steps_over : (message : Message Dir) → IsTakenIn c message st → ComesOver (StepStop c form st live message devices) (StepTo c form st live message devices) (step c message st) devices
@@ -515,10 +515,10 @@ module _ {Dir : Type 0} (c : Fixed Dir) (form : IsForm c) (st : Live Dir) (live 
   acked height half.Withholds end = refl
 
   answered : (block : Block Dir) (end : Live Dir) → IsBelow block end → end.orchestrator.waiting ≡ None
-      → ComesTo Never (λ now. now ≡ end) (unless_once c (bind (half.delivered c block end) (λ left. half.acked_at block.height left.answer left.live)) (Say (Acked block.height) (Goes end)))
+      → ComesTo Never (λ now. now ≡ end) (unless_once c (bind (half.takes_delivered c block end) (λ left. half.acked_at block.height left.answer left.live)) (Say (Acked block.height) (Goes end)))
   answered block end low none =
-      comes_unless (λ now. now ≡ end) (bind (half.delivered c block end) (λ left. half.acked_at block.height left.answer left.live)) (Say (Acked block.height) (Goes end))
-      (comes_behind Never (λ left. (left.live ≡ end) × (left.answer ≡ answer_in (half.active end.orchestrator))) (λ now. now ≡ end) (half.delivered c block end) (λ left. half.acked_at block.height left.answer left.live)
+      comes_unless (λ now. now ≡ end) (bind (half.takes_delivered c block end) (λ left. half.acked_at block.height left.answer left.live)) (Say (Acked block.height) (Goes end))
+      (comes_behind Never (λ left. (left.live ≡ end) × (left.answer ≡ answer_in (half.active end.orchestrator))) (λ now. now ≡ end) (half.takes_delivered c block end) (λ left. half.acked_at block.height left.answer left.live)
       (halves_go_on c end block low none) (λ left is. subst (λ (x : Live Dir). ComesTo Never (λ now. now ≡ x) (half.acked_at block.height left.answer left.live)) is.0 (acked block.height left.answer left.live))) refl
 
   module _ (message : Message Dir) (devices : Option Held) where
@@ -546,7 +546,7 @@ module _ {Dir : Type 0} (c : Fixed Dir) (form : IsForm c) (st : Live Dir) (live 
   node_over (Finalized block) devices taken =
       let message : Message Dir = Finalized block in
       let first = StepTo c form st live message devices in
-      let next : Live Dir → Course Dir NodeStop (Live Dir) = λ end. unless_once c (bind (half.delivered c block end) (λ left. half.acked_at block.height left.answer left.live)) (Say (Acked block.height) (Goes end)) in
+      let next : Live Dir → Course Dir NodeStop (Live Dir) = λ end. unless_once c (bind (half.takes_delivered c block end) (λ left. half.acked_at block.height left.answer left.live)) (Say (Acked block.height) (Goes end)) in
       over_behind (NodeStops message devices) first (NodeTo message devices) (under Faulted (step c message st)) next devices
       (over_under Faulted (StepStop c form st live message devices) first (step c message st) devices (steps_over c form st live devices message taken))
       (λ end left its. let act = block_active block taken its.0 its.1 end its.4 in

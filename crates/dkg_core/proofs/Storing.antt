@@ -49,8 +49,8 @@ use Rattle.dkg_core.specs.Including as i
 use Rattle.dkg_core.specs.Blocks as b
 use Rattle.dkg_core.specs.Plans as p
 use Rattle.dkg_core.specs.OneShots as o
-use Rattle.dkg_core.specs.Core.{opening, step, opens_in, begun}
-use Rattle.dkg_core.specs.Laws.{Keeps, StartsWithin, reach_of}
+use Rattle.dkg_core.specs.Core.{opening, step, opens_in, begun_life}
+use Rattle.dkg_core.specs.Laws.{LawKeeps, StartsWithin, reach_of}
 use Rattle.dkg_core.specs.Forms.{share_read, seed_read, committed_by}
 use Rattle.dkg_core.specs.Stepping.{CommitsAreRead}
 use Rattle.dkg_core.specs.Storing.{ReadsSecrets, KeepsSeeds, KeepsShares, CommitsRecovered, OpeningsKeepSeeds, OpeningsKeepShares, StepsKeepSeeds, StepsKeepShares, NodeOpeningsKeepSecrets, NodeStepsKeepSecrets}
@@ -238,7 +238,7 @@ module _ {Dir : Type 0} (c : Fixed Dir) (reads : ReadsSecrets c.seen) (R : Secre
   half_torn (Changes (PutSeed epoch seed)) cause w new is tears q = absurd is
   half_torn (Changes (Prune min)) cause w new is tears q = absurd is
 
-  halves_keep : Keeps (sparing {Dir = Dir} {S = Live Dir} IsHalf) P
+  halves_keep : LawKeeps (sparing {Dir = Dir} {S = Live Dir} IsHalf) P
   halves_keep = record {
     said = λ past w line law q. q;
     done = λ past w op law q. half_done op w law q;
@@ -411,7 +411,7 @@ module _ {Dir : Type 0} (c : Fixed Dir) (reads : ReadsSecrets c.seen) (R : Secre
     openings : (w : World) → P w → Throughout P (opening c) w
     openings w q = (
       λ cause new tears. on_disk Bars cause w new tears q,
-      (λ cause new tears. on_disk (Opens c.opening_calls) cause (does w (OnDisk Bars)) new tears q, (q, opens c.oneshot (begun (c.seen (does (does w (OnDisk Bars)) (OnDisk (Opens c.opening_calls))).held)) _ q)),
+      (λ cause new tears. on_disk (Opens c.opening_calls) cause (does w (OnDisk Bars)) new tears q, (q, opens c.oneshot (begun_life (c.seen (does (does w (OnDisk Bars)) (OnDisk (Opens c.opening_calls))).held)) _ q)),
     )
 
 -- THE LAWS

@@ -5,7 +5,7 @@ use Rattle.std.specs.Option.{option_map_or}
 use Rattle.std.specs.FinMap.{FinMap, get, empty, insert}
 use Rattle.dkg_values.specs.Rising.{lookup}
 use Rattle.dkg_journal.specs.Operations.{Appends, Prunes, Journaled}
-use Rattle.dkg_journal.specs.Records.{Entry, placed, from_section}
+use Rattle.dkg_journal.specs.Records.{SectionEntry, placed, from_section}
 use Rattle.dkg_types.specs.declared.info.EpochInfo.{EpochInfo}
 use Rattle.dkg_store.specs.Acts.{Held, OnDisk, Changes, World, says, does, notes, Cause, Tears, IsLeft}
 use Rattle.dkg_store.specs.Events.{event_spelling, IsEvent}
@@ -13,7 +13,7 @@ use Rattle.dkg_store.specs.declared.event.Event.{Event}
 use Rattle.dkg_store.specs.declared.event.Event.TheVariants as events
 use Rattle.dkg_secrets.specs.declared.secrets.SecretOp.TheVariants.{PutShare, PutSeed, PutDealing, Prune}
 use Rattle.dkg_secrets.specs.Keys.{key_cmp}
-use Rattle.dkg_store.specs.Pairs.{Pairs, IsWhole, recovered, dealing_of, dealing_in}
+use Rattle.dkg_store.specs.Pairs.{Pairs, IsWhole, recovered, recorded_dealing, dealing_in_event}
 use Rattle.dkg_secrets.specs.Secrets.{Secrets, Tries}
 use Rattle.dkg_secrets.specs.Secrets as of_secrets
 use Rattle.dkg_store.proofs.Halves.{recovered_at, prune_halves, share_halves, seed_halves}
@@ -90,12 +90,12 @@ module _ (ack_of : AckOf) (most : ℕ) (base : List Line) where
   }
 
   -- what stands over the same entries and the same private halves
-  pub over : (w new : World) (es : List Entry) (t : Secrets) → new.out ≡ w.out → notes new.held ≡ es → new.held.secrets ≡ t → IsWhole es t
+  pub over : (w new : World) (es : List SectionEntry) (t : Secrets) → new.out ≡ w.out → notes new.held ≡ es → new.held.secrets ≡ t → IsWhole es t
       → ((key : ℕ × ℕ) (v : List ℕ × ℕ) → most ≤ key.0 → get (recovered_in w.held) key ≡ Some v → get (recovered es t) key ≡ Some v) → Q w → Q new
   over w new es t same is_es is_t whole gives q =
       moves w new same
-      (subst (λ (x : List Entry). IsWhole x new.held.secrets) (sym is_es) (subst (λ (x : Secrets). IsWhole es x) (sym is_t) whole))
-      (λ key v above got. ap (λ (x : List Entry). get (recovered x new.held.secrets) key) is_es ∙ ap (λ (x : Secrets). get (recovered es x) key) is_t ∙ gives key v above got) q
+      (subst (λ (x : List SectionEntry). IsWhole x new.held.secrets) (sym is_es) (subst (λ (x : Secrets). IsWhole es x) (sym is_t) whole))
+      (λ key v above got. ap (λ (x : List SectionEntry). get (recovered x new.held.secrets) key) is_es ∙ ap (λ (x : Secrets). get (recovered es x) key) is_t ∙ gives key v above got) q
 
   -- A SHARE OR A SEED
 
@@ -114,7 +114,7 @@ module _ (ack_of : AckOf) (most : ℕ) (base : List Line) where
 
   -- A PRUNE
 
-  pruned_from : (min : ℕ) (es : List Entry) (s : Secrets) (key : ℕ × ℕ) (v : List ℕ × ℕ) → min ≤ most → most ≤ key.0 → get (recovered es s) key ≡ Some v → get (recovered (from_section min es) s) key ≡ Some v
+  pruned_from : (min : ℕ) (es : List SectionEntry) (s : Secrets) (key : ℕ × ℕ) (v : List ℕ × ℕ) → min ≤ most → most ≤ key.0 → get (recovered es s) key ≡ Some v → get (recovered (from_section min es) s) key ≡ Some v
   pruned_from min es s key v low above got = pruned_at min es s key (omega arith) ∙ got
 
   -- within the journal's
@@ -152,11 +152,11 @@ module _ (ack_of : AckOf) (most : ℕ) (base : List Line) where
 
   -- A RECORD OF NO DEALING
 
-  module _ (epoch : ℕ) (event : Event) (is_event : IsEvent event) (silent : dealing_in epoch (Ok event) ≡ None) where
-    abbrev entry : Entry
+  module _ (epoch : ℕ) (event : Event) (is_event : IsEvent event) (silent : dealing_in_event epoch (Ok event) ≡ None) where
+    abbrev entry : SectionEntry
     entry = (epoch, event_spelling event)
 
-    of_none : dealing_of entry ≡ None
+    of_none : recorded_dealing entry ≡ None
     of_none = says_dealing epoch event is_event ∙ silent
 
     pub silent_done : (w : World) → Q w → Q (does w (OnDisk (Appends entry)))
@@ -179,7 +179,7 @@ module _ (ack_of : AckOf) (most : ℕ) (base : List Line) where
     abbrev key_of : ℕ × ℕ
     key_of = (epoch, dealer)
 
-    abbrev its_entry : Entry
+    abbrev its_entry : SectionEntry
     its_entry = (epoch, event_spelling (events.Dealing dealer public))
 
     abbrev with_half : Secrets

@@ -25,7 +25,7 @@ use Rattle.dkg_core.specs.Including.{can_finish, job_for, its_key, of_player, of
 use Rattle.dkg_core.specs.Endings.{validity}
 use Rattle.dkg_core.specs.Forms.{IsForm, ComesOver, round_for}
 use Rattle.dkg_core.specs.Finishing.{IsFinishing}
-use Rattle.dkg_core.specs.Asked.{OfShares, Reads, IsResultOf, IsResultIn, IsJobIn, InRound, HasAsked, IsInformed, IsAskStop, IsMadeIn}
+use Rattle.dkg_core.specs.Asked.{OfShares, ReadsShare, IsResultOf, IsResultIn, IsJobIn, InRound, HasAsked, IsInformed, IsAskStop, IsMadeIn}
 use Rattle.dkg_core.proofs.Advancing.{included, of_round, some_of}
 use Rattle.dkg_core.proofs.Artifacts.{artifacts_lead}
 use Rattle.dkg_core.proofs.Counting.{some_is}
@@ -185,7 +185,7 @@ pub record IsEndedIn {Dir : Type 0} (c : Fixed Dir) (stored : OfShares) (st end 
   pub served : end.inclusion.served ≡ st.inclusion.served
   pub used : end.inclusion.used ≡ st.inclusion.used
 
-module _ {Dir : Type 0} (c : Fixed Dir) (stored : OfShares) (st : Live Dir) (devices : Option Held) (form : IsForm c) (finishing : IsFinishing c) (reads : Reads c stored devices)
+module _ {Dir : Type 0} (c : Fixed Dir) (stored : OfShares) (st : Live Dir) (devices : Option Held) (form : IsForm c) (finishing : IsFinishing c) (reads : ReadsShare c stored devices)
     (informed : IsInformed c st) (has : HasAsked c stored st) where
   abbrev Stop : Fault → Type 0
   Stop = IsAskStop c st

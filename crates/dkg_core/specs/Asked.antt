@@ -18,7 +18,7 @@ use Rattle.dkg_core.specs.Logs.{canonical, filled_by}
 use Rattle.dkg_core.specs.Including.{Found, is_need, read_of, can_finish, job_for, cached_for, retained_for, info_peers, artifact, advanced, Next}
 use Rattle.dkg_core.specs.Laws.{IsAmong}
 use Rattle.dkg_core.specs.Endings.{validity}
-use Rattle.dkg_core.specs.Forms.{IsForm, ComesOver, Finds, round_for}
+use Rattle.dkg_core.specs.Forms.{IsForm, ComesOver, FindsHeld, round_for}
 
 -- RESULTS AND ARTIFACTS
 
@@ -31,14 +31,14 @@ abbrev pub read_somewhere : {Dir : Type 0} → Fixed Dir → OfShares
 read_somewhere c epoch share = (h : Held) × (share ≡ lookup epoch (c.seen h).shares)
 
 -- The read of an epoch's share finds what is said of it.
-abbrev pub Reads : {Dir : Type 0} → Fixed Dir → OfShares → Option Held → Type 0
-Reads c stored devices = (h : Held) (epoch : ℕ) → Finds devices h → stored epoch (lookup epoch (c.seen h).shares)
+abbrev pub ReadsShare : {Dir : Type 0} → Fixed Dir → OfShares → Option Held → Type 0
+ReadsShare c stored devices = (h : Held) (epoch : ℕ) → FindsHeld devices h → stored epoch (lookup epoch (c.seen h).shares)
 
 -- The epoch after the next is in range, and the provider names somebody for it, and not too many.
 pub record IsProvided {Dir : Type 0} (c : Fixed Dir) (info : EpochInfo Dir) : Type 0 where
   pub in_range : info.epoch + 2 < 2 ^ 64
   pub some : 1 ≤ length (c.provided.participants (info.epoch + 2))
-  pub few : length (c.provided.participants (info.epoch + 2)) ≤ c.limit
+  pub in_bound : length (c.provided.participants (info.epoch + 2)) ≤ c.limit
 
 -- What an artifact is, of some logs of the epoch: the info that follows. Its share fits the outcome, and is there where this node has a player for the logs (plays);
 -- or it is what is stored and carried on.
@@ -146,7 +146,7 @@ pub record IsMadeIn {Dir : Type 0} (c : Fixed Dir) (stored : OfShares) (round : 
 -- THE ARTIFACT OF A RESULT, cached or made now, is that of its logs, and a course goes on by it; or it can't be made. It reads once at most.
 abbrev pub ArtifactsLead : Type 0 → Type 1
 ArtifactsLead Dir = (c : Fixed Dir) (stored : OfShares) (round : Round) (info : EpochInfo Dir) (r : VerifiedLogs) (st : Live Dir) (next : Next Dir) (devices : Option Held)
-    (stops : Fault → Type 0) (goes : Live Dir → Option Held → Type 0) → IsForm c → Reads c stored devices → HasAsked c stored st → st.participation.round ≡ Some round
+    (stops : Fault → Type 0) (goes : Live Dir → Option Held → Type 0) → IsForm c → ReadsShare c stored devices → HasAsked c stored st → st.participation.round ≡ Some round
     → st.participation.current ≡ Some info → IsResultIn c round st r → ((fault : Fault) → IsDeriveStop c round info st fault → stops fault)
     → ((made : Artifact Dir) (at : Live Dir) → IsMadeIn c stored round info st r.logs made at → ComesOver stops goes (next made at) devices)
     → ComesOver stops goes (artifact c r st next) devices
@@ -181,7 +181,7 @@ pub record IsReadOn {Dir : Type 0} (c : Fixed Dir) (stored : OfShares) (st end :
 -- reads them by a retained result alone.
 abbrev pub AdvancesLeadAt : {Dir : Type 0} → Fixed Dir → OfShares → Type 0
 AdvancesLeadAt {Dir} c stored = (st : Live Dir) (devices : Option Held) → IsForm c
-    → ((r : VerifiedLogs) → st.inclusion.retained ≡ Some r → Reads c stored devices) → IsInformed c st → HasAsked c stored st
+    → ((r : VerifiedLogs) → st.inclusion.retained ≡ Some r → ReadsShare c stored devices) → IsInformed c st → HasAsked c stored st
     → ComesOver (IsAskStop c st) (λ end left. (left ≡ devices) × IsReadOn c stored st end) (advanced c st) devices
 
 abbrev pub AdvancesLead : Type 0 → Type 1

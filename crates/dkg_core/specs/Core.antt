@@ -32,8 +32,8 @@ abbrev pub no_probe : {Dir : Type 0} → Probe Dir
 no_probe = record { subscribers = 0; attached = false; serving = false; replies = []; chosen = None; awaited = None; known = None }
 
 -- what a life begins with: what its devices give back
-abbrev pub begun : {Dir : Type 0} → Seen → Live Dir
-begun s = record {
+abbrev pub begun_life : {Dir : Type 0} → Seen → Live Dir
+begun_life s = record {
   records = record { dealings = s.dealings; acks = s.acks; logs = s.logs };
   tip = None;
   participation = no_participation;
@@ -49,7 +49,7 @@ opens_in c None st = opens_resharing c st
 -- The barrier, the journal's opening, the line with what was restored, and then the start of its mode.
 abbrev pub opening : {Dir : Type 0} → Fixed Dir → Course Dir Fault (Live Dir)
 opening c =
-    Do (OnDisk Bars) (Do (OnDisk (Opens c.opening_calls)) (looks c (λ s. Say (Opened c.life (map restored_of s.dealings)) (opens_in c c.oneshot (begun s)))))
+    Do (OnDisk Bars) (Do (OnDisk (Opens c.opening_calls)) (looks c (λ s. Say (Opened c.life (map restored_of s.dealings)) (opens_in c c.oneshot (begun_life s)))))
 
 -- A STEP
 

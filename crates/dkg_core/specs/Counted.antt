@@ -20,14 +20,14 @@ HasMade (stopped fault) made all = made ≡ all
 HasMade (broken cause) made all = made ≤ all
 
 -- Just these calls were counted.
-pub record Counts {Dir F S : Type 0} (course : Course Dir F S) (ended : Ended F S) (w new : World) : Type 0 where
+pub record CountsCalls {Dir F S : Type 0} (course : Course Dir F S) (ended : Ended F S) (w new : World) : Type 0 where
   pub made : ℕ
   pub fuse : new.fuse ≡ burnt made w.fuse
   pub of_course : HasMade ended made (calls_of course w.held)
 
 -- A RUN COUNTS the calls of its course.
 abbrev pub RunsCount : (Dir F S : Type 0) → Type 0
-RunsCount Dir F S = (course : Course Dir F S) (ended : Ended F S) (w new : World) → EndsSo course ended w new → Counts course ended w new
+RunsCount Dir F S = (course : Course Dir F S) (ended : Ended F S) (w new : World) → EndsSo course ended w new → CountsCalls course ended w new
 
 -- Where a cut broke it off, the call that is cut is one of the course's. Where it ended by itself and that call was not passed over, it is none of them.
 abbrev pub FallsIn : {F S : Type 0} → Ended F S → (calls : ℕ) → (w new : World) → Type 0

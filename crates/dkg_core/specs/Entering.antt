@@ -133,8 +133,8 @@ delivered_in c b st (Some epoch) =
 
 -- A block below the entered epoch's last is acknowledged, and the last one after the next epoch was entered. While this half waits for the fence, a
 -- block is neither acknowledged nor judged.
-abbrev pub delivered : {Dir : Type 0} → Fixed Dir → Block Dir → Live Dir → Course Dir NodeStop (Half Dir)
-delivered c b st = bind (asks_again c st) (λ st. delivered_in c b st (active st.orchestrator))
+abbrev pub takes_delivered : {Dir : Type 0} → Fixed Dir → Block Dir → Live Dir → Course Dir NodeStop (Half Dir)
+takes_delivered c b st = bind (asks_again c st) (λ st. delivered_in c b st (active st.orchestrator))
 
 abbrev pub hints_in : {Dir : Type 0} → Fixed Dir → (from epoch : ℕ) → Live Dir → Option ℕ → Course Dir NodeStop (Live Dir)
 hints_in c from epoch st None = Goes st

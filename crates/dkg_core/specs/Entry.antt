@@ -9,7 +9,7 @@ use Rattle.dkg_types.specs.declared.scheme.SchemeInfo.{SchemeInfo}
 use Rattle.dkg_core.specs.Fixed.{Fixed}
 use Rattle.dkg_core.specs.Live.{Live, Waiting}
 use Rattle.dkg_core.specs.Courses.{Deed, Called, Tracks, StartsEngine, StopsEngine}
-use Rattle.dkg_core.specs.Entering.{Half, Acknowledges, is_ready, active, enters, delivered}
+use Rattle.dkg_core.specs.Entering.{Half, Acknowledges, is_ready, active, enters, takes_delivered}
 use Rattle.dkg_core.specs.Laws.{Law, Holds}
 
 -- The peers of the epoch were tracked last.
@@ -48,4 +48,4 @@ EntersRegistered Dir = (c : Fixed Dir) (w : Waiting Dir) (st : Live Dir) (past :
 -- The last block of the entered epoch is acknowledged once the next epoch was entered.
 abbrev pub LastBlocksAreEntered : Type 0 → Type 0
 LastBlocksAreEntered Dir = (c : Fixed Dir) (b : Block Dir) (st : Live Dir) (epoch : ℕ) (past : List (Deed Dir)) → active st.orchestrator ≡ Some epoch
-    → b.height ≡ last c.blocks_per_epoch epoch → Holds (entry_law st (epoch + 1)) past (delivered c b st)
+    → b.height ≡ last c.blocks_per_epoch epoch → Holds (entry_law st (epoch + 1)) past (takes_delivered c b st)

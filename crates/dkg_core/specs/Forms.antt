@@ -31,7 +31,7 @@ use Rattle.dkg_core.specs.Fixed.{Fixed, has}
 use Rattle.dkg_core.specs.Live.{Live, Dealer, Orchestrator, NodeStop, Stage, Deals, Follows, Plays, Message, Sent, Peer, Finalized, awaited_height, phase_of}
 use Rattle.dkg_core.specs.Setup.{Standing, Uncommitted, WasCommitted, is_past_range, recovered_share, seed_for, records_from, refused_in, scheme_for, may_deal, dealer_from, dealer_for, signed, with_info}
 use Rattle.dkg_core.specs.Blocks.{is_in_window}
-use Rattle.dkg_core.specs.Core.{opening, begun, no_participation, no_inclusion, no_orchestrator}
+use Rattle.dkg_core.specs.Core.{opening, begun_life, no_participation, no_inclusion, no_orchestrator}
 use Rattle.dkg_core.specs.Entering.{opens_half}
 use Rattle.dkg_core.specs.Node.{node_opening}
 use Rattle.dkg_core.specs.Laws.{IsCeremony, start_of}
@@ -108,9 +108,9 @@ ComesOver stops goes (Goes end) devices = goes end devices
 ComesOver stops goes (Stops fault) devices = stops fault
 
 -- what a read finds: these, or anything
-abbrev pub Finds : Option Held → Held → Type 0
-Finds (Some held) h = h ≡ held
-Finds None h = Unit {0}
+abbrev pub FindsHeld : Option Held → Held → Type 0
+FindsHeld (Some held) h = h ≡ held
+FindsHeld None h = Unit {0}
 
 -- A SETUP, of any epoch by any info
 
@@ -219,15 +219,15 @@ SetupsStore Dir = (epoch : ℕ) (info : EpochInfo Dir) (share : Option ℕ) (see
 abbrev pub SetupsComeTo : Type 0 → Type 0
 SetupsComeTo Dir = (c : Fixed Dir) (standing : Standing) (info : EpochInfo Dir) (st : Live Dir) (devices : Option Held) → IsForm c
     → st.participation.epoch ≡ epoch_of c.blocks_per_epoch (awaited_height st) → st.inclusion ≡ no_inclusion
-    → ComesOver (λ fault. (h : Held) × Finds devices h × IsSetupFault c st.participation.epoch info (share_read c info h) (seed_read c info h) st fault)
-    (λ end left. (h : Held) × Finds devices h × IsSeated c standing info (share_read c info h) (seed_read c info h) st end
+    → ComesOver (λ fault. (h : Held) × FindsHeld devices h × IsSetupFault c st.participation.epoch info (share_read c info h) (seed_read c info h) st fault)
+    (λ end left. (h : Held) × FindsHeld devices h × IsSeated c standing info (share_read c info h) (seed_read c info h) st end
     × (left ≡ option_map (set_up_by standing st.participation.epoch info (share_read c info h) (seed_read c info h)) devices)) (with_info c None standing info st) devices
 
 -- AN OPENING
 
 -- the life that an opening sets up: it awaits the epoch of the height above the position that the source tells
 abbrev pub started : {Dir : Type 0} → Fixed Dir → Seen → Live Dir
-started c seen = record (begun seen) { tip = startup c.source.anchor None; participation = record no_participation { epoch = first_epoch c } }
+started c seen = record (begun_life seen) { tip = startup c.source.anchor None; participation = record no_participation { epoch = first_epoch c } }
 
 -- What an opening stops by, and why: it restored what seen has, and k is what the devices held as its share and seed were read.
 abbrev pub IsOpeningStop : {Dir : Type 0} → Fixed Dir → Seen → (k : Held) → Fault → Type 0

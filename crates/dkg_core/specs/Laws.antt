@@ -41,7 +41,7 @@ Holds law past (Goes end) = law.end past end
 Holds law past (Stops fault) = Unit {0}
 
 -- What each line and each operation that keeps the law leaves as it was: whether the operation is done, or torn by some cause.
-pub record Keeps {Dir S : Type 0} (law : Law Dir S) (P : World → Type 0) : Type 0 where
+pub record LawKeeps {Dir S : Type 0} (law : Law Dir S) (P : World → Type 0) : Type 0 where
   pub said : (past : List (Deed Dir)) (w : World) (line : Line) → law.line past line → P w → P (says w line)
   pub done : (past : List (Deed Dir)) (w : World) (op : Operation) → law.operation past op → P w → P (does w op)
   pub torn : (past : List (Deed Dir)) (cause : Cause) (w new : World) (op : Operation) → law.operation past op → P w → Tears cause op w new → P new
@@ -177,7 +177,7 @@ IsAmong a [] = ⊥
 IsAmong a (x ∷ xs) = (x ≡ a) ⊎ IsAmong a xs
 
 -- The dealing is what this node's dealer deals to this node itself, in the life's round.
-pub record IsOwn {Dir : Type 0} (c : Fixed Dir) (st : Live Dir) (epoch : ℕ) (public : List ℕ) (private : ℕ) : Type 0 where
+pub record IsDealtToItself {Dir : Type 0} (c : Fixed Dir) (st : Live Dir) (epoch : ℕ) (public : List ℕ) (private : ℕ) : Type 0 where
   pub round : Round
   pub of_epoch : st.participation.round ≡ Some round
   pub number : epoch ≡ round.number
@@ -234,7 +234,7 @@ IsOther message = Unit {0}
 -- Any other message acknowledges nothing, records this node's own dealing alone, offers what its dealer deals alone, and prunes nothing of the epoch of the
 -- next height, nor of the one before.
 abbrev pub OthersAcknowledgeNothing : Type 0 → Type 0
-OthersAcknowledgeNothing Dir = (c : Fixed Dir) (st : Live Dir) (message : Message Dir) → IsOther message → Holds (other_law c (IsOwn c st) (IsOffered c st) (reach_of c message)) [] (step c message st)
+OthersAcknowledgeNothing Dir = (c : Fixed Dir) (st : Live Dir) (message : Message Dir) → IsOther message → Holds (other_law c (IsDealtToItself c st) (IsOffered c st) (reach_of c message)) [] (step c message st)
 
 -- WHAT IS DUE
 

@@ -13,7 +13,7 @@ use Rattle.dkg_core.specs.Live.{Live, NodeStop, Faulted, Sent, Finalized, Event,
 use Rattle.dkg_core.specs.Setup.{looks}
 use Rattle.dkg_core.specs.Plans.{material_at}
 use Rattle.dkg_core.specs.Core.{opening, step, Reply, State, IsReplyOf, Answered}
-use Rattle.dkg_core.specs.Entering.{acked_at, opens_half, asks_again, delivered, hints}
+use Rattle.dkg_core.specs.Entering.{acked_at, opens_half, asks_again, takes_delivered, hints}
 use Rattle.dkg_core.specs.Desk.{prepares, proposes, verifies}
 use Rattle.dkg_core.specs.Probing.{probes}
 
@@ -34,7 +34,7 @@ node_opening c = bind (under Faulted (opening c)) (λ st. unless_once c (kept_ma
 abbrev pub delivers_to_both : {Dir : Type 0} → Fixed Dir → Block Dir → Live Dir → Course Dir NodeStop (Live Dir)
 delivers_to_both c b st =
     bind (under Faulted (step c (Finalized b) st)) (λ st.
-    unless_once c (bind (delivered c b st) (λ half. acked_at b.height half.answer half.live)) (Say (Acked b.height) (Goes st)))
+    unless_once c (bind (takes_delivered c b st) (λ half. acked_at b.height half.answer half.live)) (Say (Acked b.height) (Goes st)))
 
 -- the reshare half of a step, and then a waiting orchestrator asks again
 abbrev pub then_again : {Dir : Type 0} → Fixed Dir → Course Dir Fault (Live Dir) → Course Dir NodeStop (Live Dir)

@@ -10,7 +10,7 @@ use Rattle.dkg_core.specs.Fixed.{Fixed}
 use Rattle.dkg_core.specs.Live.{Live, NodeStop, Message}
 use Rattle.dkg_core.specs.Node.{node_step}
 use Rattle.dkg_core.specs.Behind.{event_of}
-use Rattle.dkg_core.specs.Asked.{OfShares, Reads}
+use Rattle.dkg_core.specs.Asked.{OfShares, ReadsShare}
 use Rattle.dkg_core.specs.Through.{IsFormThrough, IsLiveThrough, IsTakenThrough}
 use Rattle.dkg_core.specs.SayingThrough.{IsLineThrough}
 
@@ -23,7 +23,7 @@ IsHalfLine line = ⊥
 
 -- A NODE'S STEP says its reshare half's lines, and such lines behind them.
 abbrev pub NodeStepsSayThroughAt : {Dir : Type 0} → Fixed Dir → OfShares → Type 0
-NodeStepsSayThroughAt {Dir} c stored = (st : Live Dir) (message : Message Dir) (ended : Ended NodeStop (Live Dir)) (old new : List Line) → IsFormThrough c → Reads c stored None
+NodeStepsSayThroughAt {Dir} c stored = (st : Live Dir) (message : Message Dir) (ended : Ended NodeStop (Live Dir)) (old new : List Line) → IsFormThrough c → ReadsShare c stored None
     → IsTakenThrough c message st → IsLiveThrough c stored st → Said (on_devices (node_step c (event_of message) st)) ended old new
     → (added : List Line) × (new ≡ old ++ added) × AllByRecursion (λ line. IsLineThrough c stored st message line ⊎ IsHalfLine line) added
 

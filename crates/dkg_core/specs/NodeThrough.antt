@@ -12,7 +12,7 @@ use Rattle.dkg_core.specs.Said.{Said}
 use Rattle.dkg_core.specs.Seen.{Seen}
 use Rattle.dkg_core.specs.Fixed.{Fixed}
 use Rattle.dkg_core.specs.Live.{Live, NodeStop, Message, Finalized, is_last_height, with_orchestrator}
-use Rattle.dkg_core.specs.Entering.{Half, Acknowledges, active, delivered, is_ready}
+use Rattle.dkg_core.specs.Entering.{Half, Acknowledges, active, takes_delivered, is_ready}
 use Rattle.dkg_core.specs.Node.{node_step}
 use Rattle.dkg_core.specs.Behind.{event_of}
 use Rattle.dkg_core.specs.Endings.{ComesTo, CameTo}
@@ -55,7 +55,7 @@ pub record HasPassedOn {Dir : Type 0} (st : Live Dir) (epoch : ℕ) (half : Half
 abbrev pub HalvesPassOn : Type 0 → Type 0
 HalvesPassOn Dir = (c : Fixed Dir) (st : Live Dir) (b : Block Dir) (epoch : ℕ) (info : EpochInfo Dir) → LacksNobody c → active st.orchestrator ≡ Some epoch → b.height ≡ last c.blocks_per_epoch epoch
     → st.orchestrator.waiting ≡ None → info_of b.payload ≡ Some info → info.epoch ≡ epoch + 1 → is_ready st.orchestrator.fence.ready (epoch + 1) ≡ true
-    → IsSome (lookup (epoch + 1) st.orchestrator.schemes) → ComesTo (λ (stop : NodeStop). ⊥) (HasPassedOn st (epoch + 1)) (delivered c b st)
+    → IsSome (lookup (epoch + 1) st.orchestrator.schemes) → ComesTo (λ (stop : NodeStop). ⊥) (HasPassedOn st (epoch + 1)) (takes_delivered c b st)
 
 -- A STEP
 

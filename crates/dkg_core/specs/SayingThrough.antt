@@ -23,7 +23,7 @@ use Rattle.dkg_core.specs.Including.{Found, Lacks, payload_bytes, read_of}
 use Rattle.dkg_core.specs.Core.{step}
 use Rattle.dkg_core.specs.Laws.{IsAmong}
 use Rattle.dkg_core.specs.Stepping.{given_itself, dealt_behind}
-use Rattle.dkg_core.specs.Asked.{OfShares, Reads, InRound, InEpoch}
+use Rattle.dkg_core.specs.Asked.{OfShares, ReadsShare, InRound, InEpoch}
 use Rattle.dkg_core.specs.Through.{IsFormThrough, IsLiveThrough, IsTakenThrough, IsShareTaken, asked_by, finished, included}
 
 -- EACH LINE of a course, whatever is read
@@ -101,7 +101,7 @@ IsLineThrough c stored st (Sent mail) line = IsMailLine c st mail line
 
 -- ANY STEP says such lines alone.
 abbrev pub StepsSayThroughAt : {Dir : Type 0} → Fixed Dir → OfShares → Type 0
-StepsSayThroughAt {Dir} c stored = (st : Live Dir) (message : Message Dir) (ended : Ended Fault (Live Dir)) (old new : List Line) → IsFormThrough c → Reads c stored None
+StepsSayThroughAt {Dir} c stored = (st : Live Dir) (message : Message Dir) (ended : Ended Fault (Live Dir)) (old new : List Line) → IsFormThrough c → ReadsShare c stored None
     → IsTakenThrough c message st → IsLiveThrough c stored st → Said (on_devices (step c message st)) ended old new
     → (added : List Line) × (new ≡ old ++ added) × AllByRecursion (IsLineThrough c stored st message) added
 

@@ -14,7 +14,7 @@ use Rattle.dkg_core.specs.Behind.{event_of}
 use Rattle.dkg_core.specs.Laws.{reach_of}
 use Rattle.dkg_core.specs.Stepping.{next_epoch}
 use Rattle.dkg_core.specs.Storing.{ReadsSecrets, KeepsShares}
-use Rattle.dkg_core.specs.Asked.{OfShares, Reads, IsArtifactIn, InEpoch}
+use Rattle.dkg_core.specs.Asked.{OfShares, ReadsShare, IsArtifactIn, InEpoch}
 use Rattle.dkg_core.specs.Through.{IsFormThrough, IsLiveThrough, PassesNothingOn}
 use Rattle.dkg_types.specs.declared.info.EpochInfo.{EpochInfo}
 
@@ -32,7 +32,7 @@ MovesShares Such min h w =
 -- A BLOCK WHILE INCLUDING moves no share but such a one, of the epochs that it prunes nothing of, wherever the node's step ends.
 abbrev pub BlocksMoveSharesAt : {Dir : Type 0} → Fixed Dir → OfShares → Type 0
 BlocksMoveSharesAt {Dir} c stored = (b : Block Dir) (st : Live Dir) (ended : Ended NodeStop (Live Dir)) (most : ℕ) (w new : World) → IsFormThrough c → ReadsSecrets c.seen
-    → Reads c stored (Some w.held) → IsLiveThrough c stored st → st.participation.stage ≡ Includes → reach_of c (Finalized b) ≤ most → EndsSo (node_step c (Delivers b) st) ended w new
+    → ReadsShare c stored (Some w.held) → IsLiveThrough c stored st → st.participation.stage ≡ Includes → reach_of c (Finalized b) ≤ most → EndsSo (node_step c (Delivers b) st) ended w new
     → MovesShares (IsSuchShare c stored b st) most w.held new
 
 abbrev pub BlocksMoveShares : Type 0 → Type 1
@@ -41,7 +41,7 @@ BlocksMoveShares Dir = (c : Fixed Dir) (stored : OfShares) → BlocksMoveSharesA
 -- .. and each share that is held then was held, or is such a one.
 abbrev pub BlocksPutSharesAt : {Dir : Type 0} → Fixed Dir → OfShares → Type 0
 BlocksPutSharesAt {Dir} c stored = (b : Block Dir) (st : Live Dir) (ended : Ended NodeStop (Live Dir)) (w new : World) → IsFormThrough c
-    → Reads c stored (Some w.held) → IsLiveThrough c stored st → st.participation.stage ≡ Includes → EndsSo (node_step c (Delivers b) st) ended w new
+    → ReadsShare c stored (Some w.held) → IsLiveThrough c stored st → st.participation.stage ≡ Includes → EndsSo (node_step c (Delivers b) st) ended w new
     → (epoch share : ℕ) → get new.held.secrets.shares epoch ≡ Some share → (get w.held.secrets.shares epoch ≡ Some share) ⊎ IsSuchShare c stored b st epoch share
 
 abbrev pub BlocksPutShares : Type 0 → Type 1

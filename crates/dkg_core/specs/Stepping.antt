@@ -20,7 +20,7 @@ use Rattle.dkg_core.specs.Live.{Live, Dealer, NodeStop, Stage, Deals, Follows, S
 use Rattle.dkg_core.specs.Setup.{Uncommitted, WasCommitted, is_past_range, scheme_for, with_registered, anew, unsent, begins_inclusion}
 use Rattle.dkg_core.specs.Dealing.{with_dealing_of, counts, with_ack}
 use Rattle.dkg_core.specs.Core.{step}
-use Rattle.dkg_core.specs.Entering.{active, delivered}
+use Rattle.dkg_core.specs.Entering.{active, takes_delivered}
 use Rattle.dkg_core.specs.Node.{node_step}
 use Rattle.dkg_core.specs.Behind.{event_of}
 use Rattle.dkg_core.specs.Laws.{IsAccepted}
@@ -247,7 +247,7 @@ NextLivesStay Dir = (c : Fixed Dir) (st : Live Dir) (message : Message Dir) (h k
 -- THE ORCHESTRATOR'S HALF of a block below the entered epoch's last never stops where it doesn't wait: it acknowledges where it has entered an epoch, and changes nothing.
 abbrev pub HalvesGoOn : Type 0 → Type 0
 HalvesGoOn Dir = (c : Fixed Dir) (st : Live Dir) (b : Block Dir) → ((epoch : ℕ) → active st.orchestrator ≡ Some epoch → b.height < last c.blocks_per_epoch epoch) → st.orchestrator.waiting ≡ None
-    → ComesTo (λ (stop : NodeStop). ⊥) (λ half. (half.live ≡ st) × (half.answer ≡ answer_in (active st.orchestrator))) (delivered c b st)
+    → ComesTo (λ (stop : NodeStop). ⊥) (λ half. (half.live ≡ st) × (half.answer ≡ answer_in (active st.orchestrator))) (takes_delivered c b st)
 
 -- A NODE'S STEP stops by the faults of its reshare half alone; or it leaves the life that this half left, whose orchestrator waits for nothing.
 abbrev pub NodeStepsLead : Type 0 → Type 0

@@ -25,7 +25,7 @@ use Rattle.dkg_core.specs.Including.{releases, queued, changed, is_of_job}
 use Rattle.dkg_core.specs.Blocks.{without_own_log, with_log, unserved, share_for}
 use Rattle.dkg_core.specs.Core.{no_inclusion, step}
 use Rattle.dkg_core.specs.Endings.{CameTo}
-use Rattle.dkg_core.specs.Forms.{IsForm, IsLiveIn, Judged, Refusal, Passed, Applied, judged_block, ComesOver, Finds, IsSetupFault, IsSeated, share_read, seed_read, committed_by, set_up_by}
+use Rattle.dkg_core.specs.Forms.{IsForm, IsLiveIn, Judged, Refusal, Passed, Applied, judged_block, ComesOver, FindsHeld, IsSetupFault, IsSeated, share_read, seed_read, committed_by, set_up_by}
 use Rattle.dkg_core.specs.Stepping.{IsHeardBy, given_itself, IsDealingStop, dealt_behind, next_epoch, taken_over}
 use Rattle.dkg_core.specs.Finishing.{IsFinishing}
 use Rattle.dkg_core.specs.Asked.{OfShares, read_somewhere, IsArtifactIn, IsResultIn, InRound, InEpoch, IsAsked, IsEmptied, IsInformed, IsStarted, IsAskStop}
@@ -59,8 +59,8 @@ IsTakenThrough c message st = Unit {0}
 abbrev pub SetupsComeThrough : Type 0 → Type 0
 SetupsComeThrough Dir = (c : Fixed Dir) (standing : Standing) (info : EpochInfo Dir) (st : Live Dir) (devices : Option Held) → IsForm c
     → st.participation.epoch ≡ epoch_of c.blocks_per_epoch (awaited_height st) → IsEmptied st.inclusion
-    → ComesOver (λ fault. (h : Held) × Finds devices h × IsSetupFault c st.participation.epoch info (share_read c info h) (seed_read c info h) st fault)
-    (λ end left. (h : Held) × Finds devices h × IsSeated c standing info (share_read c info h) (seed_read c info h) (unasked st) (unasked end) × (end.inclusion ≡ st.inclusion)
+    → ComesOver (λ fault. (h : Held) × FindsHeld devices h × IsSetupFault c st.participation.epoch info (share_read c info h) (seed_read c info h) st fault)
+    (λ end left. (h : Held) × FindsHeld devices h × IsSeated c standing info (share_read c info h) (seed_read c info h) (unasked st) (unasked end) × (end.inclusion ≡ st.inclusion)
     × (left ≡ option_map (set_up_by standing st.participation.epoch info (share_read c info h) (seed_read c info h)) devices)) (with_info c None standing info st) devices
 
 -- MAIL
@@ -135,11 +135,11 @@ pub record IsCarriedOn {Dir : Type 0} (c : Fixed Dir) (stored : OfShares) (b : B
   pub carried : info_of b.payload ≡ Some info
   pub of_next : info.epoch ≡ next_epoch c b
   pub h : Held
-  pub found : Finds devices h
+  pub found : FindsHeld devices h
   pub share : Option ℕ
   pub shared : IsShareTaken c stored st h info share st.participation.stage
   pub k : Held
-  pub between : Finds (option_map (held_with c info share) devices) k
+  pub between : FindsHeld (option_map (held_with c info share) devices) k
 
 -- .. by which the life takes part in the next epoch. Nothing is left of requests but which numbers were used and what they were told.
 pub record IsPassedOn {Dir : Type 0} (c : Fixed Dir) (stored : OfShares) (b : Block Dir) (st : Live Dir) (devices : Option Held) (end : Live Dir) (left : Option Held) : Type 0 where
@@ -226,7 +226,7 @@ pub record IsNextThrough {Dir : Type 0} (c : Fixed Dir) (stored : OfShares) (st 
 
 -- what a read may find in a step that includes a block: what the devices hold, or that with a record more
 abbrev pub FindsOn : Option Held → Held → Type 0
-FindsOn devices h = Finds devices h ⊎ ((epoch : ℕ) × (bytes : List ℕ) × Finds (option_map (after (OnDisk (Appends (epoch, bytes)))) devices) h)
+FindsOn devices h = FindsHeld devices h ⊎ ((epoch : ℕ) × (bytes : List ℕ) × FindsHeld (option_map (after (OnDisk (Appends (epoch, bytes)))) devices) h)
 
 -- The read of an epoch's share finds what is said of it.
 abbrev pub StepReads : {Dir : Type 0} → Fixed Dir → OfShares → Option Held → Type 0

@@ -5,7 +5,7 @@ use Rattle.std.proofs.lemmas.List.{reverse-append}
 use Rattle.dkg_types.specs.declared.info.EpochInfo.{EpochInfo}
 use Rattle.dkg_types.specs.declared.scheme.SchemeInfo.{SchemeInfo}
 use Rattle.dkg_core.specs.Live.{Inclusion, Orchestrator}
-use Rattle.dkg_dealing.specs.LiveOf.{Beside, EndsBeside, EndsWith, IsFresh, Took, nothing_beside, scheme_by, with_scheme_of}
+use Rattle.dkg_dealing.specs.LiveOf.{Beside, EndsBeside, EndsWith, IsFresh, TookSchemes, nothing_beside, scheme_by, with_scheme_of}
 
 module _ {Dir : Type 0} (beside : Beside Dir) (TookThese : List (ℕ × SchemeInfo) → Type 0) (P : Beside Dir → Type 0) where
   -- nothing
@@ -41,14 +41,14 @@ then_beside {Dir} beside me info share took so ends = record {
   holds = so ends.now ends.holds;
 }
 
-pub took_none : (tells : Bool) (taken : List (ℕ × SchemeInfo)) → Took tells taken taken []
+pub took_none : (tells : Bool) (taken : List (ℕ × SchemeInfo)) → TookSchemes tells taken taken []
 took_none tells taken = λ told. sym (append-nil taken)
 
-pub took_nothing : (tells : Bool) (taken more : List (ℕ × SchemeInfo)) → more ≡ [] → Took tells taken taken more
-took_nothing tells taken more none = subst (λ (l : List (ℕ × SchemeInfo)). Took tells taken taken l) (sym none) (took_none tells taken)
+pub took_nothing : (tells : Bool) (taken more : List (ℕ × SchemeInfo)) → more ≡ [] → TookSchemes tells taken taken more
+took_nothing tells taken more none = subst (λ (l : List (ℕ × SchemeInfo)). TookSchemes tells taken taken l) (sym none) (took_none tells taken)
 
 -- one taking behind another
-pub took_then : (tells : Bool) (old mid new first more : List (ℕ × SchemeInfo)) → (IsTrue tells → mid ≡ old ++ reverse first) → Took tells mid new more → Took tells old new (more ++ first)
+pub took_then : (tells : Bool) (old mid new first more : List (ℕ × SchemeInfo)) → (IsTrue tells → mid ≡ old ++ reverse first) → TookSchemes tells mid new more → TookSchemes tells old new (more ++ first)
 took_then tells old mid new first more one other = λ told.
     other told
     ∙ ap (λ (l : List (ℕ × SchemeInfo)). l ++ reverse more) (one told)

@@ -3,7 +3,7 @@ use Rattle.std.proofs.Common.{◌≡◌, ◌⊎◌, inl, inr, ℕ, ◌<◌, ◌�
 use Rattle.std.specs.Prelude.{IfErr}
 use Rattle.dkg_ceremony.specs.declared.round.RoundParts.{RoundParts as Round}
 use Rattle.dkg_ceremony.specs.declared.round.RoundError.{RoundError}
-use Rattle.dkg_store.specs.Called.{IsDue}
+use Rattle.dkg_store.specs.Called.{ErrorIsDue}
 use Rattle.dkg_store.specs.Errors.{IsOfPlaying}
 use Rattle.dkg_store.specs.declared.call.StoreError.{StoreError}
 use Rattle.dkg_store.specs.declared.call.StoreError.TheVariants.{Disk, Secrets as SecretsFailed, Corrupt, LocalState, StateSyncEpochs, StateSyncMaterial, Cut as StoreCut, NoMemory}
@@ -105,7 +105,7 @@ of_playing StoreCut is = absurd is
 of_playing NoMemory is = tt
 
 -- WHAT A STORE'S ERROR BLAMES, and that it comes from outside
-pub of_due : {disk secrets cut disk_rose secrets_rose reached : Type 0} (want : Type 0) (e : StoreError) → IsDue e disk secrets cut want → (disk → disk_rose) → (secrets → secrets_rose) → (cut → reached)
+pub of_due : {disk secrets cut disk_rose secrets_rose reached : Type 0} (want : Type 0) (e : StoreError) → ErrorIsDue e disk secrets cut want → (disk → disk_rose) → (secrets → secrets_rose) → (cut → reached)
     → IsOutside (stop_of e) × IsCaused (stop_of e) disk_rose secrets_rose reached
 of_due want Disk due d s c = (refl, d due)
 of_due want SecretsFailed due d s c = (refl, s due)

@@ -17,7 +17,7 @@ use Rattle.dkg_dealing.specs.declared.life.Stage.{Stage}
 use Rattle.dkg_dealing.specs.declared.life.Stage.TheVariants.{Dealing, Including, Following}
 use Rattle.dkg_dealing.specs.Ready.{IsReadyLife}
 use Rattle.dkg_dealing.specs.Heard.{round_dealt}
-use Rattle.dkg_dealing.specs.LiveOf.{DealsIn, IsDealing, IsSeated, Sits, SitsIn}
+use Rattle.dkg_dealing.specs.LiveOf.{DealsIn, IsDealing, PlayerSits, Sits, SitsIn}
 use Rattle.dkg_dealing.specs.Moved.{IsFirm}
 use Rattle.dkg_dealing.specs.Rules.{AckOf, CheckAckOf, DealOf}
 use Rattle.dkg_dealing.specs.Steps.{SameHalves, is_dealing}
@@ -82,8 +82,8 @@ dealing_on {Dir} deal_of check_ack_of me life store player dealing = by_dealer l
     by_dealer (Some d) is = record { round = is.round; has = is.has; deals = is.deals; is_open = is.is_open; unsigned = is.unsigned }
 
 -- the same player beside another dealer, and a store with the same dealings
-pub seated_beside : {Dir : Type 0} (ack_of : AckOf) (me : ℕ) (life : Life Dir) (store : Store Dir) (dealer : Option Dealer) → store.dealings ≡ life.store.dealings → IsSeated ack_of me life
-    → IsSeated ack_of me (record life { store = store; dealer = dealer })
+pub seated_beside : {Dir : Type 0} (ack_of : AckOf) (me : ℕ) (life : Life Dir) (store : Store Dir) (dealer : Option Dealer) → store.dealings ≡ life.store.dealings → PlayerSits ack_of me life
+    → PlayerSits ack_of me (record life { store = store; dealer = dealer })
 seated_beside {Dir} ack_of me life store dealer same seated = by_player life.player seated
   where
     by_player : (o : Option Player) → IfSome o (Sits ack_of me life) → IfSome o (Sits ack_of me (record life { store = store; dealer = dealer }))

@@ -7,12 +7,12 @@ use Rattle.dkg_values.specs.declared.codec.CodecError.{CodecError}
 use Rattle.dkg_journal.specs.Disk.{Follows}
 use Rattle.dkg_journal.specs.Names.{Files}
 use Rattle.dkg_journal.specs.Pruning.{Leaves}
-use Rattle.dkg_journal.specs.Records.{Entry, entries, from_section}
+use Rattle.dkg_journal.specs.Records.{SectionEntry, entries, from_section}
 use Rattle.dkg_journal.specs.Steps.{Keeps}
 use Rattle.dkg_store.specs.Corrupt.{AreFit}
 use Rattle.dkg_store.specs.Events.{event_at, no_limit}
 use Rattle.dkg_secrets.specs.Keys.{StaysOrGoes, key_cmp}
-use Rattle.dkg_store.specs.Pairs.{Dealing, IsWhole, Pairs, dealing_in, dealing_of, recovered, with_dealing, with_half}
+use Rattle.dkg_store.specs.Pairs.{Dealing, IsWhole, Pairs, dealing_in_event, recorded_dealing, recovered, with_dealing, with_half}
 use Rattle.dkg_store.specs.Recorded.{Pair}
 use Rattle.dkg_secrets.specs.Secrets.{Secrets, Tries}
 use Rattle.dkg_store.specs.declared.event.Event.{Event}
@@ -40,15 +40,15 @@ abbrev IsOf : ℕ → Option Dealing → Type 0
 IsOf section None = Unit {0}
 IsOf section (Some d) = d.key.0 ≡ section
 
-of_section : (epoch : ℕ) (r : Result Event CodecError) → IsOf epoch (dealing_in epoch r)
+of_section : (epoch : ℕ) (r : Result Event CodecError) → IsOf epoch (dealing_in_event epoch r)
 of_section epoch (Ok (events.Dealing dealer public)) = refl
 of_section epoch (Ok (events.Ack player ack)) = tt
 of_section epoch (Ok (events.Log dealer log)) = tt
 of_section epoch (Ok (events.LogAt dealer height log)) = tt
 of_section epoch (Err e) = tt
 
-abbrev steps_from : Secrets → Pairs → List Entry → Pairs
-steps_from s m es = fold (λ n e. with_dealing s n (dealing_of e)) m es
+abbrev steps_from : Secrets → Pairs → List SectionEntry → Pairs
+steps_from s m es = fold (λ n e. with_dealing s n (recorded_dealing e)) m es
 
 module _ (min : ℕ) (s t : Secrets) (halves : (k : ℕ × ℕ) → min ≤ k.0 → get t.privates k ≡ get s.privates k) where
   same_step : (section : ℕ) (m : Pairs) (o : Option Dealing) → IsOf section o → min ≤ section → with_dealing t m o ≡ with_dealing s m o
@@ -56,12 +56,12 @@ module _ (min : ℕ) (s t : Secrets) (halves : (k : ℕ × ℕ) → min ≤ k.0 
   same_step section m (Some d) is above = ap (with_half m d) (halves d.key (subst (λ (n : ℕ). min ≤ n) (sym is) above))
 
   -- records from a minimum on say the same with the same halves from there on
-  same_from : (es : List Entry) (m : Pairs) → steps_from t m (from_section min es) ≡ steps_from s m (from_section min es)
+  same_from : (es : List SectionEntry) (m : Pairs) → steps_from t m (from_section min es) ≡ steps_from s m (from_section min es)
   same_from [] m = refl
   same_from (e ∷ es) m = elim (below_or min e.0) [
     | inl below ↦ subst (λ (b : Bool). steps_from t m (cond b (e ∷ from_section min es) (from_section min es)) ≡ steps_from s m (cond b (e ∷ from_section min es) (from_section min es))) (sym below.1) (same_from es m)
     | inr above ↦ subst (λ (b : Bool). steps_from t m (cond b (e ∷ from_section min es) (from_section min es)) ≡ steps_from s m (cond b (e ∷ from_section min es) (from_section min es))) (sym above.1)
-        (ap (λ (n : Pairs). steps_from t n (from_section min es)) (same_step e.0 m (dealing_of e) (of_section e.0 (whole (event_at no_limit e.1))) above.0) ∙ same_from es (with_dealing s m (dealing_of e)))
+        (ap (λ (n : Pairs). steps_from t n (from_section min es)) (same_step e.0 m (recorded_dealing e) (of_section e.0 (whole (event_at no_limit e.1))) above.0) ∙ same_from es (with_dealing s m (recorded_dealing e)))
   ]
 
 kept_half : (min key : ℕ) (old new : Option ℕ) → StaysOrGoes min key old new → min ≤ key → new ≡ old
@@ -73,7 +73,7 @@ pruned_gives min image next s t left tries = λ pairs gives. record {
   each = λ c here key above.
       let d = left.each c here in
       let halves : (k : ℕ × ℕ) → min ≤ k.0 → get t.privates k ≡ get s.privates k = λ k up. kept_half min k.0 (get s.privates k) (get t.privates k) (tries.so.privates k) up in
-      ap (λ (es : List Entry). get (recovered es t) key) d.2.left
+      ap (λ (es : List SectionEntry). get (recovered es t) key) d.2.left
       ∙ ap (λ (m : Pairs). get m key) (same_from min s t halves (entries d.0) empty ∙ recovered_from min (entries d.0) s)
       ∙ retained_at (recovered (entries d.0) s) min key above
       ∙ gives.each d.0 d.1 key above;
@@ -90,7 +90,7 @@ opened_above min image next s t same fit keeps = record {
         d.1,
         record {
           plan = d.2.plan;
-          whole = λ w. subst (λ (x : Secrets). IsWhole (entries c) x) (sym same) (subst (λ (es : List Entry). IsWhole es s) (sym d.2.same) w);
+          whole = λ w. subst (λ (x : Secrets). IsWhole (entries c) x) (sym same) (subst (λ (es : List SectionEntry). IsWhole es s) (sym d.2.same) w);
           pairs = λ w. λ i. retain_keys (recovered (d.2.same i) (same i)) (λ k. nat_le min k.0);
         },
       );

@@ -26,7 +26,7 @@ use Rattle.dkg_dealing.specs.declared.stop.Stop.TheVariants.{Fault as Faulted}
 use Rattle.dkg_dealing.specs.Ends.{by_stop, ends_in}
 use Rattle.dkg_dealing.specs.Given.{IsOf}
 use Rattle.dkg_dealing.specs.Heard.{answers, pairs_after, round_dealt}
-use Rattle.dkg_dealing.specs.LiveOf.{Beside, IsSeated, Sits, SitsAt, live_of, seat_of}
+use Rattle.dkg_dealing.specs.LiveOf.{Beside, PlayerSits, Sits, SitsAt, live_of, seat_of}
 use Rattle.dkg_dealing.specs.Made.{MakesAt}
 use Rattle.dkg_dealing.specs.Rules.{AckOf, AnswersBy, CheckAckOf, DealingOf}
 use Rattle.dkg_core.specs.Said.{Said}
@@ -35,7 +35,7 @@ use Rattle.dkg_dealing.proofs.Hearing.{dealing_made, dealing_said, dealing_stopp
 use Rattle.dkg_dealing.proofs.Seated.{at_some, round_is, sits_at}
 
 module _ {Dir : Type 0} (dealing_of : DealingOf) (ack_of : AckOf) (its : ℕ) (terms : Terms) (old : Life Dir) (player : Player) (epoch from : ℕ) (public : List ℕ) (private : ℕ)
-    (is : old.player ≡ Some player) (seated : IsSeated ack_of terms.me old) (mine : terms.me ≡ its) (dealt : round_dealt old ≡ Some epoch)
+    (is : old.player ≡ Some player) (seated : PlayerSits ack_of terms.me old) (mine : terms.me ≡ its) (dealt : round_dealt old ≡ Some epoch)
   where
     sits : Sits ack_of terms.me old player
     sits = at_some (Sits ack_of terms.me old) old.player player is seated

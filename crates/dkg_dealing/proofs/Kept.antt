@@ -12,7 +12,7 @@ use Rattle.dkg_journal.proofs.Steps.{then_all}
 use Rattle.dkg_store.specs.Both.{MadeBoth}
 use Rattle.dkg_secrets.specs.Keys.{key_cmp}
 use Rattle.dkg_store.specs.Named.{SamePlan}
-use Rattle.dkg_store.specs.Pairs.{Holds, HoldsPruned, IsWhole, Pairs, recovered}
+use Rattle.dkg_store.specs.Pairs.{HoldsDealings, HoldsPruned, IsWhole, Pairs, recovered}
 use Rattle.dkg_secrets.specs.Secrets.{Secrets}
 use Rattle.dkg_store.specs.declared.devices.Devices.{Devices}
 use Rattle.dkg_secrets.specs.declared.secrets.SecretOp.{SecretOp}
@@ -27,7 +27,7 @@ module _ {D : Type 0} (image : D → Files → Type 0) (old new : D) (same : new
   stays_sound : (most : ℕ) → StaysSound most (image old) (image new)
   stays_sound most = subst (λ (d : D). StaysSound most (image old) (image d)) (sym same) (record { fit = λ a. a; plan = record { each = λ c has. (c, has, refl) } })
 
-  pub stays_whole : (held held_now : Secrets) → ((pairs : Pairs) → Holds pairs (image old) held → Holds pairs (image new) held_now)
+  pub stays_whole : (held held_now : Secrets) → ((pairs : Pairs) → HoldsDealings pairs (image old) held → HoldsDealings pairs (image new) held_now)
       → StaysWhole (image old) (image new) held held_now
   stays_whole held held_now holds = record { sound = stays_sound; holds = holds }
 
@@ -93,7 +93,7 @@ module _ (min : ℕ) where
       (subst (λ (s : Secrets). StaysAbove min (image old) (image old) held s) (sym same_secrets) (above_itself (image old) held))
 
   -- what holds, holds from the first epoch on
-  pub all_pruned : (pairs : Pairs) (image : Files → Type 0) (held : Secrets) → Holds pairs image held → HoldsPruned min pairs image held
+  pub all_pruned : (pairs : Pairs) (image : Files → Type 0) (held : Secrets) → HoldsDealings pairs image held → HoldsPruned min pairs image held
   all_pruned pairs image held holds = record {
     whole = holds.whole;
     gives = λ c here. (0, omega arith, holds.gives c here ∙ sym (kept_above pairs 0 0 (λ key has. omega arith) (omega arith)));
@@ -101,13 +101,13 @@ module _ (min : ℕ) where
 
   -- Where nothing was loose, this is what holds of each image.
   pub above_of : (files : Files) (image next : Files → Type 0) (held now : Secrets) → Lands files image → ((most : ℕ) → StaysSound most image next)
-      → ((pairs : Pairs) → Holds pairs image held → HoldsPruned min pairs next now) → StaysAbove min image next held now
+      → ((pairs : Pairs) → HoldsDealings pairs image held → HoldsPruned min pairs next now) → StaysAbove min image next held now
   above_of files image next held now lands sound holds = record {
     fit = λ most. (sound most).fit;
     each = λ c here. let d = (sound 0).plan.each c here in (d.0, d.1, given d.0 d.1 c here d.2);
   }
     where
-      once : (d : Files) → image d → IsWhole (entries d) held → Holds (recovered (entries d) held) image held
+      once : (d : Files) → image d → IsWhole (entries d) held → HoldsDealings (recovered (entries d) held) image held
       once d has whole =
           let same : (c : Files) → image c → c ≡ d = λ c here. lands.only c here ∙ sym (lands.only d has) in
           record {

@@ -1,5 +1,5 @@
 pub mod Acked
-pub mod Beginning
+pub mod OpeningCourses
 pub mod Beside
 pub mod Blamed
 pub mod Burning

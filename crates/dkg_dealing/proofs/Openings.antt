@@ -9,7 +9,7 @@ use Rattle.dkg_journal.specs.Fuse.{Reached}
 use Rattle.dkg_journal.specs.Gated.{gated, gated_behind}
 use Rattle.dkg_journal.specs.Names.{Files}
 use Rattle.dkg_journal.specs.Opening.{broken}
-use Rattle.dkg_journal.specs.Records.{Entry, entries}
+use Rattle.dkg_journal.specs.Records.{SectionEntry, entries}
 use Rattle.dkg_journal.specs.Views.{views}
 use Rattle.dkg_journal.specs.declared.opening.JournalEntry.{JournalEntry}
 use Rattle.dkg_types.specs.declared.entry.Entry.{Entry as Line}
@@ -22,7 +22,7 @@ use Rattle.dkg_store.specs.Calls as calls_of
 use Rattle.dkg_store.specs.Calls.{by_error}
 use Rattle.dkg_store.specs.Noted.{Notes}
 use Rattle.dkg_store.specs.declared.recorded_log.RecordedLog.{RecordedLog}
-use Rattle.dkg_store.specs.Called.{IsDueWith}
+use Rattle.dkg_store.specs.Called.{ErrorIsDueWith}
 use Rattle.dkg_store.specs.Counts.{CountsOn}
 use Rattle.dkg_store.specs.Corrupt.{AreEvents, HasNoEvent, IsCorruptAt}
 use Rattle.dkg_store.specs.Errors.{IsOfDevices, IsOfPruning}
@@ -58,7 +58,7 @@ use Rattle.dkg_dealing.specs.Made.{MakesAt, Tells, UnlessBroken}
 use Rattle.dkg_dealing.specs.Moved.{StaysFrom}
 use Rattle.dkg_dealing.specs.Opened.{IsInGrammar, OpensReadable, opens_store, startup_of}
 use Rattle.dkg_dealing.specs.Planless.{IsBareOpening, seen_planless}
-use Rattle.dkg_dealing.proofs.Beginning.{begun_at, begun_live, makes_as, opening_as, recorded, sets_up_over, tells_as}
+use Rattle.dkg_dealing.proofs.OpeningCourses.{begun_at, begun_live, makes_as, opening_as, recorded, sets_up_over, tells_as}
 use Rattle.dkg_dealing.proofs.Burning.{burns_counted, by_stop_alike, line_makes, makes_early, makes_error, makes_next, makes_under, outside_of_pruning, unless_outside, unless_so}
 use Rattle.dkg_dealing.proofs.Chained.{early_makes, early_told, then_makes, then_told}
 use Rattle.dkg_dealing.proofs.Giving.{given_above, given_on}
@@ -67,16 +67,16 @@ use Rattle.dkg_dealing.proofs.Said.{nothing_held, said_none}
 -- A JOURNAL IN ITS GRAMMAR
 
 -- an entry again, without the place of its gate
-abbrev bare : Entry → Entry
+abbrev bare : SectionEntry → SectionEntry
 bare e = (e.0, drop 1 e.1)
 
-bare_behind : (section place : ℕ) (es : List Entry) → map bare (gated_behind section place es) ≡ es
+bare_behind : (section place : ℕ) (es : List SectionEntry) → map bare (gated_behind section place es) ≡ es
 bare_behind section place [] = refl
-bare_behind section place (e ∷ es) = let at = if e.0 == section then place else 0 in ap (λ (l : List Entry). e ∷ l) (bare_behind e.0 (at + (5 + length e.1)) es)
+bare_behind section place (e ∷ es) = let at = if e.0 == section then place else 0 in ap (λ (l : List SectionEntry). e ∷ l) (bare_behind e.0 (at + (5 + length e.1)) es)
 
 bare_views : (es : List JournalEntry) → map bare (map gated es) ≡ views es
 bare_views [] = refl
-bare_views (e ∷ es) = ap (λ (l : List Entry). (e.section, e.body) ∷ l) (bare_views es)
+bare_views (e ∷ es) = ap (λ (l : List SectionEntry). (e.section, e.body) ∷ l) (bare_views es)
 
 -- no record of it is corrupt
 uncorrupt : (limit : ℕ) (files : Files) (name : Name) (place : ℕ) → IsInGrammar limit files → IsCorruptAt limit files name place → ⊥
@@ -94,7 +94,7 @@ was_readable its (Ok x) = record { ok = its; untold = λ no. absurd (no its); sh
 was_readable its (Err stop) = record { ok = tt; untold = λ no. absurd (no its); shut = λ no. absurd (no its) }
 
 -- so its opening ends by a device, a cut or want of memory
-pub opens_by_devices : (limit : ℕ) (files : Files) → IsInGrammar limit files → (record_at : Name → ℕ → Type 0) (disk secrets cut want : Type 0) (e : StoreError) → IsDueWith record_at e disk secrets cut want
+pub opens_by_devices : (limit : ℕ) (files : Files) → IsInGrammar limit files → (record_at : Name → ℕ → Type 0) (disk secrets cut want : Type 0) (e : StoreError) → ErrorIsDueWith record_at e disk secrets cut want
     → ((name : Name) (place : ℕ) → record_at name place → IsCorruptAt limit files name place) → IsOfDevices e
 opens_by_devices limit files grammar record_at disk secrets cut want Disk due corrupt = tt
 opens_by_devices limit files grammar record_at disk secrets cut want SecretsFailed due corrupt = tt
@@ -106,7 +106,7 @@ opens_by_devices limit files grammar record_at disk secrets cut want StoreCut du
 opens_by_devices limit files grammar record_at disk secrets cut want NoMemory due corrupt = tt
 
 -- AN OPENING THAT FAILED, and what it blames
-pub opening_found : (limit : ℕ) (tells : Bool) (files : Files) (record_at : Name → ℕ → Type 0) (disk secrets cut want secrets_rose reached : Type 0) (e : StoreError) → IsDueWith record_at e disk secrets cut want
+pub opening_found : (limit : ℕ) (tells : Bool) (files : Files) (record_at : Name → ℕ → Type 0) (disk secrets cut want secrets_rose reached : Type 0) (e : StoreError) → ErrorIsDueWith record_at e disk secrets cut want
     → ((name : Name) (place : ℕ) → record_at name place → IsTrue tells → IsCorruptAt limit files name place) → (secrets → secrets_rose) → (cut → reached) → IsFoundAt limit tells files (stop_of e) disk secrets_rose reached
 opening_found limit tells files record_at disk secrets cut want secrets_rose reached Disk due found of_secrets of_cut = due
 opening_found limit tells files record_at disk secrets cut want secrets_rose reached SecretsFailed due found of_secrets of_cut = of_secrets due
@@ -184,7 +184,7 @@ pub opened_told : {Dir : Type 0} (store : Store Dir) (life calls : ℕ) {out now
     → Tells {Dir = Dir} (opens_store (λ h. seen_of store) life calls) (went (records_of store)) out now
 opened_told store life calls told = record { lines = Opened life (map restored_of (maps.entries store.dealings)) ∷ []; added = told; by = (nothing_held, ([], refl, (refl, refl))) }
 
-pub given_back : {Dir : Type 0} (store : Store Dir) (image : Files → Type 0) (es : List Entry) (s t : Secrets) → store.dealings ≡ recovered es s → ((c : Files) → image c → entries c ≡ es) → t ≡ s
+pub given_back : {Dir : Type 0} (store : Store Dir) (image : Files → Type 0) (es : List SectionEntry) (s t : Secrets) → store.dealings ≡ recovered es s → ((c : Files) → image c → entries c ≡ es) → t ≡ s
     → AreGivenFrom 0 (seen_of store).dealings image t
 given_back store image es s t is settled same = λ c here key above.
     sym (get-entries store.dealings key) ∙ ap (λ (m : Pairs). get m key) (is ∙ (λ i. recovered (sym (settled c here) i) (sym same i)))

@@ -37,7 +37,7 @@ use Rattle.dkg_dealing.specs.declared.stop.Stop.TheVariants.{Fault as Faulted}
 use Rattle.dkg_dealing.specs.Ends.{IsCaused, by_stop}
 use Rattle.dkg_dealing.specs.Given.{IsOf}
 use Rattle.dkg_dealing.specs.Heard.{answers, pairs_after, round_dealt}
-use Rattle.dkg_dealing.specs.LiveOf.{Beside, DealsIn, IsDealing, IsSeated, IsWithin, Sits, SitsAt, dealer_of, live_of, seat_of}
+use Rattle.dkg_dealing.specs.LiveOf.{Beside, DealsIn, IsDealing, PlayerSits, IsWithin, Sits, SitsAt, dealer_of, live_of, seat_of}
 use Rattle.dkg_dealing.specs.Made.{MakesAt, Speaks}
 use Rattle.dkg_dealing.specs.Rules.{AckOf, AnswersBy, CheckAckOf, DealOf, DealingOf}
 use Rattle.dkg_dealing.proofs.Burning.{makes_early, makes_next}
@@ -266,7 +266,7 @@ own_within deal_of check_ack_of me life dealer deals short limit some within =
     (subst (λ (r : Round). length r.players ≤ limit) (sym deals.deals.round_is) (at_some (λ (r : Round). length r.players ≤ limit) life.round deals.round deals.has within))
 
 module _ {Dir : Type 0} (dealing_of : DealingOf) (ack_of : AckOf) (deal_of : DealOf) (check_ack_of : CheckAckOf) (its : ℕ) (terms : Terms) (old : Life Dir) (dealer : Dealer) (player : Player)
-    (epoch : ℕ) (public : List ℕ) (private : ℕ) (deals : old.dealer ≡ Some dealer) (plays : old.player ≡ Some player) (seated : IsSeated ack_of terms.me old) (offers : IsDealing deal_of check_ack_of terms.me old)
+    (epoch : ℕ) (public : List ℕ) (private : ℕ) (deals : old.dealer ≡ Some dealer) (plays : old.player ≡ Some player) (seated : PlayerSits ack_of terms.me old) (offers : IsDealing deal_of check_ack_of terms.me old)
     (mine : terms.me ≡ its) (dealt : round_dealt old ≡ Some epoch) (half : IsSomeAnd old.dealer (λ d. (d.public ≡ public) × (lookup terms.me d.privates ≡ Some private)))
     (pass : (round : Round) (signer : ℕ) (share : Option ℕ) (seed : List ℕ) → Contains round.dealers signer
     → IfOk (deal_of round signer share seed) (λ dealt. (me : ℕ) → Contains round.players me → IsSomeAnd (lookup me dealt.1) (λ private. dealing_of round me signer dealt.0 private ≡ Ok tt)))

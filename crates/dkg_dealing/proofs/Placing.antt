@@ -28,14 +28,14 @@ use Rattle.dkg_dealing.specs.declared.life.Stage.{Stage}
 use Rattle.dkg_dealing.specs.declared.life.Stage.TheVariants.{Dealing, Including, Following}
 use Rattle.dkg_dealing.specs.declared.config.Terms.{Terms}
 use Rattle.dkg_dealing.specs.Ready.{IsReadyLife, IsSetUp}
-use Rattle.dkg_dealing.specs.LiveOf.{Beside, IsDealing, IsFresh, IsPlaced, IsSeated, IsWithin, awaited_of, live_of}
+use Rattle.dkg_dealing.specs.LiveOf.{Beside, IsDealing, IsFresh, IsPlaced, PlayerSits, IsWithin, awaited_of, live_of}
 use Rattle.dkg_dealing.specs.Moved.{IsFirm}
 use Rattle.dkg_dealing.specs.Given.{IsLent, IsOf, ReadsPlanless}
 use Rattle.dkg_dealing.specs.Rules.{AckOf, BearsAckOf, CheckAckOf, DealOf, DealingOf, IsRuledBy, PartialPublicOf, RoundOf, SharePublicOf, SignLogOf}
 use Rattle.dkg_dealing.specs.Planless.{seen_planless}
 use Rattle.dkg_values.specs.declared.codec.CodecError.TheVariants.{EndOfBuffer}
 use Rattle.dkg_dealing.specs.Steps.{AreBoundsAt, StandsIn, stage_in}
-use Rattle.dkg_dealing.proofs.Beginning.{out_of_range, sets_up_as}
+use Rattle.dkg_dealing.proofs.OpeningCourses.{out_of_range, sets_up_as}
 use Rattle.dkg_dealing.proofs.Beside.{fresh_stays}
 use Rattle.dkg_dealing.proofs.Ranges.{is_past, not_past}
 
@@ -173,7 +173,7 @@ module _ {Dir D X : Type 0} (tells : Bool) (files : D → Files) (image : D → 
     pub following_ready : (devices : Devices D X) → (IsTrue tells → IsFirm old.store.journal (files devices.disk.now) (image devices.disk.now))
         → IsReadyLife tells files image ack_of deal_of check_ack_of terms life devices
     following_ready devices firm = record {
-      seated = subst (λ (l : Life Dir). IsSeated ack_of terms.me l) (sym now) tt;
+      seated = subst (λ (l : Life Dir). PlayerSits ack_of terms.me l) (sym now) tt;
       dealing = subst (λ (l : Life Dir). IsDealing deal_of check_ack_of terms.me l) (sym now) tt;
       placed = set_placed (non_zero_u64_get terms.blocks_per_epoch) terms.long life (awaited_of old) (ap (λ (l : Life Dir). awaited_of l) (sym now)) bounds at (ap (λ (l : Life Dir). l.epoch) now) (ap (λ (l : Life Dir). l.midpoint) now)
           (λ apart. absurd (apart (ap (λ (l : Life Dir). l.stage) now))) (λ dealing. absurd (let e : ◌≡◌ {A = Stage} Following Dealing = sym (ap (λ (l : Life Dir). l.stage) now) ∙ dealing in cc))
@@ -197,7 +197,7 @@ module _ {Dir D X : Type 0} (tells : Bool) (files : D → Files) (image : D → 
 -- as its last part leaves it
 pub drawn_up : {Dir D X T E : Type 0} (tells : Bool) (files : D → Files) (image : D → Files → Type 0) (ack_of : AckOf) (deal_of : DealOf) (check_ack_of : CheckAckOf) (me limit : ℕ) (phase : Phase) (life new : Life Dir) (devices : Devices D X)
     → new ≡ record life { stage = new.stage; round = new.round; dealer = new.dealer; player = new.player } → (IsTrue tells → IsFirm life.store.journal (files devices.disk.now) (image devices.disk.now))
-    → (r : Result T E) → OnOk r (IsSeated ack_of me new × IsDealing deal_of check_ack_of me new × IsWithin limit new.round × IsSome new.round × (new.stage ≡ stage_in phase))
+    → (r : Result T E) → OnOk r (PlayerSits ack_of me new × IsDealing deal_of check_ack_of me new × IsWithin limit new.round × IsSome new.round × (new.stage ≡ stage_in phase))
     → OnOk r (IsSetUp tells files image ack_of deal_of check_ack_of me limit phase new devices)
 drawn_up {Dir} tells files image ack_of deal_of check_ack_of me limit phase life new devices rest firm (Ok x) sits = record {
   seated = sits.0;

@@ -9,7 +9,7 @@ use Rattle.dkg_store.specs.Acts.{Acts, Held, held_in, World, says, does, Complet
 use Rattle.dkg_core.specs.Courses.{Course, on_devices}
 use Rattle.dkg_store.specs.Acts.{by_cut, by_want}
 use Rattle.dkg_values.specs.declared.name.Name.{Name}
-use Rattle.dkg_store.specs.Called.{IsDueWith}
+use Rattle.dkg_store.specs.Called.{ErrorIsDueWith}
 use Rattle.dkg_store.specs.Errors.{IsOfDevices, IsOfPruning}
 use Rattle.dkg_store.specs.declared.call.StoreError.{StoreError}
 use Rattle.dkg_store.specs.declared.call.StoreError.TheVariants.{Disk, Secrets as SecretsFailed, Corrupt, LocalState, StateSyncEpochs, StateSyncMaterial, Cut, NoMemory}
@@ -96,7 +96,7 @@ devices_of_pruning StateSyncMaterial is = absurd is
 devices_of_pruning Cut is = tt
 devices_of_pruning NoMemory is = tt
 
-pub pruning_of_due : (record_at : Name → ℕ → Type 0) (disk secrets cut want : Type 0) (e : StoreError) → IsDueWith record_at e disk secrets cut want → IsOfPruning e
+pub pruning_of_due : (record_at : Name → ℕ → Type 0) (disk secrets cut want : Type 0) (e : StoreError) → ErrorIsDueWith record_at e disk secrets cut want → IsOfPruning e
 pruning_of_due record_at disk secrets cut want Disk due = tt
 pruning_of_due record_at disk secrets cut want SecretsFailed due = tt
 pruning_of_due record_at disk secrets cut want (Corrupt name place) due = tt

@@ -19,7 +19,7 @@ use Rattle.dkg_types.specs.declared.outcome.EpochOutcome.{EpochOutcome}
 use Rattle.dkg_types.specs.declared.outcome.EpochOutcome.TheVariants.{Success, Failure}
 use Rattle.dkg_secrets.specs.Secrets.{Secrets}
 use Rattle.dkg_store.specs.Acts.{Acts, Ended, Held, MadeAt, by_secrets, by_want, held_in, moment, went}
-use Rattle.dkg_store.specs.Called.{IsDue}
+use Rattle.dkg_store.specs.Called.{ErrorIsDue}
 use Rattle.dkg_store.specs.declared.call.StoreError.{StoreError}
 use Rattle.dkg_store.specs.declared.call.StoreError.TheVariants.{Disk, Secrets as SecretsFailed, Corrupt, LocalState, StateSyncEpochs, StateSyncMaterial, Cut, NoMemory}
 use Rattle.dkg_store.proofs.Acts.{made_none_held, made_read}
@@ -143,7 +143,7 @@ still_makes {D} files image acts how {old} {new} {out} {s} {t} {f} {g} same stil
     (subst (λ (x : Burn). MakesAt acts how (files old) (image old) (files old) (image old) (moment out s f) (moment out t x)) (sym still)
     (record { made = made; burns = burns_still how refl }))
 
-none_read : {S : Type 0} (acts : Acts Fault S) (files : Files) (image : Files → Type 0) (secrets want : Type 0) (e : StoreError) → IsDue e ⊥ secrets ⊥ want → {out : List Line} {s t : Secrets} {f : Burn} → t ≡ s
+none_read : {S : Type 0} (acts : Acts Fault S) (files : Files) (image : Files → Type 0) (secrets want : Type 0) (e : StoreError) → ErrorIsDue e ⊥ secrets ⊥ want → {out : List Line} {s t : Secrets} {f : Burn} → t ≡ s
     → MadeAt acts (by_stop (stop_of e)) files image files image (moment out s f) (moment out t f)
 none_read acts files image secrets want Disk due same = absurd due
 none_read acts files image secrets want SecretsFailed due same = made_none_held files image acts by_secrets tt same refl
@@ -155,7 +155,7 @@ none_read acts files image secrets want Cut due same = absurd due
 none_read acts files image secrets want NoMemory due same = made_none_held files image acts by_want tt same refl
 
 -- a call that only read, and failed
-pub read_fails : {D S : Type 0} (files : D → Files) (image : D → Files → Type 0) (acts : Acts Fault S) (secrets want : Type 0) (e : StoreError) → IsDue e ⊥ secrets ⊥ want
+pub read_fails : {D S : Type 0} (files : D → Files) (image : D → Files → Type 0) (acts : Acts Fault S) (secrets want : Type 0) (e : StoreError) → ErrorIsDue e ⊥ secrets ⊥ want
     → {old new : D} {out : List Line} {s t : Secrets} {f g : Burn} → new ≡ old → t ≡ s → g ≡ f
     → MakesAt acts (by_stop (stop_of e)) (files old) (image old) (files new) (image new) (moment out s f) (moment out t g)
 read_fails files image acts secrets want e due {old} same kept still =

@@ -33,7 +33,7 @@ pairs_after None (Err refused) key pair pairs = pairs
 pairs_after None (Ok passed) key pair pairs = insert pairs key pair
 
 -- What a player that was handed a dealing leaves in memory: nothing but that, and the player keeps its seat.
-pub record Keeps {Dir : Type 0} (result : Result (Result (List ℕ) DealingError) Stop) (dealing_of : DealingOf) (ack_of : AckOf) (me epoch dealer : ℕ) (public : List ℕ) (private : ℕ) (old new : Store Dir) (player now : Player) : Type 0 where
+pub record KeepsSeat {Dir : Type 0} (result : Result (Result (List ℕ) DealingError) Stop) (dealing_of : DealingOf) (ack_of : AckOf) (me epoch dealer : ℕ) (public : List ℕ) (private : ℕ) (old new : Store Dir) (player now : Player) : Type 0 where
   pub round : now.round ≡ player.round
   pub sits : SitsIn ack_of me new player.round now
   pub rest : SameRest old new

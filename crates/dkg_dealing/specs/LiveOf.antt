@@ -41,8 +41,8 @@ pub record Sits {Dir : Type 0} (ack_of : ℕ → Round → ℕ → List ℕ → 
   pub sits : SitsIn ack_of me l.store round player
 
 -- what holds of a life between two calls
-abbrev pub IsSeated : {Dir : Type 0} → (ack_of : ℕ → Round → ℕ → List ℕ → List ℕ) → (me : ℕ) → Life Dir → Type 0
-IsSeated ack_of me l = IfSome l.player (Sits ack_of me l)
+abbrev pub PlayerSits : {Dir : Type 0} → (ack_of : ℕ → Round → ℕ → List ℕ → List ℕ) → (me : ℕ) → Life Dir → Type 0
+PlayerSits ack_of me l = IfSome l.player (Sits ack_of me l)
 
 -- A dealer is this node's in the round: what some share and seed deal there, with acknowledgements that pass.
 pub record DealsFor (deal_of : DealOf) (check_ack_of : CheckAckOf) (me : ℕ) (round : Round) (dealer : Dealer) : Type 0 where
@@ -136,8 +136,8 @@ abbrev pub with_scheme_of : {Dir : Type 0} → (me : ℕ) → EpochInfo Dir → 
 with_scheme_of me info share beside = with_scheme info.epoch (scheme_of me info.output.players info.output.sharing share) beside
 
 -- Where the registrar tells, it took these schemes, of which the last to come is the first here.
-abbrev pub Took : Bool → (old new schemes : List (ℕ × SchemeInfo)) → Type 0
-Took tells old new schemes = IsTrue tells → new ≡ old ++ reverse schemes
+abbrev pub TookSchemes : Bool → (old new schemes : List (ℕ × SchemeInfo)) → Type 0
+TookSchemes tells old new schemes = IsTrue tells → new ≡ old ++ reverse schemes
 
 -- What is not the life's is as it was, but for schemes that were registered, and the registrar took just these.
 pub record EndsBeside {Dir : Type 0} (old : Beside Dir) (TookThese : List (ℕ × SchemeInfo) → Type 0) (P : Beside Dir → Type 0) : Type 0 where

@@ -14,7 +14,7 @@ use Rattle.dkg_journal.specs.declared.journal.Journal.{Journal}
 use Rattle.dkg_store.specs.Corrupt.{AreFit}
 use Rattle.dkg_store.specs.Counts.{CountsOn}
 use Rattle.dkg_store.specs.Named.{SamePlan}
-use Rattle.dkg_store.specs.Pairs.{IsWhole, Pairs, Holds, recovered}
+use Rattle.dkg_store.specs.Pairs.{IsWhole, Pairs, HoldsDealings, recovered}
 use Rattle.dkg_secrets.specs.Secrets.{Secrets}
 use Rattle.dkg_store.specs.declared.devices.Devices.{Devices}
 
@@ -43,7 +43,7 @@ pub record StaysSound (most : ℕ) (image next : Files → Type 0) : Type 0 wher
 -- .. and whatever a crash gave back, it gives back: for calls that record nothing
 pub record StaysWhole (image next : Files → Type 0) (held held_now : Secrets) : Type 0 where
   pub sound : (most : ℕ) → StaysSound most image next
-  pub holds : (pairs : Pairs) → Holds pairs image held → Holds pairs next held_now
+  pub holds : (pairs : Pairs) → HoldsDealings pairs image held → HoldsDealings pairs next held_now
 
 -- What was whole is whole, and gives back the same dealings of this epoch and later ones; and the plan is the same.
 pub record StaysGiven (min : ℕ) (old new : Files) (held held_now : Secrets) : Type 0 where

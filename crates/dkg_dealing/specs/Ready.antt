@@ -15,7 +15,7 @@ use Rattle.dkg_dealing.specs.declared.life.Life.{Life}
 use Rattle.dkg_dealing.specs.declared.stop.Stop.{Stop}
 use Rattle.dkg_dealing.specs.declared.stop.Stop.TheVariants.{Fault as Faulted}
 use Rattle.dkg_dealing.specs.Ends.{IsCaused}
-use Rattle.dkg_dealing.specs.LiveOf.{IsDealing, IsPlaced, IsSeated, IsWithin}
+use Rattle.dkg_dealing.specs.LiveOf.{IsDealing, IsPlaced, PlayerSits, IsWithin}
 use Rattle.dkg_dealing.specs.Moved.{IsFirm}
 use Rattle.dkg_dealing.specs.Rules.{AckOf, CheckAckOf, DealOf}
 use Rattle.dkg_dealing.specs.Steps.{stage_in}
@@ -23,7 +23,7 @@ use Rattle.dkg_dealing.specs.Steps.{stage_in}
 -- a life on these devices, as the call before left them
 pub record IsReadyLife {Dir D X : Type 0} (tells : Bool) (files : D → Files) (image : D → Files → Type 0) (ack_of : AckOf) (deal_of : DealOf) (check_ack_of : CheckAckOf)
     (terms : Terms) (life : Life Dir) (devices : Devices D X) : Type 0 where
-  pub seated : IsSeated ack_of terms.me life
+  pub seated : PlayerSits ack_of terms.me life
   pub dealing : IsDealing deal_of check_ack_of terms.me life
   pub placed : IsPlaced (non_zero_u64_get terms.blocks_per_epoch) life
   pub within : IsWithin (non_zero_u32_get terms.limit) life.round
@@ -32,7 +32,7 @@ pub record IsReadyLife {Dir D X : Type 0} (tells : Bool) (files : D → Files) (
 -- .. of which this phase's setup is done
 pub record IsSetUp {Dir D X : Type 0} (tells : Bool) (files : D → Files) (image : D → Files → Type 0) (ack_of : AckOf) (deal_of : DealOf) (check_ack_of : CheckAckOf)
     (me limit : ℕ) (phase : Phase) (life : Life Dir) (devices : Devices D X) : Type 0 where
-  pub seated : IsSeated ack_of me life
+  pub seated : PlayerSits ack_of me life
   pub dealing : IsDealing deal_of check_ack_of me life
   pub within : IsWithin limit life.round
   pub joins : IsSome life.round

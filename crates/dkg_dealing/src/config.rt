@@ -35,7 +35,7 @@ pub struct Terms {
     pub reveal: Reveal,
     pub namespace: Blob,
     // A dealing that is read under the limit has its record's length in 32 bits.
-    pub ghost few: { non_zero_u32_get limit ≤ 2 ^ 30 },
+    pub ghost in_bound: { non_zero_u32_get limit ≤ 2 ^ 30 },
     // An epoch of one block has no early block, and is refused.
     pub ghost long: { 2 ≤ non_zero_u64_get blocks_per_epoch },
 }

@@ -20,7 +20,7 @@ ghost use Rattle.dkg_core.specs.Said.{Said};
 ghost use Rattle.dkg_dealing.specs.Ready.{IsReadyLife};
 ghost use Rattle.dkg_dealing.specs.Ends.{IsCaused, ends, ends_in};
 ghost use Rattle.dkg_dealing.specs.Given.{IsOf};
-ghost use Rattle.dkg_dealing.specs.Heard.{Keeps, answers, round_dealt};
+ghost use Rattle.dkg_dealing.specs.Heard.{KeepsSeat, answers, round_dealt};
 ghost use Rattle.dkg_dealing.specs.LiveOf.{Beside, SitsAt, dealer_of, live_of, seat_of};
 ghost use Rattle.dkg_dealing.specs.Made.{Makes, MakesOn, Tells};
 ghost use Rattle.dkg_dealing.specs.Moved.{IsFirm, Moved};
@@ -109,11 +109,11 @@ pub(crate) fn handle<C: Ceremony, Dir: Directory + Drop, D: Disk, X: SecretStore
     private: Private,
     out: &mut Transcript,
 ) -> Result<Result<Ack, DealingError>, Stop>
-    requires few { length public ≤ 2 ^ 30 }
+    requires in_bound { length public ≤ 2 ^ 30 }
     requires sits { SitsAt C.ack_of (C.Signer.key_of signer.now) epoch store.old player.old }
     requires firm { IsTrue D.tells → IsFirm store.old.journal (D.files devices.old.disk.now) (D.image devices.old.disk.now) }
     ensures firm { OnOk result (IsTrue D.tells → IsFirm store.new.journal (D.files devices.new.disk.now) (D.image devices.new.disk.now)) }
-    ensures keeps { Keeps result C.dealing_of C.ack_of (C.Signer.key_of signer.now) epoch from public private store.old store.new player.old player.new }
+    ensures keeps { KeepsSeat result C.dealing_of C.ack_of (C.Signer.key_of signer.now) epoch from public private store.old store.new player.old player.new }
     ensures acts { IsTrue D.tells → IsTrue X.tells → MakesOn D.files D.image X.held (answers C.dealing_of C.ack_of player.old.me player.old.round
         (map.get store.old.dealings (epoch, from)) epoch from public private) (ends (λ answer. answer) result)
         devices.old devices.new out.old.entries out.new.entries }

@@ -11,7 +11,7 @@ ghost use Rattle.dkg_core.specs.Fixed.{Fixed};
 ghost use Rattle.dkg_dealing.specs.Ready.{IsFoundAt, IsReadyLife, IsSoundAt};
 ghost use Rattle.dkg_dealing.specs.Ends.{ends};
 ghost use Rattle.dkg_dealing.specs.Given.{AreGivenFrom, HasRead, IsLent, reading};
-ghost use Rattle.dkg_dealing.specs.LiveOf.{EndsBeside, Took, live_of, no_fence, nothing_beside, records_of};
+ghost use Rattle.dkg_dealing.specs.LiveOf.{EndsBeside, TookSchemes, live_of, no_fence, nothing_beside, records_of};
 ghost use Rattle.dkg_dealing.specs.Made.{Makes, Tells, UnlessBroken};
 ghost use Rattle.dkg_dealing.specs.Moved.{IsFirm, Moved, StaysAbove};
 ghost use Rattle.dkg_dealing.specs.Opened.{IsInGrammar, IsOpeningOf, OpensReadable, epoch_at, opens_store, startup_of};
@@ -142,7 +142,7 @@ pub fn open_life<
         (D.image devices.old.disk.now) (D.image devices.new.disk.now) (X.held devices.old.secrets.now) (X.held devices.new.secrets.now) }
     ensures acts { IsTrue D.tells → IsTrue X.tells → (c : Fixed Dir) → IsOpeningOf terms.now (B.answers source.now) number word (D.files devices.old.disk.now) c
         → IsRuledBy C.round_of C.deal_of C.dealing_of C.ack_of C.check_ack_of C.sign_log_of C.bears_ack_of C.share_public_of C.partial_public_of c.rules
-        → fence.old ≡ no_fence → EndsBeside nothing_beside (λ more. OnOk result (Took R.tells (R.taken registrar.old) (R.taken registrar.new) more))
+        → fence.old ≡ no_fence → EndsBeside nothing_beside (λ more. OnOk result (TookSchemes R.tells (R.taken registrar.old) (R.taken registrar.new) more))
         (λ now. Makes D.files D.image X.held (opening c) (ends (live_of now fence.new) result)
         devices.old devices.new out.old.entries out.new.entries) }
     ensures tells { (c : Fixed Dir) → IsLent terms.now (B.answers source.now) word c → c.life ≡ number → IsBareOpening c
@@ -150,7 +150,7 @@ pub fn open_life<
         → fence.old ≡ no_fence
         → HasRead (λ s. UnlessBroken (ends (λ life. life) result) (IsTrue D.tells → IsTrue X.tells
         → AreGivenFrom (epoch_at (B.answers source.now) terms.now - 1) s.dealings (D.image devices.new.disk.now) (X.held devices.new.secrets.now)))
-        (λ s. EndsBeside nothing_beside (λ more. OnOk result (Took R.tells (R.taken registrar.old) (R.taken registrar.new) more))
+        (λ s. EndsBeside nothing_beside (λ more. OnOk result (TookSchemes R.tells (R.taken registrar.old) (R.taken registrar.new) more))
         (λ now. Tells (opening (reading s c)) (ends (live_of now fence.new) result) out.old.entries out.new.entries)) }
     ensures live { IfOk result (λ life. IsTrue D.tells → IsTrue X.tells → IsSoundAt D.files D.image X.held devices.old
         → AreAgreed (records_of life.store) (held_in (D.files devices.new.disk.now) (X.held devices.new.secrets.now))) }

@@ -13,7 +13,7 @@ ghost use Rattle.dkg_fence.specs.Readiness.{Readiness};
 ghost use Rattle.dkg_journal.specs.Disk.{Rose};
 ghost use Rattle.dkg_journal.specs.Fuse.{Reached};
 ghost use Rattle.dkg_store.specs.Acts.{Held, Stands, held_in};
-ghost use Rattle.dkg_store.specs.Called.{IsDue};
+ghost use Rattle.dkg_store.specs.Called.{ErrorIsDue};
 ghost use Rattle.dkg_store.specs.Corrupt.{AreFit};
 ghost use Rattle.dkg_types.specs.Schemes.{scheme_of};
 ghost use Rattle.dkg_types.specs.Validation.{validation};
@@ -29,7 +29,7 @@ ghost use Rattle.dkg_core.specs.Setup as setup;
 ghost use Rattle.dkg_dealing.specs.Ready.{IsReadyLife, IsSetUp};
 ghost use Rattle.dkg_dealing.specs.Ends.{IsCaused, IsCausedBy, IsOutside, by_stop, ends, ends_in};
 ghost use Rattle.dkg_dealing.specs.Given.{CanRead, GivesBoth, GivesSeed, GivesShare, IsIn, IsLent, IsOf, ReadsPlanless};
-ghost use Rattle.dkg_dealing.specs.LiveOf.{Beside, DealsFor, EndsBeside, IsDealing, IsFresh, IsSeated, IsToSign, IsWithin, SitsIn, Took, awaited_of, dealer_of, live_of, records_of, scheme_by, seat_of, with_scheme_of};
+ghost use Rattle.dkg_dealing.specs.LiveOf.{Beside, DealsFor, EndsBeside, IsDealing, IsFresh, PlayerSits, IsToSign, IsWithin, SitsIn, TookSchemes, awaited_of, dealer_of, live_of, records_of, scheme_by, seat_of, with_scheme_of};
 ghost use Rattle.dkg_dealing.specs.Made.{Makes, Speaks, Tells, UnlessBroken};
 ghost use Rattle.dkg_dealing.specs.Moved.{IsFirm, Moved, StaysAbove, StaysFrom, StaysWhole};
 ghost use Rattle.dkg_dealing.specs.Opened.{epoch_above};
@@ -85,7 +85,7 @@ fn share_below<Dir: Drop, D: Disk, X: SecretStore>(
     ensures disk { devices.new.disk.now ≡ devices.old.disk.now }
     ensures fuse { devices.new.fuse ≡ devices.old.fuse }
     ensures moved { Moved D.tells D.made X.made D.faults X.faults devices.old devices.new }
-    ensures due { IfErr result (λ e. IsDue e ⊥ (Rose (X.faults devices.old.secrets.now) (X.faults devices.new.secrets.now)) ⊥ ⊤) }
+    ensures due { IfErr result (λ e. ErrorIsDue e ⊥ (Rose (X.faults devices.old.secrets.now) (X.faults devices.new.secrets.now)) ⊥ ⊤) }
 {
     for below in (0..epoch.0).rev() {
         if let Some(share) = store.share(alloc, devices, Epoch(below))? {
@@ -116,7 +116,7 @@ pub fn recovered_share<C: Ceremony, Dir: Drop, D: Disk, X: SecretStore>(
     ensures disk { devices.new.disk.now ≡ devices.old.disk.now }
     ensures fuse { devices.new.fuse ≡ devices.old.fuse }
     ensures moved { Moved D.tells D.made X.made D.faults X.faults devices.old devices.new }
-    ensures due { IfErr result (λ e. IsDue e ⊥ (Rose (X.faults devices.old.secrets.now) (X.faults devices.new.secrets.now)) ⊥ ⊤) }
+    ensures due { IfErr result (λ e. ErrorIsDue e ⊥ (Rose (X.faults devices.old.secrets.now) (X.faults devices.new.secrets.now)) ⊥ ⊤) }
 {
     let stored = store.share(alloc, devices, info.epoch)?;
     if stored.is_some() || info.outcome != EpochOutcome::Failure {
@@ -158,7 +158,7 @@ fn seed_for<Dir: Directory + Drop, D: Disk, X: SecretStore>(
     ensures disk { devices.new.disk.now ≡ devices.old.disk.now }
     ensures fuse { devices.new.fuse ≡ devices.old.fuse }
     ensures moved { Moved D.tells D.made X.made D.faults X.faults devices.old devices.new }
-    ensures due { IfErr result (λ e. IsDue e ⊥ (Rose (X.faults devices.old.secrets.now) (X.faults devices.new.secrets.now)) ⊥ ⊤) }
+    ensures due { IfErr result (λ e. ErrorIsDue e ⊥ (Rose (X.faults devices.old.secrets.now) (X.faults devices.new.secrets.now)) ⊥ ⊤) }
 {
     match store.seed(alloc, devices, epoch)? {
         Some(seed) => Ok(seed),
@@ -358,12 +358,12 @@ fn commit_new<R: Registrar, Dir: Directory + Drop, D: Disk, X: SecretStore>(
     ensures rest { life.new ≡ record life.old { store = record life.old.store { current = life.new.store.current } } }
     ensures current { OnOk result ((standing ≡ Standing.WasCommitted → IsSome life.old.store.current) → IsSome life.new.store.current) }
     ensures acts { IsTrue D.tells → IsTrue X.tells → (c : Fixed Dir) (beside : Beside Dir) → c.me ≡ me
-        → EndsBeside beside (λ more. OnOk result (Took R.tells (R.taken registrar.old) (R.taken registrar.new) more))
+        → EndsBeside beside (λ more. OnOk result (TookSchemes R.tells (R.taken registrar.old) (R.taken registrar.new) more))
         (λ now. Makes D.files D.image X.held (setup.commits_new (standing_of standing) c info.now secrets.now.seed secrets.now.share
         (live_of beside fence.old life.old))
         (ends_in (live_of now fence.new life.new) result) devices.old devices.new out.old.entries out.new.entries) }
     ensures tells { (any : List ℕ) (c : Fixed Dir) (beside : Beside Dir) → c.me ≡ me
-        → EndsBeside beside (λ more. OnOk result (Took R.tells (R.taken registrar.old) (R.taken registrar.new) more))
+        → EndsBeside beside (λ more. OnOk result (TookSchemes R.tells (R.taken registrar.old) (R.taken registrar.new) more))
         (λ now. Tells (setup.commits_new (standing_of standing) c info.now any secrets.now.share (live_of beside fence.old life.old))
         (ends_in (live_of now fence.new life.new) result) out.old.entries out.new.entries) }
     ensures moved { Moved D.tells D.made X.made D.faults X.faults devices.old devices.new }
@@ -570,7 +570,7 @@ fn draw_up<C: Ceremony, Dir: Directory + Drop>(
     requires me { terms.now.me ≡ C.Signer.key_of signer.now }
     requires valid { refusal_of life.old.epoch (non_zero_u32_get terms.now.limit) info.now ≡ None }
     ensures rest { life.new ≡ record life.old { stage = life.new.stage; round = life.new.round; dealer = life.new.dealer; player = life.new.player } }
-    ensures sits { OnOk result (IsSeated C.ack_of terms.now.me life.new × IsDealing C.deal_of C.check_ack_of terms.now.me life.new
+    ensures sits { OnOk result (PlayerSits C.ack_of terms.now.me life.new × IsDealing C.deal_of C.check_ack_of terms.now.me life.new
         × IsWithin (non_zero_u32_get terms.now.limit) life.new.round × IsSome life.new.round × (life.new.stage ≡ stage_in phase)) }
     ensures speaks { (c : Fixed Dir) (beside : Beside Dir) (fence : Readiness) → IsFresh beside.inclusion → IsOf terms.now c
         → IsRuledBy C.round_of C.deal_of C.dealing_of C.ack_of C.check_ack_of C.sign_log_of C.bears_ack_of C.share_public_of C.partial_public_of c.rules
@@ -695,7 +695,7 @@ fn set_up_by<C: Ceremony, R: Registrar, Dir: Directory + Drop, D: Disk, X: Secre
         → ReadsPlanless c
         → IsRuledBy C.round_of C.deal_of C.dealing_of C.ack_of C.check_ack_of C.sign_log_of C.bears_ack_of C.share_public_of C.partial_public_of c.rules
         → StandsIn c (live_of beside fence.old life.old) phase
-        → EndsBeside beside (λ more. OnOk result (Took R.tells (R.taken registrar.old) (R.taken registrar.new) more))
+        → EndsBeside beside (λ more. OnOk result (TookSchemes R.tells (R.taken registrar.old) (R.taken registrar.new) more))
         (λ now. Makes D.files D.image X.held (setup.with_info c None (standing_of standing) info.now (live_of beside fence.old life.old))
         (ends_in (live_of now fence.new life.new) result)
         devices.old devices.new out.old.entries out.new.entries) }
@@ -703,7 +703,7 @@ fn set_up_by<C: Ceremony, R: Registrar, Dir: Directory + Drop, D: Disk, X: Secre
     ensures tells { (h : Held) × ((c : Fixed Dir) (beside : Beside Dir) → IsFresh beside.inclusion → IsIn terms.now life.old.word c → CanRead c h
         → IsRuledBy C.round_of C.deal_of C.dealing_of C.ack_of C.check_ack_of C.sign_log_of C.bears_ack_of C.share_public_of C.partial_public_of c.rules
         → StandsIn c (live_of beside fence.old life.old) phase
-        → EndsBeside beside (λ more. OnOk result (Took R.tells (R.taken registrar.old) (R.taken registrar.new) more))
+        → EndsBeside beside (λ more. OnOk result (TookSchemes R.tells (R.taken registrar.old) (R.taken registrar.new) more))
         (λ now. Tells (setup.with_info c None (standing_of standing) info.now (live_of beside fence.old life.old))
         (ends_in (live_of now fence.new life.new) result)
         out.old.entries out.new.entries)) }
@@ -810,14 +810,14 @@ pub(crate) fn set_up<
     ensures acts { IsTrue D.tells → IsTrue X.tells → (c : Fixed Dir) (beside : Beside Dir) → IsFresh beside.inclusion
         → IsLent terms.now (B.answers source.now) life.old.word c → ReadsPlanless c
         → IsRuledBy C.round_of C.deal_of C.dealing_of C.ack_of C.check_ack_of C.sign_log_of C.bears_ack_of C.share_public_of C.partial_public_of c.rules
-        → EndsBeside beside (λ more. OnOk result (Took R.tells (R.taken registrar.old) (R.taken registrar.new) more))
+        → EndsBeside beside (λ more. OnOk result (TookSchemes R.tells (R.taken registrar.old) (R.taken registrar.new) more))
         (λ now. Makes D.files D.image X.held (setup.setup c None (live_of beside fence.old life.old)) (ends_in (live_of now fence.new life.new) result)
         devices.old devices.new out.old.entries out.new.entries) }
     // Whatever the devices tell, its lines are those of one that has read some shares and seeds.
     ensures tells { (h : Held) × ((c : Fixed Dir) (beside : Beside Dir) → IsFresh beside.inclusion
         → IsLent terms.now (B.answers source.now) life.old.word c → CanRead c h
         → IsRuledBy C.round_of C.deal_of C.dealing_of C.ack_of C.check_ack_of C.sign_log_of C.bears_ack_of C.share_public_of C.partial_public_of c.rules
-        → EndsBeside beside (λ more. OnOk result (Took R.tells (R.taken registrar.old) (R.taken registrar.new) more))
+        → EndsBeside beside (λ more. OnOk result (TookSchemes R.tells (R.taken registrar.old) (R.taken registrar.new) more))
         (λ now. Tells (setup.setup c None (live_of beside fence.old life.old)) (ends_in (live_of now fence.new life.new) result)
         out.old.entries out.new.entries)) }
     // Where nothing was loose, and memory had what the devices give back, it has so behind it.
@@ -880,13 +880,13 @@ pub fn set_up_committed<C: Ceremony, R: Registrar, Dir: Directory + Drop, D: Dis
     ensures acts { IsTrue D.tells → IsTrue X.tells → (c : Fixed Dir) (beside : Beside Dir) → IsFresh beside.inclusion → IsIn terms.now life.old.word c
         → ReadsPlanless c
         → IsRuledBy C.round_of C.deal_of C.dealing_of C.ack_of C.check_ack_of C.sign_log_of C.bears_ack_of C.share_public_of C.partial_public_of c.rules
-        → EndsBeside beside (λ more. OnOk result (Took R.tells (R.taken registrar.old) (R.taken registrar.new) more))
+        → EndsBeside beside (λ more. OnOk result (TookSchemes R.tells (R.taken registrar.old) (R.taken registrar.new) more))
         (λ now. Makes D.files D.image X.held (setup.setup c None (live_of beside fence.old life.old)) (ends_in (live_of now fence.new life.new) result)
         devices.old devices.new out.old.entries out.new.entries) }
     // Whatever the devices tell, its lines are those of one that has read some shares and seeds.
     ensures tells { (h : Held) × ((c : Fixed Dir) (beside : Beside Dir) → IsFresh beside.inclusion → IsIn terms.now life.old.word c → CanRead c h
         → IsRuledBy C.round_of C.deal_of C.dealing_of C.ack_of C.check_ack_of C.sign_log_of C.bears_ack_of C.share_public_of C.partial_public_of c.rules
-        → EndsBeside beside (λ more. OnOk result (Took R.tells (R.taken registrar.old) (R.taken registrar.new) more))
+        → EndsBeside beside (λ more. OnOk result (TookSchemes R.tells (R.taken registrar.old) (R.taken registrar.new) more))
         (λ now. Tells (setup.setup c None (live_of beside fence.old life.old)) (ends_in (live_of now fence.new life.new) result)
         out.old.entries out.new.entries)) }
     ensures moved { Moved D.tells D.made X.made D.faults X.faults devices.old devices.new }

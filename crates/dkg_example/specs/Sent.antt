@@ -25,9 +25,9 @@ abbrev pub since_below : (epoch : ℕ) → Pairs → Pairs
 since_below epoch pairs = retain_keys pairs (λ key. nat_le (epoch - 1) key.0)
 
 -- An acknowledgement is sent of the dealing that is recorded, and of no other.
-abbrev pub IsSound : (ack_of : ℕ → Round → ℕ → List ℕ → List ℕ) (me : ℕ) (round : Round) (pairs : Pairs) (epoch dealer : ℕ) → Answer → Type 0
-IsSound ack_of me round pairs epoch dealer (Send ack) = Acknowledges ack_of me round pairs epoch dealer ack
-IsSound ack_of me round pairs epoch dealer Block = Unit {0}
+abbrev pub IsSoundAnswer : (ack_of : ℕ → Round → ℕ → List ℕ → List ℕ) (me : ℕ) (round : Round) (pairs : Pairs) (epoch dealer : ℕ) → Answer → Type 0
+IsSoundAnswer ack_of me round pairs epoch dealer (Send ack) = Acknowledges ack_of me round pairs epoch dealer ack
+IsSoundAnswer ack_of me round pairs epoch dealer Block = Unit {0}
 
 -- A dealer is blocked of whom nothing is recorded, and whose dealing the round refuses; or whose polynomial is longer than any round's.
 abbrev pub IsFair : (check : Result (Unit {0}) DealingError) (public : List ℕ) (pairs : Pairs) (epoch dealer : ℕ) → Answer → Type 0

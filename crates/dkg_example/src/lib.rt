@@ -7,7 +7,7 @@ ghost use Rattle.std.specs.Prelude.{◌≡◌, Contains, IfOk, IfSome, IsTrue, O
 ghost use Rattle.dkg_journal.specs.Journals.{IsOpen};
 ghost use Rattle.dkg_journal.specs.Records.{entries};
 ghost use Rattle.dkg_store.specs.Pairs.{recovered};
-ghost use Rattle.dkg_example.specs.Sent.{IsFair, IsPlaying, IsSameSeat, IsSound, Stays, since_below};
+ghost use Rattle.dkg_example.specs.Sent.{IsFair, IsPlaying, IsSameSeat, IsSoundAnswer, Stays, since_below};
 
 #[cfg(test)]
 mod tests;
@@ -98,7 +98,7 @@ impl Node {
         ensures seat { IsSameSeat self.old self.new }
         ensures open { OnOk result (IsTrue D.tells → IsOpen self.new.store.journal (D.files devices.new.disk.now) (D.image devices.new.disk.now)) }
         ensures playing { IsPlaying C.ack_of self.new }
-        ensures sound { IfOk result (IsSound C.ack_of self.new.player.me self.new.player.round self.new.store.dealings self.new.epoch from) }
+        ensures sound { IfOk result (IsSoundAnswer C.ack_of self.new.player.me self.new.player.round self.new.store.dealings self.new.epoch from) }
         ensures fair { IfOk result (IsFair (C.dealing_of self.old.player.round self.old.player.me from public private) public
             self.old.store.dealings self.old.epoch from) }
         ensures stays { Stays self.old.store.dealings self.new.store.dealings }
@@ -146,7 +146,7 @@ impl Node {
         ensures open { OnOk result (IsTrue D.tells → IsOpen self.new.store.journal (D.files devices.new.disk.now) (D.image devices.new.disk.now)) }
         ensures playing { IsPlaying C.ack_of self.new }
         // What is sent is the acknowledgement of the dealing that is recorded, and what is recorded stays.
-        ensures sound { IfOk result (IsSound C.ack_of self.new.player.me self.new.player.round self.new.store.dealings self.new.epoch from) }
+        ensures sound { IfOk result (IsSoundAnswer C.ack_of self.new.player.me self.new.player.round self.new.store.dealings self.new.epoch from) }
         ensures stays { Stays self.old.store.dealings self.new.store.dealings }
         ensures same_disk { devices.new.disk.ghost_name ≡ devices.old.disk.ghost_name }
         ensures same_secrets { devices.new.secrets.ghost_name ≡ devices.old.secrets.ghost_name }

@@ -22,5 +22,5 @@ abbrev pub IsPending : Option ℕ → Bool → Option ℕ → Type 0
 IsPending ready closed (Some epoch) = IsAhead ready epoch × (closed ≡ false)
 IsPending ready closed None = Unit {0}
 
-abbrev pub IsSound : Readiness → Type 0
-IsSound f = IsPending f.ready f.closed f.awaited
+abbrev pub IsSoundReadiness : Readiness → Type 0
+IsSoundReadiness f = IsPending f.ready f.closed f.awaited

@@ -31,13 +31,13 @@ pub struct Fence {
 }
 
 impl Model for Fence {
-    ghost use Rattle.dkg_fence.specs.Readiness.{Readiness, IsSound};
+    ghost use Rattle.dkg_fence.specs.Readiness.{Readiness, IsSoundReadiness};
 
     ghost Value = { Readiness };
 
     ghost view = { λ f. record { ready = f.ready; closed = f.closed; awaited = f.awaited } };
 
-    ghost invariant = { λ f. IsSound record { ready = f.ready; closed = f.closed; awaited = f.awaited } };
+    ghost invariant = { λ f. IsSoundReadiness record { ready = f.ready; closed = f.closed; awaited = f.awaited } };
 }
 
 impl Fence {

@@ -227,7 +227,7 @@ pub(crate) fn info_after(
     logs: &[SignedDealerLog],
 ) -> Mem<EpochInfo<Unit>>
     requires epoch { info.now.epoch < 5 }
-    requires few { length logs.now < 2 ^ 32 }
+    requires in_bound { length logs.now < 2 ^ 32 }
     ensures { IfOk result (λ next. next ≡ next_info outcome_of provided info.now round.now (by_dealer_of logs.now)) }
 {
     let logs = by_dealer(alloc, logs)?;

@@ -10,7 +10,7 @@ use Rattle.dkg_ceremony.specs.declared.output.Output.{Output}
 use Rattle.dkg_ceremony.specs.declared.round.RoundParts.{RoundParts as Round}
 use Rattle.dkg_ceremony.specs.Finishes.{DealingMap, IsMissing}
 use Rattle.dkg_ceremony.specs.Outcomes.{LogMap}
-use Rattle.dkg_artifact.specs.Results.{Checked, IsAnswered, checked, finished_by, observed}
+use Rattle.dkg_artifact.specs.Results.{Checked, IsResultOfJob, checked, finished_by, observed}
 use Rattle.dkg_artifact.specs.Results as results
 use Rattle.dkg_artifact.specs.declared.job.Dealings as dealt
 use Rattle.dkg_artifact.specs.declared.job.Job as job
@@ -202,14 +202,14 @@ module _ (j : job.Job) (its : Checked) where
       by_player None = refl
       by_player (Some player) = refl
 
-  pub answered_tests : IsAnswered j its → including.is_of_job (result_of its) (job_of j) ≡ true
+  pub answered_tests : IsResultOfJob j its → including.is_of_job (result_of its) (job_of j) ≡ true
   answered_tests answers =
       three_true (same_round its.round j.round) (including.same_key its.me (including.its_key (job_of j))) (same_logs its.logs j.logs)
       (subst (λ (r : Round). same_round its.round r ≡ true) answers.0 (round_again its.round))
       (subst (λ (k : Option ℕ). including.same_key its.me k ≡ true) (answers.1 ∙ sym key_of_job) (key_again its.me))
       (subst (λ (l : LogMap). same_logs its.logs l ≡ true) answers.2 (logs_again its.logs))
 
-  pub tests_answered : including.is_of_job (result_of its) (job_of j) ≡ true → IsAnswered j its
+  pub tests_answered : including.is_of_job (result_of its) (job_of j) ≡ true → IsResultOfJob j its
   tests_answered is =
       let parts = all_true (same_round its.round j.round) (including.same_key its.me (including.its_key (job_of j))) (same_logs its.logs j.logs) is in
       (one_round its.round j.round parts.0, same_keys its.me (including.its_key (job_of j)) parts.1 ∙ key_of_job, one_logs its.logs j.logs parts.2)
@@ -223,7 +223,7 @@ module _ {Dir : Type 0} (c : Fixed Dir) (outcome_of : OutcomeOf) (finish_of : Fi
   chosen its b is = ap (λ (t : Bool). if t then result_of its else including.verified c (job_of j)) is
 
   -- The result of a job: the one that is handed in, where it is of that job, else what this node finds.
-  pub result_is : (done : Option Checked) (made : Checked) → IfSome done (λ its. IsAnswered j its → made ≡ its) → ((IsSomeAnd done (IsAnswered j) → ⊥) → made ≡ its_own)
+  pub result_is : (done : Option Checked) (made : Checked) → IfSome done (λ its. IsResultOfJob j its → made ≡ its) → ((IsSomeAnd done (IsResultOfJob j) → ⊥) → made ≡ its_own)
       → result_of made ≡ including.result_of c (option_map result_of done) (job_of j)
   result_is None made handed own = ap result_of (own (λ none. none)) ∙ verified_is c outcome_of finish_of outcomes finishes j
   result_is (Some its) made handed own = by_test (including.is_of_job (result_of its) (job_of j)) refl

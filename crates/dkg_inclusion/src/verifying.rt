@@ -11,7 +11,7 @@ ghost use Rattle.dkg_journal.specs.Fuse.{Reached};
 ghost use Rattle.dkg_core.specs.Fixed.{Fixed};
 ghost use Rattle.dkg_core.specs.Including as including;
 ghost use Rattle.dkg_ceremony.specs.Schedule.{midpoint};
-ghost use Rattle.dkg_artifact.specs.Results.{IsAnswered, checked};
+ghost use Rattle.dkg_artifact.specs.Results.{IsResultOfJob, checked};
 ghost use Rattle.dkg_types.specs.PayloadCodes.{info_payload};
 ghost use Rattle.dkg_types.specs.declared.entry.Entry.{Entry as Line};
 ghost use Rattle.dkg_types.specs.declared.fault.Fault.TheVariants.{LocalState, NoMemory as OutOfMemory};
@@ -180,8 +180,8 @@ fn result_of<C: Ceremony + Drop>(
     done: Option<VerifiedLogs<C>>,
 ) -> Mem<VerifiedLogs<C>>
     requires { IsRunnable C.dealing_of C.finish_of job.now }
-    ensures handed { IfSome done (λ its. IsAnswered job.now its → IfOk result (λ made. made ≡ its)) }
-    ensures own { (IsSomeAnd done (IsAnswered job.now) → ⊥)
+    ensures handed { IfSome done (λ its. IsResultOfJob job.now its → IfOk result (λ made. made ≡ its)) }
+    ensures own { (IsSomeAnd done (IsResultOfJob job.now) → ⊥)
         → IfOk result (λ made. made ≡ checked C.outcome_of C.finish_of job.now.round job.now.player job.now.logs) }
 {
     match done {

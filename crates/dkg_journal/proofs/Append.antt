@@ -9,7 +9,7 @@ use Rattle.std.proofs.lemmas.Bool.Decides.{nat_tests}
 use Rattle.dkg_journal.specs.Names.{Files, name_number}
 use Rattle.dkg_journal.specs.Disk.{Torn, written, SameElse, HasFile, Inside, Follows, Did}
 use Rattle.dkg_journal.specs.Places.{Places, joined, place_at}
-use Rattle.dkg_journal.specs.Records.{Entry, entries, placed, IsShut, IsBody, Staged, spelled, behind}
+use Rattle.dkg_journal.specs.Records.{SectionEntry, entries, placed, IsShut, IsBody, Staged, spelled, behind}
 use Rattle.dkg_journal.specs.Steps.{Firm, IsNext, IsOpenAt, IsSegmentAt, SegmentAt, Into, KeepsBut, Adds, MayAdd, Grows, start}
 use Rattle.dkg_values.specs.declared.name.Name.{Name}
 use Rattle.dkg_values.specs.declared.name.Name.TheVariants.{Plan, Flat, Segment}
@@ -103,7 +103,7 @@ adds_gate section bs body y place files last image next staged firm parted firm_
       );
 }
 
-pub same_may_add : (e : Entry) (image : Files → Type 0) → Follows (MayAdd e) image image
+pub same_may_add : (e : SectionEntry) (image : Files → Type 0) → Follows (MayAdd e) image image
 same_may_add e image = record { each = λ c now. (c, now, record { others = λ q ne. refl; either = inl refl }) }
 
 pub keeps_none : (name : Name) (image : Files → Type 0) → Follows (KeepsBut name) image image
@@ -112,19 +112,19 @@ keeps_none name image = record { each = λ c now. (c, now, record { others = λ 
 pub keeps_keeps : (name : Name) (a b c : Files → Type 0) → Follows (KeepsBut name) a b → Follows (KeepsBut name) b c → Follows (KeepsBut name) a c
 keeps_keeps name a b c = compose (KeepsBut name) (KeepsBut name) (KeepsBut name) a b c (λ x y z p q. record { others = λ n ne. q.others n ne ∙ p.others n ne; same = q.same ∙ p.same })
 
-pub keeps_may_add : (e : Entry) (a b : Files → Type 0) → Follows (KeepsBut (Segment e.0)) a b → Follows (MayAdd e) a b
+pub keeps_may_add : (e : SectionEntry) (a b : Files → Type 0) → Follows (KeepsBut (Segment e.0)) a b → Follows (MayAdd e) a b
 keeps_may_add e a b step = weaken (KeepsBut (Segment e.0)) (MayAdd e) a b (λ x y now k. record { others = k.others; either = inl k.same }) step
 
-pub then_may_add : (e : Entry) (a b c : Files → Type 0) → Follows (KeepsBut (Segment e.0)) a b → Follows (MayAdd e) b c → Follows (MayAdd e) a c
+pub then_may_add : (e : SectionEntry) (a b c : Files → Type 0) → Follows (KeepsBut (Segment e.0)) a b → Follows (MayAdd e) b c → Follows (MayAdd e) a c
 then_may_add e a b c = compose (KeepsBut (Segment e.0)) (MayAdd e) (MayAdd e) a b c (λ x y z p q. record {
   others = λ name ne. q.others name ne ∙ p.others name ne;
-  either = ⊎_elim (λ s. inl (s ∙ p.same)) (λ s. inr (s ∙ ap (λ (l : List Entry). placed l e) p.same)) q.either;
+  either = ⊎_elim (λ s. inl (s ∙ p.same)) (λ s. inr (s ∙ ap (λ (l : List SectionEntry). placed l e) p.same)) q.either;
 })
 
-pub then_adds : (e : Entry) (a b c : Files → Type 0) → Follows (KeepsBut (Segment e.0)) a b → Follows (Adds e) b c → Follows (Adds e) a c
+pub then_adds : (e : SectionEntry) (a b c : Files → Type 0) → Follows (KeepsBut (Segment e.0)) a b → Follows (Adds e) b c → Follows (Adds e) a c
 then_adds e a b c = compose (KeepsBut (Segment e.0)) (Adds e) (Adds e) a b c (λ x y z p q. record {
   others = λ name ne. q.others name ne ∙ p.others name ne;
-  added = q.added ∙ ap (λ (l : List Entry). placed l e) p.same;
+  added = q.added ∙ ap (λ (l : List SectionEntry). placed l e) p.same;
 })
 
 -- a new file is one closed gate
@@ -239,8 +239,8 @@ opened_more places places' section end n body old new image next at segment step
     other_number a b ne = grind (arith, nat_tests)
 
 -- an append that came to its end, and one that did not
-pub grows_ok : {T E : Type 0} (e : Entry) (x : T) (a b : Files → Type 0) → Follows (MayAdd e) a b → Follows (Adds e) a b → Grows {E = E} e (Ok x) a b
+pub grows_ok : {T E : Type 0} (e : SectionEntry) (x : T) (a b : Files → Type 0) → Follows (MayAdd e) a b → Follows (Adds e) a b → Grows {E = E} e (Ok x) a b
 grows_ok e x a b may added = record { may = may; added = added }
 
-pub grows_err : {T E : Type 0} (e : Entry) (r : Result T E) (x : E) (a b : Files → Type 0) → r ≡ Err x → Follows (MayAdd e) a b → Grows e r a b
+pub grows_err : {T E : Type 0} (e : SectionEntry) (r : Result T E) (x : E) (a b : Files → Type 0) → r ≡ Err x → Follows (MayAdd e) a b → Grows e r a b
 grows_err {T = T} {E = E} e r x a b is may = record { may = may; added = subst (λ (q : Result T E). OnOk q (Follows (Adds e) a b)) (sym is) tt }

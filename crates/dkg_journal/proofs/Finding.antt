@@ -15,7 +15,7 @@ use Rattle.dkg_journal.specs.Disk.{IsUnchanged}
 use Rattle.dkg_journal.specs.Records.{Whole, broken_at}
 use Rattle.dkg_journal.specs.Gated.{gated, gated_from}
 use Rattle.dkg_journal.specs.Places.{Places, place_at, joined}
-use Rattle.dkg_journal.specs.Found.{EndsAt, Finds, IsWholeFlat, Takes, gated_row}
+use Rattle.dkg_journal.specs.Found.{EndsAt, FindsSegments, IsWholeFlat, Takes, gated_row}
 use Rattle.dkg_journal.specs.Opening.{broken, broken_rows, broken_with, first_place, mend_at, mend_of, mends, open_calls_with, removes, is_unnamed}
 use Rattle.dkg_journal.specs.Segments.{Segments, parted, segment_rows, segments, segments_with}
 use Rattle.dkg_journal.specs.declared.call.JournalError.{JournalError}
@@ -225,7 +225,7 @@ module _ (f : Files) (none : get f Flat ≡ None) (waiting : List JournalEntry) 
   these_rows : map_of.entries (segments f) ≡ segment_rows (map_of.entries f)
   these_rows = ap (map_of.entries {K = ℕ} {X = List ℕ} {R = nat_cmp}) these ∙ rows_entries f
 
-  pub finds_segments : Finds f waiting places mending
+  pub finds_segments : FindsSegments f waiting places mending
   finds_segments = record {
     listed = takes.listed ∙ ap (flat_map gated_row) (sym these_rows);
     ends = λ s. subst (λ (o : Option (List ℕ)). EndsAt (place_at places s) o) (sym (ap (λ (m : Segments). get m s) these ∙ get-from_entries nat_cmp_total (segment_rows (map_of.entries f)) s)) (takes.ends s);
@@ -239,7 +239,7 @@ module _ (f : Files) (file : List ℕ) (there : get f Flat ≡ Some file) (bs : 
   pub are_parted : segments f ≡ parted bs
   are_parted = ap (λ (o : Option (List ℕ)). segments_with o f) there ∙ ap parted (whole_bodies 8 bs place file whole)
 
-  pub finds_parted : (names : List Name) (waiting : List JournalEntry) (places : Places) (mending mending' : List Op) → names ≡ keys f → Takes (removes (filter (is_unnamed (parted bs)) names)) (map_of.entries (parted bs)) waiting places mending → mending' ≡ mending ++ Remove Flat ∷ [] → Finds f waiting places mending'
+  pub finds_parted : (names : List Name) (waiting : List JournalEntry) (places : Places) (mending mending' : List Op) → names ≡ keys f → Takes (removes (filter (is_unnamed (parted bs)) names)) (map_of.entries (parted bs)) waiting places mending → mending' ≡ mending ++ Remove Flat ∷ [] → FindsSegments f waiting places mending'
   finds_parted names waiting places mending mending' are takes pushed = record {
     listed = takes.listed ∙ ap (λ (m : Segments). flat_map gated_row (map_of.entries m)) (sym are_parted);
     ends = λ s. subst (λ (o : Option (List ℕ)). EndsAt (place_at places s) o) (sym (get-entries (parted bs) s) ∙ ap (λ (m : Segments). get m s) (sym are_parted)) (takes.ends s);

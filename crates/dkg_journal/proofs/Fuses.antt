@@ -151,12 +151,12 @@ all_burnt made a b f g calls n size all = all.fuse ∙ burned_burnt calls f ∙ 
 pub ran_spent : {D O : Type 0} (made : D → D → List (DeviceCall O) → Type 0) (a b : D) (f g : Burn) (calls : List O) (n : ℕ) → length calls ≡ n → Ran made a b f g calls → SpentUpTo n f g
 ran_spent made a b f g calls n size ran = record {
   calls = length ran.first;
-  few = omega (arith, size, ap length ran.whole, length-append ran.first ran.rest);
+  in_bound = omega (arith, size, ap length ran.whole, length-append ran.first ran.rest);
   is = ran.all.fuse ∙ burned_burnt ran.first f;
 }
 
 pub none_spent : (n : ℕ) (f : Burn) → SpentUpTo n f f
-none_spent n f = record { calls = 0; few = omega arith; is = refl }
+none_spent n f = record { calls = 0; in_bound = omega arith; is = refl }
 
 -- what a fuse has counted then, where it doesn't stand at its last value
 pub burnt_call : (n : ℕ) (f : Burn) → (burnt n f).call ≡ f.call

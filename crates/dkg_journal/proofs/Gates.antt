@@ -9,10 +9,10 @@ use Rattle.std.proofs.lemmas.Bool.Decides.{nat_tests}
 use Rattle.dkg_values.specs.declared.name.Name.{Name}
 use Rattle.dkg_values.specs.declared.name.Name.TheVariants.{Plan, Flat, Segment}
 use Rattle.dkg_journal.specs.Names.{Files, name_cmp}
-use Rattle.dkg_journal.specs.Found.{Finds, IsWholeFlat, gated_row}
+use Rattle.dkg_journal.specs.Found.{FindsSegments, IsWholeFlat, gated_row}
 use Rattle.dkg_journal.specs.Gated.{gated, gated_behind, gated_entries, gated_from, gated_of}
 use Rattle.dkg_journal.specs.Places.{Places}
-use Rattle.dkg_journal.specs.Records.{Entry, Whole, bodies, entries, entries_with, in_sections, segment_entries}
+use Rattle.dkg_journal.specs.Records.{SectionEntry, Whole, bodies, entries, entries_with, in_sections, segment_entries}
 use Rattle.dkg_journal.specs.Segments.{Segments, parted, segment_rows, segments, segments_with}
 use Rattle.dkg_journal.specs.Views.{view, views}
 use Rattle.dkg_journal.specs.declared.disk.Op.{Op}
@@ -26,7 +26,7 @@ use Rattle.dkg_journal.proofs.Sections.{bodies_at, in_rows, low_all, rows_above,
 use Rattle.dkg_journal.proofs.Unbroken.{rows_find}
 
 -- the entries of one segment
-abbrev pub row_entries : ℕ × List ℕ → List Entry
+abbrev pub row_entries : ℕ × List ℕ → List SectionEntry
 row_entries row = with_section row.0 (bodies 0 (length row.1) row.1)
 
 -- THE PLACES OF GATES
@@ -41,11 +41,11 @@ abbrev total : List (List ℕ) → ℕ
 total [] = 0
 total (b ∷ bs) = (5 + length b) + total bs
 
-gated_run : (section place : ℕ) (bs : List (List ℕ)) (rest : List Entry) → gated_behind section place (with_section section bs ++ rest) ≡ gated_from section place bs ++ gated_behind section (place + total bs) rest
+gated_run : (section place : ℕ) (bs : List (List ℕ)) (rest : List SectionEntry) → gated_behind section place (with_section section bs ++ rest) ≡ gated_from section place bs ++ gated_behind section (place + total bs) rest
 gated_run section place [] rest = ap (λ (n : ℕ). gated_behind section n rest) (omega arith)
 gated_run section place (b ∷ bs) rest =
     ap (λ (t : Bool). (section, cond t place 0 ∷ b) ∷ gated_behind section (cond t place 0 + (5 + length b)) (with_section section bs ++ rest)) (same_number section)
-    ∙ ap (λ (l : List Entry). (section, place ∷ b) ∷ l) (gated_run section (place + (5 + length b)) bs rest
+    ∙ ap (λ (l : List SectionEntry). (section, place ∷ b) ∷ l) (gated_run section (place + (5 + length b)) bs rest
     ∙ ap (λ (n : ℕ). gated_from section (place + (5 + length b)) bs ++ gated_behind section n rest) (omega arith))
 
 -- no section of these is the one before, or that one goes on at its beginning
@@ -66,8 +66,8 @@ row_step : (n q s : ℕ) (x : List ℕ) (rows : List (ℕ × List ℕ)) → belo
 row_step n q s x rows below fresh ih [] = ih n q (fresh_tail n q s x rows fresh)
 row_step n q s x rows below fresh ih (b ∷ bs) =
     ap (λ (at : ℕ). (s, at ∷ b) ∷ gated_behind s (at + (5 + length b)) (with_section s bs ++ flat_map row_entries rows)) (fresh_at n q s x rows fresh)
-    ∙ ap (λ (l : List Entry). (s, 0 ∷ b) ∷ l) (gated_run s (0 + (5 + length b)) bs (flat_map row_entries rows)
-    ∙ ap (λ (l : List Entry). gated_from s (0 + (5 + length b)) bs ++ l) (ih s (0 + (5 + length b) + total bs) (inr below)))
+    ∙ ap (λ (l : List SectionEntry). (s, 0 ∷ b) ∷ l) (gated_run s (0 + (5 + length b)) bs (flat_map row_entries rows)
+    ∙ ap (λ (l : List SectionEntry). gated_from s (0 + (5 + length b)) bs ++ l) (ih s (0 + (5 + length b) + total bs) (inr below)))
 
 gated_rows : (rows : List (ℕ × List ℕ)) → T (is_sorted nat_cmp rows) → (n q : ℕ) → IsFresh n q rows → gated_behind n q (flat_map row_entries rows) ≡ flat_map gated_row rows
 gated_rows [] sorted n q fresh = refl
@@ -83,7 +83,7 @@ lifted rows = map (λ r. (Segment r.0, r.1)) rows
 
 lifted_entries : (rows : List (ℕ × List ℕ)) → flat_map segment_entries (lifted rows) ≡ flat_map row_entries rows
 lifted_entries [] = refl
-lifted_entries (r ∷ rows) = ap (λ (l : List Entry). row_entries r ++ l) (lifted_entries rows)
+lifted_entries (r ∷ rows) = ap (λ (l : List SectionEntry). row_entries r ++ l) (lifted_entries rows)
 
 lifted_below : (s : ℕ) (rows : List (ℕ × List ℕ)) → below_all nat_cmp s rows ≡ true → below_all name_cmp (Segment s) (lifted rows) ≡ true
 lifted_below s [] is = refl
@@ -119,7 +119,7 @@ file_entries : (rows : List (Name × List ℕ)) → flat_map segment_entries row
 file_entries [] = refl
 file_entries ((Plan, v) ∷ rows) = file_entries rows
 file_entries ((Flat, v) ∷ rows) = file_entries rows
-file_entries ((Segment s, v) ∷ rows) = ap (λ (l : List Entry). with_section s (bodies 0 (length v) v) ++ l) (file_entries rows)
+file_entries ((Segment s, v) ∷ rows) = ap (λ (l : List SectionEntry). with_section s (bodies 0 (length v) v) ++ l) (file_entries rows)
 
 -- the entries are those of the segments
 pub segments_entries : (f : Files) (flat : IsWholeFlat (get f Flat)) → entries f ≡ flat_map row_entries (map_of.entries (segments f))
@@ -144,22 +144,22 @@ segments_entries f flat = by_flat (get f Flat) refl flat
             by_there (Some x) there = ap bodies_at there ∙ whole_bodies 0 (of_one s whole.0) (length x) x (part_whole s whole.0 x whole.2.front.short there)
 
 -- an entry without the place of its gate
-abbrev ungated : Entry → Entry
+abbrev ungated : SectionEntry → SectionEntry
 ungated e = (e.0, drop 1 e.1)
 
-ungated_behind : (n q : ℕ) (es : List Entry) → map ungated (gated_behind n q es) ≡ es
+ungated_behind : (n q : ℕ) (es : List SectionEntry) → map ungated (gated_behind n q es) ≡ es
 ungated_behind n q [] = refl
-ungated_behind n q (e ∷ es) = ap (λ (l : List Entry). e ∷ l) (ungated_behind e.0 (cond (e.0 == n) q 0 + (5 + length e.1)) es)
+ungated_behind n q (e ∷ es) = ap (λ (l : List SectionEntry). e ∷ l) (ungated_behind e.0 (cond (e.0 == n) q 0 + (5 + length e.1)) es)
 
 ungated_views : (es : List JournalEntry) → views es ≡ map ungated (map gated es)
 ungated_views [] = refl
-ungated_views (e ∷ es) = ap (λ (l : List Entry). view e ∷ l) (ungated_views es)
+ungated_views (e ∷ es) = ap (λ (l : List SectionEntry). view e ∷ l) (ungated_views es)
 
 -- WHAT A CALLER MAY READ OFF: entries with the places of their gates are entries
 pub gated_listed : (waiting : List JournalEntry) (f : Files) → map gated waiting ≡ gated_entries f → views waiting ≡ entries f
 gated_listed waiting f are = ungated_views waiting ∙ ap (map ungated) are ∙ ungated_behind 0 0 (entries f)
 
-module _ (f : Files) (waiting : List JournalEntry) (places : Places) (calls : List Op) (finds : Finds f waiting places calls) where
+module _ (f : Files) (waiting : List JournalEntry) (places : Places) (calls : List Op) (finds : FindsSegments f waiting places calls) where
   pub finds_gated : map gated waiting ≡ gated_entries f
   finds_gated = finds.listed ∙ sym (ap gated_of (segments_entries f finds.flat) ∙ gated_rows (map_of.entries (segments f)) (entries_sorted (segments f)) 0 0 (inl refl))
 

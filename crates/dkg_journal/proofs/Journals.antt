@@ -13,7 +13,7 @@ use Rattle.dkg_journal.specs.Opening.{broken}
 use Rattle.dkg_journal.specs.Journals.{IsOpen, append_calls, has_file}
 use Rattle.dkg_journal.specs.Places.{place_at}
 use Rattle.dkg_journal.specs.Pruning.{Leaves, is_below}
-use Rattle.dkg_journal.specs.Records.{Entry, entries, placed}
+use Rattle.dkg_journal.specs.Records.{SectionEntry, entries, placed}
 use Rattle.dkg_journal.specs.Steps.{Adds, append_calls_at}
 use Rattle.dkg_journal.specs.declared.journal.Journal.{Journal}
 use Rattle.dkg_journal.proofs.Append.{flat_plan}
@@ -21,15 +21,15 @@ use Rattle.dkg_journal.proofs.Order.{of_section}
 use Rattle.dkg_journal.proofs.SameFiles.{some_keys}
 use Rattle.dkg_journal.proofs.Sections.{bodies_at, entries_section, with_section}
 
-size_at : (place : Option ℕ) (e : Entry) → length (append_calls_at place e) ≡ (if is_some place then 4 else 5)
+size_at : (place : Option ℕ) (e : SectionEntry) → length (append_calls_at place e) ≡ (if is_some place then 4 else 5)
 size_at None e = refl
 size_at (Some place) e = refl
 
 -- how many calls an append makes
-pub append_size : (journal : Journal) (e : Entry) → length (append_calls journal e) ≡ (if has_file journal e.0 then 4 else 5)
+pub append_size : (journal : Journal) (e : SectionEntry) → length (append_calls journal e) ≡ (if has_file journal e.0 then 4 else 5)
 append_size journal e = size_at (place_at journal.places e.0) e
 
-abbrev nonempty : List Entry → Bool
+abbrev nonempty : List SectionEntry → Bool
 nonempty [] = false
 nonempty (e ∷ es) = true
 
@@ -40,19 +40,19 @@ or_true : (a : Bool) → (a || true) ≡ true
 or_true true = refl
 or_true false = refl
 
-any_placed : (es : List Entry) (e : Entry) → list_any (λ x. x.0 == e.0) (placed es e) ≡ true
+any_placed : (es : List SectionEntry) (e : SectionEntry) → list_any (λ x. x.0 == e.0) (placed es e) ≡ true
 any_placed [] e = ap (λ (b : Bool). b || false) (same_number e.0)
-any_placed (x ∷ xs) e = elim (nat_lt e.0 x.0) as (λ (b : Bool). list_any (λ (y : Entry). y.0 == e.0) (cond b (e ∷ x ∷ xs) (x ∷ placed xs e)) ≡ true) [
-  | true ↦ ap (λ (b : Bool). b || list_any (λ (y : Entry). y.0 == e.0) (x ∷ xs)) (same_number e.0)
+any_placed (x ∷ xs) e = elim (nat_lt e.0 x.0) as (λ (b : Bool). list_any (λ (y : SectionEntry). y.0 == e.0) (cond b (e ∷ x ∷ xs) (x ∷ placed xs e)) ≡ true) [
+  | true ↦ ap (λ (b : Bool). b || list_any (λ (y : SectionEntry). y.0 == e.0) (x ∷ xs)) (same_number e.0)
   | false ↦ ap (λ (b : Bool). (x.0 == e.0) || b) (any_placed xs e) ∙ or_true (x.0 == e.0)
 ]
 
-any_of : (section : ℕ) (es : List Entry) → list_any (λ x. x.0 == section) es ≡ nonempty (of_section section es)
+any_of : (section : ℕ) (es : List SectionEntry) → list_any (λ x. x.0 == section) es ≡ nonempty (of_section section es)
 any_of section [] = refl
-any_of section (e ∷ es) = elim (e.0 == section) as (λ (b : Bool). (b || list_any (λ (y : Entry). y.0 == section) es) ≡ nonempty (cond b (e ∷ of_section section es) (of_section section es))) [ true ↦ refl | false ↦ any_of section es ]
+any_of section (e ∷ es) = elim (e.0 == section) as (λ (b : Bool). (b || list_any (λ (y : SectionEntry). y.0 == section) es) ≡ nonempty (cond b (e ∷ of_section section es) (of_section section es))) [ true ↦ refl | false ↦ any_of section es ]
 
 -- the file of an entry that was added is there
-pub added_there : (journal : Journal) (files : Files) (e : Entry) (image next : Files → Type 0) → IsOpen journal files next → Follows (Adds e) image next → (c : Files) → next c → is_some (get c (Segment e.0)) ≡ true
+pub added_there : (journal : Journal) (files : Files) (e : SectionEntry) (image next : Files → Type 0) → IsOpen journal files next → Follows (Adds e) image next → (c : Files) → next c → is_some (get c (Segment e.0)) ≡ true
 added_there journal files e image next at adds c here =
     let from = adds.each c here in
     let no_flat : get c Flat ≡ None = at.only c here Flat flat_plan ∙ at.no_flat in

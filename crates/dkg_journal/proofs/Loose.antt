@@ -5,7 +5,7 @@ use Rattle.std.proofs.lemmas.Bool.{cases_lt, cases_eq}
 use Rattle.std.proofs.lemmas.List.{drop-drop, take-take}
 use Rattle.dkg_journal.proofs.AtOnce.{torn_written, torn_same}
 use Rattle.dkg_journal.specs.Disk.{written, Torn}
-use Rattle.dkg_journal.specs.Kept.{Kept, Undone, restored, rolled, AreWithin, IsOutside, FileImage}
+use Rattle.dkg_journal.specs.Kept.{KeptBytes, Undone, restored, rolled, AreWithin, IsOutside, FileImage}
 
 pub rolled-push : (from : ℕ) (us : List Undone) (u : Undone) (bytes : List ℕ) → rolled from (us ++ u ∷ []) bytes ≡ rolled from us (restored from u bytes)
 rolled-push from [] u bytes = refl
@@ -52,7 +52,7 @@ get_or-rolled from (u ∷ us) bytes i h out =
     ∙ get_or-rolled from us bytes i h.1 out.1
 
 -- what is left when writes are undone from a place on is one of the images
-pub rolled_image : (file : Kept) (from : ℕ) → file.synced ≤ length file.bytes → AreWithin file.undo (length file.bytes) → FileImage file (take (max file.synced (min from (length file.bytes))) (rolled from file.undo file.bytes))
+pub rolled_image : (file : KeptBytes) (from : ℕ) → file.synced ≤ length file.bytes → AreWithin file.undo (length file.bytes) → FileImage file (take (max file.synced (min from (length file.bytes))) (rolled from file.undo file.bytes))
 rolled_image file from synced within =
     let n = max file.synced (min from (length file.bytes)) in
     let same = length-rolled from file.undo file.bytes within in
@@ -100,7 +100,7 @@ module _ (b : List ℕ) (place n : ℕ) (c : List ℕ) where
       (length-written place kept c (omega (arith, size, low)), omega (arith, size, low))
 
 -- each image of a file after a write is one of the file before it, torn in the range
-module _ (file next : Kept) (place : ℕ) (bytes : List ℕ) (u : Undone) (fits : place ≤ length file.bytes) (synced : file.synced ≤ length file.bytes)
+module _ (file next : KeptBytes) (place : ℕ) (bytes : List ℕ) (u : Undone) (fits : place ≤ length file.bytes) (synced : file.synced ≤ length file.bytes)
     (is_bytes : next.bytes ≡ written place bytes file.bytes) (is_synced : next.synced ≡ file.synced) (is_undo : next.undo ≡ file.undo ++ u ∷ [])
     (at : u.0 ≡ place) (old : u.1 ≡ take (length bytes) (drop place file.bytes)) where
   length-old : length u.1 ≡ min (length bytes) (length file.bytes - place)

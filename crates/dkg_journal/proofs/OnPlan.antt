@@ -14,7 +14,7 @@ use Rattle.dkg_journal.specs.DeviceCall.{DeviceCall}
 use Rattle.dkg_journal.specs.Names.{Files, name_cmp, name_number}
 use Rattle.dkg_journal.specs.Disk.{SameElse, Follows, Inside, Did, Lands}
 use Rattle.dkg_journal.specs.Fuse.{RanAll}
-use Rattle.dkg_journal.specs.Records.{Entry, entries, entries_with, segment_entries}
+use Rattle.dkg_journal.specs.Records.{SectionEntry, entries, entries_with, segment_entries}
 use Rattle.dkg_journal.specs.Operations.{journaled, PutsPlan, ClearsPlan, after_operation, calls_of, Tried, Finished}
 use Rattle.dkg_journal.specs.declared.disk.Op.{Op}
 use Rattle.dkg_journal.specs.declared.disk.Op.TheVariants.{Install, Remove}
@@ -37,7 +37,7 @@ unplanned ((Plan, v) ∷ es) = ap (λ (b : Bool). flat_map segment_entries (cond
 unplanned ((Flat, v) ∷ es) = ap (λ (b : Bool). flat_map segment_entries (cond b ((Flat, v) ∷ where_key name_cmp but_plan es) (where_key name_cmp but_plan es))) (ap not (name_apart Flat Plan flat_not_plan)) ∙ unplanned es
 unplanned ((Segment s, v) ∷ es) =
     ap (λ (b : Bool). flat_map segment_entries (cond b ((Segment s, v) ∷ where_key name_cmp but_plan es) (where_key name_cmp but_plan es))) (ap not (name_apart (Segment s) Plan (λ e. absurd (omega (arith, ap name_number e)))))
-    ∙ ap (λ (l : List Entry). segment_entries (Segment s, v) ++ l) (unplanned es)
+    ∙ ap (λ (l : List SectionEntry). segment_entries (Segment s, v) ++ l) (unplanned es)
 
 alike_plan : (q x : Name) → name_cmp q x ≡ Equal → but_plan x ≡ but_plan q
 alike_plan q x tied = ap but_plan (sym (exact_names q x tied))

@@ -11,7 +11,7 @@ use Rattle.std.proofs.lemmas.Cmp.{tied_itself}
 use Rattle.dkg_values.specs.declared.name.Name.{Name}
 use Rattle.dkg_journal.specs.Names.{Files, name_cmp, name_number, name_at, name_at-name_number}
 use Rattle.dkg_journal.specs.Disk.{Inside, Follows, Did, HasFile, Torn, Lands as Left, after_write}
-use Rattle.dkg_journal.specs.Kept.{Kept, FileImage, settled, wrote}
+use Rattle.dkg_journal.specs.Kept.{KeptBytes, FileImage, settled, wrote}
 use Rattle.dkg_journal.specs.Table.{Rows, file_at, IsUpdate, made_sure, Lands, row_bytes, contents, bytes_of, get_contents, matches, MatchFile, RowsImage, reads_image}
 use Rattle.dkg_journal.specs.Fuse.{counted}
 use Rattle.dkg_journal.specs.DeviceCall.{Makes}
@@ -31,39 +31,39 @@ by_name q name = elim (cases_eq (name_number q) (name_number name)) [
   | inr apart ↦ inr (λ e. apart (ap name_number e))
 ]
 
-apart : (q name : Name) (x y : Option Kept) → q ≢ name → cond (eq_by_cmp name_cmp q name) x y ≡ y
+apart : (q name : Name) (x y : Option KeptBytes) → q ≢ name → cond (eq_by_cmp name_cmp q name) x y ≡ y
 apart q name x y ne = elim (name_cmp q name) as (λ o. name_cmp q name ≡ o → cond (is_eq o) x y ≡ y) [
   | Less ↦ λ e. refl
   | Equal ↦ λ e. absurd (ne (exact_names q name e))
   | Greater ↦ λ e. refl
 ] refl
 
-pub update_here : (name : Name) (o : Option Kept) (old new : Rows) → IsUpdate name o old new → file_at name new ≡ o
+pub update_here : (name : Name) (o : Option KeptBytes) (old new : Rows) → IsUpdate name o old new → file_at name new ≡ o
 update_here name o old new update = update name ∙ ap (λ r. cond (is_eq r) o (file_at name old)) (tied_itself names_total name)
 
-pub update_other : (name q : Name) (o : Option Kept) (old new : Rows) → IsUpdate name o old new → q ≢ name → file_at q new ≡ file_at q old
+pub update_other : (name q : Name) (o : Option KeptBytes) (old new : Rows) → IsUpdate name o old new → q ≢ name → file_at q new ≡ file_at q old
 update_other name q o old new update ne = update q ∙ apart q name o (file_at q old) ne
 
 -- what is left of a file of which nothing is loose
-sure_only : (o : Option Kept) (c : Option (List ℕ)) → MatchFile (made_sure o) c → c ≡ bytes_of o
+sure_only : (o : Option KeptBytes) (c : Option (List ℕ)) → MatchFile (made_sure o) c → c ≡ bytes_of o
 sure_only None None image = refl
 sure_only None (Some c) image = absurd image
 sure_only (Some f) None image = absurd image
 sure_only (Some f) (Some c) image = ap (λ (x : List ℕ). Some x) (settled_only f.bytes c image)
 
 -- .. is one of its images
-sure_narrows : (o : Option Kept) (c : Option (List ℕ)) → MatchFile (made_sure o) c → MatchFile o c
+sure_narrows : (o : Option KeptBytes) (c : Option (List ℕ)) → MatchFile (made_sure o) c → MatchFile o c
 sure_narrows o c image = subst (MatchFile o) (sym (sure_only o c image)) (matches o)
 
-lands_only : (o p : Option Kept) (c : Option (List ℕ)) → Lands o p → MatchFile p c → c ≡ bytes_of p
+lands_only : (o p : Option KeptBytes) (c : Option (List ℕ)) → Lands o p → MatchFile p c → c ≡ bytes_of p
 lands_only None None None lands image = refl
 lands_only None None (Some c) lands image = absurd image
 lands_only None (Some g) c lands image = absurd lands
 lands_only (Some f) None c lands image = absurd lands
 lands_only (Some f) (Some g) None lands image = absurd image
-lands_only (Some f) (Some g) (Some c) lands image = ap (λ (x : List ℕ). Some x) (settled_only g.bytes c (subst (λ (k : Kept). FileImage k c) lands.1 image))
+lands_only (Some f) (Some g) (Some c) lands image = ap (λ (x : List ℕ). Some x) (settled_only g.bytes c (subst (λ (k : KeptBytes). FileImage k c) lands.1 image))
 
-lands_image : (o p : Option Kept) → Lands o p → MatchFile o (bytes_of p)
+lands_image : (o p : Option KeptBytes) → Lands o p → MatchFile o (bytes_of p)
 lands_image None None lands = tt
 lands_image (Some f) (Some g) lands = lands.0
 lands_image None (Some g) lands = absurd lands
@@ -84,17 +84,17 @@ landed_image old new lands c image = record {
 -- making sure of one file
 pub sync_image : (name : Name) (old new : Rows) → IsUpdate name (made_sure (file_at name old)) old new → (c : Files) → RowsImage new c → RowsImage old c × (get c name ≡ get (contents old) name)
 sync_image name old new update c image =
-    let here : MatchFile (made_sure (file_at name old)) (get c name) = subst (λ (o : Option Kept). MatchFile o (get c name)) (update_here name _ old new update) (image.each name) in (
+    let here : MatchFile (made_sure (file_at name old)) (get c name) = subst (λ (o : Option KeptBytes). MatchFile o (get c name)) (update_here name _ old new update) (image.each name) in (
       record {
         each = λ q. ⊎_elim
             (λ (at : q ≡ name). subst (λ (n : Name). MatchFile (file_at n old) (get c n)) (sym at) (sure_narrows (file_at name old) (get c name) here))
-            (λ (ne : q ≢ name). subst (λ (o : Option Kept). MatchFile o (get c q)) (update_other name q _ old new update ne) (image.each q))
+            (λ (ne : q ≢ name). subst (λ (o : Option KeptBytes). MatchFile o (get c q)) (update_other name q _ old new update ne) (image.each q))
             (by_name q name);
       },
       sure_only (file_at name old) (get c name) here ∙ sym (get_contents old name),
     )
 
-sure_bytes : (o : Option Kept) → bytes_of (made_sure o) ≡ bytes_of o
+sure_bytes : (o : Option KeptBytes) → bytes_of (made_sure o) ≡ bytes_of o
 sure_bytes None = refl
 sure_bytes (Some f) = refl
 
@@ -109,7 +109,7 @@ pub barrier_contents : (old new : Rows) → ((q : Name) → file_at q new ≡ ma
 barrier_contents old new sure = same_contents old (contents new) (λ q. get_contents new q ∙ ap bytes_of (sure q) ∙ sure_bytes (file_at q old))
 
 pub barrier_only : (old new : Rows) → ((q : Name) → file_at q new ≡ made_sure (file_at q old)) → (c : Files) → RowsImage new c → c ≡ contents old
-barrier_only old new sure c image = same_contents old c (λ q. sure_only (file_at q old) (get c q) (subst (λ (o : Option Kept). MatchFile o (get c q)) (sure q) (image.each q)))
+barrier_only old new sure c image = same_contents old c (λ q. sure_only (file_at q old) (get c q) (subst (λ (o : Option KeptBytes). MatchFile o (get c q)) (sure q) (image.each q)))
 
 -- a file made, replaced or taken away
 abbrev pub put_back : Name → Option (List ℕ) → Files → Files
@@ -124,23 +124,23 @@ back_other : (name q : Name) (o : Option (List ℕ)) (c : Files) → q ≢ name 
 back_other name q None c ne = get_gone c name q ne
 back_other name q (Some b) c ne = get_other c name b q ne
 
-pub update_contents : (name : Name) (o : Option Kept) (old new : Rows) → IsUpdate name o old new → contents new ≡ put_back name (bytes_of o) (contents old)
+pub update_contents : (name : Name) (o : Option KeptBytes) (old new : Rows) → IsUpdate name o old new → contents new ≡ put_back name (bytes_of o) (contents old)
 update_contents name o old new update = sym (same_contents new (put_back name (bytes_of o) (contents old)) (λ q. ⊎_elim
     (λ (at : q ≡ name). subst (λ (n : Name). get (put_back name (bytes_of o) (contents old)) n ≡ bytes_of (file_at n new)) (sym at) (back_here name (bytes_of o) (contents old) ∙ sym (ap bytes_of (update_here name o old new update))))
     (λ (ne : q ≢ name). back_other name q (bytes_of o) (contents old) ne ∙ get_contents old q ∙ sym (ap bytes_of (update_other name q o old new update ne)))
     (by_name q name)))
 
 -- an image from before such a change, of one from after it
-pub replaced_image : (name : Name) (o : Option Kept) (old new : Rows) → IsUpdate name o old new → (c : Files) → RowsImage new c → RowsImage old (put_back name (bytes_of (file_at name old)) c)
+pub replaced_image : (name : Name) (o : Option KeptBytes) (old new : Rows) → IsUpdate name o old new → (c : Files) → RowsImage new c → RowsImage old (put_back name (bytes_of (file_at name old)) c)
 replaced_image name o old new update c image = record {
   each = λ q. ⊎_elim
       (λ (at : q ≡ name). subst (λ (n : Name). MatchFile (file_at n old) (get (put_back name (bytes_of (file_at name old)) c) n)) (sym at) (subst (MatchFile (file_at name old)) (sym (back_here name (bytes_of (file_at name old)) c)) (matches (file_at name old))))
-      (λ (ne : q ≢ name). subst (MatchFile (file_at q old)) (sym (back_other name q (bytes_of (file_at name old)) c ne)) (subst (λ (p : Option Kept). MatchFile p (get c q)) (update_other name q o old new update ne) (image.each q)))
+      (λ (ne : q ≢ name). subst (MatchFile (file_at q old)) (sym (back_other name q (bytes_of (file_at name old)) c ne)) (subst (λ (p : Option KeptBytes). MatchFile p (get c q)) (update_other name q o old new update ne) (image.each q)))
       (by_name q name);
 }
 
-pub update_only : (name : Name) (o : Option Kept) (old new : Rows) → IsUpdate name (made_sure o) old new → (c : Files) → RowsImage new c → get c name ≡ bytes_of o
-update_only name o old new update c image = sure_only o (get c name) (subst (λ (p : Option Kept). MatchFile p (get c name)) (update_here name (made_sure o) old new update) (image.each name))
+pub update_only : (name : Name) (o : Option KeptBytes) (old new : Rows) → IsUpdate name (made_sure o) old new → (c : Files) → RowsImage new c → get c name ≡ bytes_of o
+update_only name o old new update c image = sure_only o (get c name) (subst (λ (p : Option KeptBytes). MatchFile p (get c name)) (update_here name (made_sure o) old new update) (image.each name))
 
 pub install_inside : (name : Name) (bytes : List ℕ) (old new : Rows) → IsUpdate name (Some (settled bytes)) old new → Follows (Inside (Install name bytes)) (RowsImage old) (RowsImage new)
 install_inside name bytes old new update = record {
@@ -161,21 +161,21 @@ remove_inside name old new update = record {
 }
 
 -- what a crash leaves of a file that is there
-held_image : (f : Kept) (o : Option (List ℕ)) → MatchFile (Some f) o → (x : List ℕ) × (o ≡ Some x) × FileImage f x
+held_image : (f : KeptBytes) (o : Option (List ℕ)) → MatchFile (Some f) o → (x : List ℕ) × (o ≡ Some x) × FileImage f x
 held_image f (Some x) image = (x, refl, image)
 held_image f None none = absurd none
 
-pub write_inside : (name : Name) (place : ℕ) (bytes : List ℕ) (f : Kept) (old new : Rows) → file_at name old ≡ Some f → place ≤ length f.bytes → f.synced ≤ length f.bytes → IsUpdate name (Some (wrote place bytes f)) old new → Follows (Inside (WriteAt name place bytes)) (RowsImage old) (RowsImage new)
+pub write_inside : (name : Name) (place : ℕ) (bytes : List ℕ) (f : KeptBytes) (old new : Rows) → file_at name old ≡ Some f → place ≤ length f.bytes → f.synced ≤ length f.bytes → IsUpdate name (Some (wrote place bytes f)) old new → Follows (Inside (WriteAt name place bytes)) (RowsImage old) (RowsImage new)
 write_inside name place bytes f old new was fits synced update = record {
   each = λ c image.
-      let here = held_image (wrote place bytes f) (get c name) (subst (λ (o : Option Kept). MatchFile o (get c name)) (update_here name _ old new update) (image.each name)) in
+      let here = held_image (wrote place bytes f) (get c name) (subst (λ (o : Option KeptBytes). MatchFile o (get c name)) (update_here name _ old new update) (image.each name)) in
       let from = torn_file f (wrote place bytes f) place bytes _ fits synced refl refl refl refl refl here.0 here.2 in
       let d = insert c name from.0 in (
         d,
         record {
           each = λ q. ⊎_elim
-              (λ (at : q ≡ name). subst (λ (n : Name). MatchFile (file_at n old) (get d n)) (sym at) (subst (λ (o : Option Kept). MatchFile o (get d name)) (sym was) (subst (λ (o : Option (List ℕ)). MatchFile (Some f) o) (sym (get_here c name from.0)) from.1)))
-              (λ (ne : q ≢ name). subst (λ (o : Option (List ℕ)). MatchFile (file_at q old) o) (sym (get_other c name from.0 q ne)) (subst (λ (o : Option Kept). MatchFile o (get c q)) (update_other name q _ old new update ne) (image.each q)))
+              (λ (at : q ≡ name). subst (λ (n : Name). MatchFile (file_at n old) (get d n)) (sym at) (subst (λ (o : Option KeptBytes). MatchFile o (get d name)) (sym was) (subst (λ (o : Option (List ℕ)). MatchFile (Some f) o) (sym (get_here c name from.0)) from.1)))
+              (λ (ne : q ≢ name). subst (λ (o : Option (List ℕ)). MatchFile (file_at q old) o) (sym (get_other c name from.0 q ne)) (subst (λ (o : Option KeptBytes). MatchFile o (get c q)) (update_other name q _ old new update ne) (image.each q)))
               (by_name q name);
         },
         (λ q ne. sym (get_other c name from.0 q ne), λ x at. record { bytes = here.0; there = here.1; so = subst (λ (y : List ℕ). Torn place (length bytes) y here.0) (same_Some from.0 x (sym (get_here c name from.0) ∙ at)) from.2 }),
@@ -187,15 +187,15 @@ pub none_inside : (op : Op) (image : Files → Type 0) → Follows (Inside op) i
 none_inside op image = record { each = λ c now. (c, now, inside_none op c) }
 
 -- a file that is there, as a disk and as rows
-pub there_rows : (rows : Rows) (name : Name) (place : ℕ) → HasFile (contents rows) name (λ file. place ≤ length file) → (f : Kept) × (file_at name rows ≡ Some f) × (place ≤ length f.bytes)
+pub there_rows : (rows : Rows) (name : Name) (place : ℕ) → HasFile (contents rows) name (λ file. place ≤ length file) → (f : KeptBytes) × (file_at name rows ≡ Some f) × (place ≤ length f.bytes)
 there_rows rows name place has = by_file (file_at name rows) refl
   where
-    by_file : (o : Option Kept) → file_at name rows ≡ o → (f : Kept) × (file_at name rows ≡ Some f) × (place ≤ length f.bytes)
+    by_file : (o : Option KeptBytes) → file_at name rows ≡ o → (f : KeptBytes) × (file_at name rows ≡ Some f) × (place ≤ length f.bytes)
     by_file None is = absurd (none-some has.bytes (sym (get_contents rows name ∙ ap bytes_of is) ∙ has.there))
     by_file (Some f) is = (f, is, subst (λ (x : List ℕ). place ≤ length x) (sym (same_Some f.bytes has.bytes (sym (get_contents rows name ∙ ap bytes_of is) ∙ has.there))) has.so)
 
 -- the records of what the calls have done
-pub did_write : (name : Name) (place : ℕ) (bytes : List ℕ) (f : Kept) (old new : Rows) → file_at name old ≡ Some f → IsUpdate name (Some (wrote place bytes f)) old new → Did (WriteAt name place bytes) (contents old) (contents new) (RowsImage new)
+pub did_write : (name : Name) (place : ℕ) (bytes : List ℕ) (f : KeptBytes) (old new : Rows) → file_at name old ≡ Some f → IsUpdate name (Some (wrote place bytes f)) old new → Did (WriteAt name place bytes) (contents old) (contents new) (RowsImage new)
 did_write name place bytes f old new was update = record {
   reads = update_contents name _ old new update ∙ sym (ap (λ (o : Option (List ℕ)). after_write o name place bytes (contents old)) (get_contents old name ∙ ap bytes_of was));
   durable = λ c image. tt;
@@ -278,7 +278,7 @@ bare_lands rows bare = record {
   only = λ c image. same_contents rows c (λ q. none_there (file_at q rows) (get c q) (ap (file_at q) bare) (image.each q));
 }
   where
-    none_there : (o : Option Kept) (c : Option (List ℕ)) → o ≡ None → MatchFile o c → c ≡ bytes_of o
+    none_there : (o : Option KeptBytes) (c : Option (List ℕ)) → o ≡ None → MatchFile o c → c ≡ bytes_of o
     none_there None None is image = refl
     none_there None (Some c) is image = absurd image
     none_there (Some f) c is image = absurd (none-some f (sym is))

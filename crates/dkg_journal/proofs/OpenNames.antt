@@ -8,10 +8,10 @@ use Rattle.std.specs.declared.cmp.Ordering.TheVariants.{Equal}
 use Rattle.dkg_values.specs.declared.name.Name.{Name}
 use Rattle.dkg_values.specs.declared.name.Name.TheVariants.{Plan, Flat, Segment}
 use Rattle.dkg_journal.specs.Names.{Files, name_cmp, name_number}
-use Rattle.dkg_journal.specs.Found.{EndsAt, Finds, IsWholeFlat}
+use Rattle.dkg_journal.specs.Found.{EndsAt, FindsSegments, IsWholeFlat}
 use Rattle.dkg_journal.specs.Operations.{is_plan, opened_names, with_segments}
 use Rattle.dkg_journal.specs.Places.{Places, place_at}
-use Rattle.dkg_journal.specs.Records.{Entry, entries}
+use Rattle.dkg_journal.specs.Records.{SectionEntry, entries}
 use Rattle.dkg_journal.specs.Segments.{Segments, parted, segments}
 use Rattle.dkg_journal.specs.Steps.{IsSegmentAt}
 use Rattle.dkg_journal.specs.Wholes.{after_all}
@@ -39,14 +39,14 @@ at_some None file at = ap is_some at
 at_some (Some p) file at = ap is_some at.2
 
 -- whether there is an entry of a section
-abbrev any_at : ℕ → List Entry → Bool
+abbrev any_at : ℕ → List SectionEntry → Bool
 any_at section es = list_any (λ e. e.0 == section) es
 
 abbrev nonempty : {A : Type 0} → List A → Bool
 nonempty [] = false
 nonempty (x ∷ xs) = true
 
-any_of : (section : ℕ) (es : List Entry) → any_at section es ≡ nonempty (of_section section es)
+any_of : (section : ℕ) (es : List SectionEntry) → any_at section es ≡ nonempty (of_section section es)
 any_of section [] = refl
 any_of section (e ∷ es) = elim (e.0 == section) as (λ (b : Bool). (b || any_at section es) ≡ nonempty (cond b (e ∷ of_section section es) (of_section section es))) [ true ↦ refl | false ↦ any_of section es ]
 
@@ -60,14 +60,14 @@ part_some [] (Some file) is = absurd (omega (arith, is.1))
 part_some (b ∷ bs) (Some file) is = refl
 
 -- segments put in, one for each entry
-abbrev with_files : Files → List Entry → Files
+abbrev with_files : Files → List SectionEntry → Files
 with_files h es = fold (λ m e. insert m (Segment e.0) []) h es
 
-files_keys : (es : List Entry) (h : Files) → keys (with_files h es) ≡ with_segments es (keys h)
+files_keys : (es : List SectionEntry) (h : Files) → keys (with_files h es) ≡ with_segments es (keys h)
 files_keys [] h = refl
 files_keys (e ∷ es) h = files_keys es (insert h (Segment e.0) []) ∙ ap (λ (l : List Name). with_segments es l) (insert_keys h (Segment e.0) [])
 
-files_other : (q : Name) → ((s : ℕ) → q ≢ Segment s) → (es : List Entry) (h : Files) → get (with_files h es) q ≡ get h q
+files_other : (q : Name) → ((s : ℕ) → q ≢ Segment s) → (es : List SectionEntry) (h : Files) → get (with_files h es) q ≡ get h q
 files_other q none [] h = refl
 files_other q none (e ∷ es) h = files_other q none es (insert h (Segment e.0) []) ∙ get_other h (Segment e.0) [] q (none e.0)
 
@@ -75,7 +75,7 @@ or_true : (a b : Bool) → b ≡ true → (a || b) ≡ true
 or_true true b is = refl
 or_true false b is = is
 
-files_at : (section : ℕ) (es : List Entry) (h : Files) → is_some (get (with_files h es) (Segment section)) ≡ (any_at section es || is_some (get h (Segment section)))
+files_at : (section : ℕ) (es : List SectionEntry) (h : Files) → is_some (get (with_files h es) (Segment section)) ≡ (any_at section es || is_some (get h (Segment section)))
 files_at section [] h = refl
 files_at section (e ∷ es) h =
     let next = insert h (Segment e.0) [] in
@@ -96,7 +96,7 @@ or_false false b is = is
 plan_alike : (q x : Name) → name_cmp q x ≡ Equal → is_plan x ≡ is_plan q
 plan_alike q x tied = ap is_plan (sym (exact_names q x tied))
 
-module _ (f : Files) (waiting : List JournalEntry) (places : Places) (calls : List Op) (finds : Finds f waiting places calls) where
+module _ (f : Files) (waiting : List JournalEntry) (places : Places) (calls : List Op) (finds : FindsSegments f waiting places calls) where
   abbrev g : Files
   g = after_all calls f
 

@@ -17,7 +17,7 @@ use Rattle.dkg_journal.specs.Names.{Files, name_cmp, name_number}
 use Rattle.dkg_journal.specs.Disk.{Follows, IsUnchanged, Lands, after}
 use Rattle.dkg_journal.specs.Records.{Whole, IsShut, broken_at, left_over, entries, entries_with, in_sections}
 use Rattle.dkg_journal.specs.Places.{Places, place_at}
-use Rattle.dkg_journal.specs.Found.{EndsAt, Finds, IsWholeFlat}
+use Rattle.dkg_journal.specs.Found.{EndsAt, FindsSegments, IsWholeFlat}
 use Rattle.dkg_journal.specs.Opening.{AreUnbroken, broken, broken_with, mend_at, mend_of, mends, open_calls, open_calls_with, removes, is_unnamed}
 use Rattle.dkg_journal.specs.Segments.{Segments, parted, segment_rows, segments, segments_with}
 use Rattle.dkg_journal.specs.Steps.{IsOpenAt, IsSegmentAt, Keeps}
@@ -452,7 +452,7 @@ open_whole f = by_flat (get f Flat)
 
 -- WHAT WAS FOUND
 
-module _ (f : Files) (waiting : List JournalEntry) (places : Places) (calls : List Op) (finds : Finds f waiting places calls) where
+module _ (f : Files) (waiting : List JournalEntry) (places : Places) (calls : List Op) (finds : FindsSegments f waiting places calls) where
   -- wherever the calls are stopped
   pub finds_keeps : (c : Files) → Amid calls f c → Keeps f c × (broken c ≡ None)
   finds_keeps c amid = by_flat (get f Flat) refl finds.flat (subst (λ (l : List Op). Amid l f c) finds.made amid)

@@ -5,7 +5,7 @@ use Rattle.std.proofs.lemmas.List.{get_or_past, length-take-le, get_or-take, app
 use Rattle.std.proofs.lemmas.Nat.{be_bytes_4}
 use Rattle.std.proofs.lemmas.Bool.{cases_lt}
 use Rattle.std.proofs.lemmas.Bool.Decides.{nat_tests}
-use Rattle.dkg_journal.specs.Records.{Entry, number32, read32, record_of, spelled, IsBody, Ends, Stops, Front, Whole, bodies, left_over, open_gate, broken_at, IsShut}
+use Rattle.dkg_journal.specs.Records.{SectionEntry, number32, read32, record_of, spelled, IsBody, Ends, Stops, Front, Whole, bodies, left_over, open_gate, broken_at, IsShut}
 use Rattle.dkg_journal.specs.Gated.{gated, gated_from, FrontGated}
 use Rattle.dkg_journal.specs.declared.opening.JournalEntry.{JournalEntry}
 use Rattle.dkg_journal.proofs.Bytes.{spelled-push, short-push, read_spelled, shut_stops, length-number32, read32-number32}
@@ -49,7 +49,7 @@ gated_none section bytes before es same = record { bs = []; front = front_none 0
 gated_push : (section place : ℕ) (bs : List (List ℕ)) (b : List ℕ) → gated_from section place (bs ++ b ∷ []) ≡ gated_from section place bs ++ (section, (place + length (spelled bs)) ∷ b) ∷ []
 gated_push section place [] b = ap (λ (n : ℕ). (section, n ∷ b) ∷ []) (omega arith)
 gated_push section place (x ∷ xs) b =
-    ap (λ (l : List Entry). (section, place ∷ x) ∷ l) (gated_push section (place + (5 + length x)) xs b
+    ap (λ (l : List SectionEntry). (section, place ∷ x) ∷ l) (gated_push section (place + (5 + length x)) xs b
     ∙ ap (λ (n : ℕ). gated_from section (place + (5 + length x)) xs ++ (section, n ∷ b) ∷ []) (omega (arith, record_size x, length-append (record_of x) (spelled xs))))
 
 -- .. each with the place of its gate
@@ -63,7 +63,7 @@ gated_more section bytes rest after before es es' e place body next front is_ope
       gates = ap (map gated) pushed ∙ map-append gated es (e ∷ [])
           ∙ (λ i. front.gates i ++ (in_section i, from i ∷ same i) ∷ [])
           ∙ append_assoc (map gated before) (gated_from section 0 front.bs) ((section, (0 + length (spelled front.bs)) ∷ body) ∷ [])
-          ∙ ap (λ (l : List Entry). map gated before ++ l) (sym (gated_push section 0 front.bs body));
+          ∙ ap (λ (l : List SectionEntry). map gated before ++ l) (sym (gated_push section 0 front.bs body));
     }
 
 -- where a gate that isn't open stands, it is a file of records

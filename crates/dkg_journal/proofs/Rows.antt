@@ -12,20 +12,20 @@ use Rattle.std.proofs.lemmas.Map.Steps.{set_value_same}
 use Rattle.std.proofs.lemmas.Cmp.{eq_by_cmp_equiv}
 use Rattle.dkg_values.specs.declared.name.Name.{Name}
 use Rattle.dkg_journal.specs.Names.{name_cmp}
-use Rattle.dkg_journal.specs.Kept.{Kept, settled, FileImage}
+use Rattle.dkg_journal.specs.Kept.{KeptBytes, settled, FileImage}
 use Rattle.dkg_journal.specs.Table.{Rows, file_at, IsUpdate, made_sure, Lands, PickedRow, Crashed, CrashedBy}
 use Rattle.dkg_journal.proofs.Map.{find_lookup, is_sorted_true}
 use Rattle.dkg_journal.proofs.Steps.{names_total, exact_names}
 
 -- what a tree has at a name
-abbrev pub tree_at : Name → Rows → Option Kept
+abbrev pub tree_at : Name → Rows → Option KeptBytes
 tree_at q rows = lookup (is_at (name_cmp q)) rows
 
 -- .. is the file of that name
 pub tree_file : (q : Name) (rows : Rows) → file_at q rows ≡ tree_at q rows
 tree_file q rows = find_lookup names_total exact_names q rows
 
-pub tree_update : (name : Name) (o : Option Kept) (old new : Rows) → ((q : Name) → tree_at q new ≡ cond (is_at (name_cmp name) q) o (tree_at q old)) → IsUpdate name o old new
+pub tree_update : (name : Name) (o : Option KeptBytes) (old new : Rows) → ((q : Name) → tree_at q new ≡ cond (is_at (name_cmp name) q) o (tree_at q old)) → IsUpdate name o old new
 tree_update name o old new updates q =
     tree_file q new ∙ updates q ∙ ap (λ (b : Bool). cond b o (tree_at q old)) ((eq_by_cmp_equiv names_total).symm name q) ∙ ap (cond (eq_by_cmp name_cmp q name) o) (sym (tree_file q old))
 
@@ -40,8 +40,8 @@ tied a b is = elim (name_cmp a b) as (λ o. name_cmp a b ≡ o → is_eq o ≡ t
 ] refl is
 
 -- where nothing has the name, nothing is changed
-pub none_update : (rows : Rows) (name : Name) (o : Option Kept) → file_at name rows ≡ None → o ≡ None → IsUpdate name o rows rows
-none_update rows name o none is q = sym (ap (λ (x : Option Kept). cond (eq_by_cmp name_cmp q name) x (file_at q rows)) is ∙ by_test)
+pub none_update : (rows : Rows) (name : Name) (o : Option KeptBytes) → file_at name rows ≡ None → o ≡ None → IsUpdate name o rows rows
+none_update rows name o none is q = sym (ap (λ (x : Option KeptBytes). cond (eq_by_cmp name_cmp q name) x (file_at q rows)) is ∙ by_test)
   where
     by_test : cond (eq_by_cmp name_cmp q name) None (file_at q rows) ≡ file_at q rows
     by_test = elim (eq_by_cmp name_cmp q name) as (λ (b : Bool). eq_by_cmp name_cmp q name ≡ b → cond b None (file_at q rows) ≡ file_at q rows) [
@@ -49,23 +49,23 @@ none_update rows name o none is q = sym (ap (λ (x : Option Kept). cond (eq_by_c
       | false ↦ λ t. refl
     ] refl
 
-pub as_update : (old new : Rows) (name : Name) (o p : Option Kept) → o ≡ p → IsUpdate name o old new → IsUpdate name p old new
-as_update old new name o p same update q = update q ∙ ap (λ (x : Option Kept). cond (eq_by_cmp name_cmp q name) x (file_at q old)) same
+pub as_update : (old new : Rows) (name : Name) (o p : Option KeptBytes) → o ≡ p → IsUpdate name o old new → IsUpdate name p old new
+as_update old new name o p same update q = update q ∙ ap (λ (x : Option KeptBytes). cond (eq_by_cmp name_cmp q name) x (file_at q old)) same
 
 -- a file that was found by its name, and what was written to it
-module _ (name : Name) (es rows : Rows) (f : Kept) (view : es ≡ rows) (found : Some f ≡ tree_at name es) where
+module _ (name : Name) (es rows : Rows) (f : KeptBytes) (view : es ≡ rows) (found : Some f ≡ tree_at name es) where
   pub found_file : file_at name rows ≡ Some f
   found_file = ap (file_at name) (sym view) ∙ tree_file name es ∙ sym found
 
   pub found_some : IsSome (tree_at name es)
   found_some = ap is_some (sym found)
 
-  pub found_update : (g : Kept) (new : Rows) → ((q : Name) → tree_at q new ≡ cond (is_at (name_cmp name) q) (Some g) (tree_at q es)) → IsUpdate name (Some g) rows new
+  pub found_update : (g : KeptBytes) (new : Rows) → ((q : Name) → tree_at q new ≡ cond (is_at (name_cmp name) q) (Some g) (tree_at q es)) → IsUpdate name (Some g) rows new
   found_update g new updates = subst (λ (l : Rows). IsUpdate name (Some g) l new) view (tree_update name (Some g) es new updates)
 
   -- the same written back
-  pub found_same : (g : Kept) (new : Rows) → g ≡ f → new ≡ set_value (is_at (name_cmp name)) es g → new ≡ rows
-  found_same g new same is = is ∙ set_value_same (is_at (name_cmp name)) es g (sym found ∙ ap (λ (k : Kept). Some k) (sym same)) ∙ view
+  pub found_same : (g : KeptBytes) (new : Rows) → g ≡ f → new ≡ set_value (is_at (name_cmp name)) es g → new ≡ rows
+  found_same g new same is = is ∙ set_value_same (is_at (name_cmp name)) es g (sym found ∙ ap (λ (k : KeptBytes). Some k) (sym same)) ∙ view
 
 pub missing_file : (name : Name) (es rows : Rows) → es ≡ rows → None ≡ tree_at name es → file_at name rows ≡ None
 missing_file name es rows view none = ap (file_at name) (sym view) ∙ tree_file name es ∙ sym none
@@ -79,8 +79,8 @@ all_sure (r ∷ rows) q = elim (eq_by_cmp name_cmp q r.0) as (λ (b : Bool). con
 ]
 
 -- A crash goes through the files in turn, and so many loose bytes may be kept of each.
-module _ {F : Type 0} (T : F → Name → Kept → Bool → Kept → F → Type 0) (Holds : F → Type 0) (count_of : F → ℕ) (pick : ℕ) (but : Option Name)
-    (one : (f g : F) (name : Name) (v w : Kept) (b : Bool) → Holds f → T f name v b w g
+module _ {F : Type 0} (T : F → Name → KeptBytes → Bool → KeptBytes → F → Type 0) (Holds : F → Type 0) (count_of : F → ℕ) (pick : ℕ) (but : Option Name)
+    (one : (f g : F) (name : Name) (v w : KeptBytes) (b : Bool) → Holds f → T f name v b w g
     → (b ≡ true) × Holds g × FileImage v w.bytes × (w ≡ settled w.bytes) × PickedRow pick (count_of f) but name v w (count_of g)) where
   walk_crashed : (f : F) → Holds f → (old new : Rows) → RetainsPairs T f old new → (left : ℕ) × Crashed pick (count_of f) but old new left
   walk_crashed f holds [] new ran = (count_of f, subst (λ (l : Rows). Crashed pick (count_of f) but [] l (count_of f)) (sym ran) refl)

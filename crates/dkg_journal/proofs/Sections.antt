@@ -13,7 +13,7 @@ use Rattle.std.proofs.lemmas.List.{append-nil}
 use Rattle.dkg_values.specs.declared.name.Name.{Name}
 use Rattle.dkg_values.specs.declared.name.Name.TheVariants.{Plan, Flat, Segment}
 use Rattle.dkg_journal.specs.Names.{Files, name_cmp}
-use Rattle.dkg_journal.specs.Records.{Entry, bodies, entries, entries_with, segment_entries, placed, from_section}
+use Rattle.dkg_journal.specs.Records.{SectionEntry, bodies, entries, entries_with, segment_entries, placed, from_section}
 use Rattle.dkg_journal.proofs.Order.{of_section, Above, unique, of_both, placed_above, placed_section, same_section, other_section}
 
 -- the bodies of a file
@@ -21,7 +21,7 @@ abbrev pub bodies_at : Option (List ℕ) → List (List ℕ)
 bodies_at None = []
 bodies_at (Some file) = bodies 0 (length file) file
 
-abbrev pub with_section : ℕ → List (List ℕ) → List Entry
+abbrev pub with_section : ℕ → List (List ℕ) → List SectionEntry
 with_section section bs = map (λ body. (section, body)) bs
 
 both_true : (a b : Bool) → T (a && b) → (a ≡ true) × T b
@@ -37,7 +37,7 @@ apart_number a b h = grind (arith, nat_tests)
 -- the entries of one section are those of its file, and of no other
 own : (section : ℕ) (bs : List (List ℕ)) → of_section section (with_section section bs) ≡ with_section section bs
 own section [] = refl
-own section (b ∷ bs) = ap (λ (t : Bool). cond t ((section, b) ∷ of_section section (with_section section bs)) (of_section section (with_section section bs))) (same_section section) ∙ ap (λ (l : List Entry). (section, b) ∷ l) (own section bs)
+own section (b ∷ bs) = ap (λ (t : Bool). cond t ((section, b) ∷ of_section section (with_section section bs)) (of_section section (with_section section bs))) (same_section section) ∙ ap (λ (l : List SectionEntry). (section, b) ∷ l) (own section bs)
 
 others : (section other : ℕ) (bs : List (List ℕ)) → other ≢ section → of_section section (with_section other bs) ≡ []
 others section other [] ne = refl
@@ -49,7 +49,7 @@ no_plan section = grind (arith, nat_tests)
 no_flat : (section : ℕ) → is_eq (nat_cmp (suc (suc section)) 1) ≡ false
 no_flat section = grind (arith, nat_tests)
 
-abbrev pub rows_entries : List (Name × List ℕ) → List Entry
+abbrev pub rows_entries : List (Name × List ℕ) → List SectionEntry
 rows_entries rows = flat_map segment_entries rows
 
 -- no entry of a section whose file isn't there
@@ -60,7 +60,7 @@ missing section ((Flat, v) ∷ rows) below = missing section rows (both_true _ _
 missing section ((Segment s, v) ∷ rows) below =
     let parts = both_true (is_lt (nat_cmp (suc (suc section)) (suc (suc s)))) (below_all name_cmp (Segment section) rows) below in
     let ne : s ≢ section = λ e. absurd (omega (arith, e, less_number (suc (suc section)) (suc (suc s)) parts.0)) in
-    of_both section (with_section s (bodies 0 (length v) v)) (rows_entries rows) ∙ ap (λ (l : List Entry). l ++ of_section section (rows_entries rows)) (others section s (bodies 0 (length v) v) ne) ∙ missing section rows parts.1
+    of_both section (with_section s (bodies 0 (length v) v)) (rows_entries rows) ∙ ap (λ (l : List SectionEntry). l ++ of_section section (rows_entries rows)) (others section s (bodies 0 (length v) v) ne) ∙ missing section rows parts.1
 
 pub in_rows : (section : ℕ) (rows : List (Name × List ℕ)) → T (is_sorted name_cmp rows) → of_section section (rows_entries rows) ≡ with_section section (bodies_at (find name_cmp (Segment section) rows))
 in_rows section [] sorted = refl
@@ -78,7 +78,7 @@ in_rows section ((Segment s, v) ∷ rows) sorted =
           ∙ sym (ap (λ (t : Bool). with_section section (bodies_at (cond t (Some v) (find name_cmp (Segment section) rows)))) here)
       | inr ne ↦
           of_both section (with_section s bs) (rows_entries rows)
-          ∙ ap (λ (l : List Entry). l ++ of_section section (rows_entries rows)) (others section s bs (λ e. ne (sym e)))
+          ∙ ap (λ (l : List SectionEntry). l ++ of_section section (rows_entries rows)) (others section s bs (λ e. ne (sym e)))
           ∙ in_rows section rows (both_true _ _ sorted).1
           ∙ sym (ap (λ (t : Bool). with_section section (bodies_at (cond t (Some v) (find name_cmp (Segment section) rows)))) (apart section s ne))
     ]
@@ -91,10 +91,10 @@ in_rows section ((Segment s, v) ∷ rows) sorted =
     apart a b ne = grind (arith, nat_tests)
 
 -- sections rise
-section_above : (section n : ℕ) (bs : List (List ℕ)) (es : List Entry) → n ≤ section → Above section es → Above n (with_section section bs ++ es)
+section_above : (section n : ℕ) (bs : List (List ℕ)) (es : List SectionEntry) → n ≤ section → Above section es → Above n (with_section section bs ++ es)
 section_above section n [] es low above = lower es above
   where
-    lower : (es : List Entry) → Above section es → Above n es
+    lower : (es : List SectionEntry) → Above section es → Above n es
     lower [] above = tt
     lower (e ∷ es) above = (omega (arith, low, above.0), above.1)
 section_above section n (b ∷ bs) es low above = (low, section_above section section bs es (omega arith) above)
@@ -148,7 +148,7 @@ same_entries c d no_c no_d same = unique (entries c) (entries d) 0 0 (entries_ab
 
 with_push : (section : ℕ) (bs : List (List ℕ)) (b : List ℕ) → with_section section (bs ++ b ∷ []) ≡ with_section section bs ++ (section, b) ∷ []
 with_push section [] b = refl
-with_push section (x ∷ bs) b = ap (λ (l : List Entry). (section, x) ∷ l) (with_push section bs b)
+with_push section (x ∷ bs) b = ap (λ (l : List SectionEntry). (section, x) ∷ l) (with_push section bs b)
 
 one_of : (section : ℕ) (b : List ℕ) → of_section section ((section, b) ∷ []) ≡ (section, b) ∷ []
 one_of section b = own section (b ∷ [])
@@ -170,36 +170,36 @@ one_entry_more c d section body no_c no_d more same =
           ∙ sym (right ∙ (λ i. entries_section d no_d s i ++ last i))
       | inr ne ↦
           entries_section c no_c s ∙ ap (with_section s) (same s ne) ∙ sym (entries_section d no_d s)
-          ∙ sym (right ∙ ap (λ (l : List Entry). of_section s (entries d) ++ l) (none_else s section body (λ e. ne (sym e))) ∙ append-nil (of_section s (entries d)))
+          ∙ sym (right ∙ ap (λ (l : List SectionEntry). of_section s (entries d) ++ l) (none_else s section body (λ e. ne (sym e))) ∙ append-nil (of_section s (entries d)))
     ])
 
 -- sections below a minimum are gone
-from_of : (min section : ℕ) (es : List Entry) → of_section section (from_section min es) ≡ cond (nat_le min section) (of_section section es) []
-from_of min section [] = elim (nat_le min section) as (λ (b : Bool). ◌≡◌ {A = List Entry} [] (cond b [] [])) [ true ↦ refl | false ↦ refl ]
+from_of : (min section : ℕ) (es : List SectionEntry) → of_section section (from_section min es) ≡ cond (nat_le min section) (of_section section es) []
+from_of min section [] = elim (nat_le min section) as (λ (b : Bool). ◌≡◌ {A = List SectionEntry} [] (cond b [] [])) [ true ↦ refl | false ↦ refl ]
 from_of min section (e ∷ es) = elim (cases_eq e.0 section) [
   | inl is ↦
-      let here : (l : List Entry) → of_section section (e ∷ l) ≡ e ∷ of_section section l = λ l. ap (λ (b : Bool). cond b (e ∷ of_section section l) (of_section section l)) (ap (λ (n : ℕ). n == section) is ∙ same_section section) in
+      let here : (l : List SectionEntry) → of_section section (e ∷ l) ≡ e ∷ of_section section l = λ l. ap (λ (b : Bool). cond b (e ∷ of_section section l) (of_section section l)) (ap (λ (n : ℕ). n == section) is ∙ same_section section) in
       let same : nat_le min e.0 ≡ nat_le min section = ap (nat_le min) is in
       ap (λ (b : Bool). of_section section (cond b (e ∷ from_section min es) (from_section min es))) same
       ∙ elim (nat_le min section) as (λ (b : Bool). of_section section (from_section min es) ≡ cond b (of_section section es) [] → of_section section (cond b (e ∷ from_section min es) (from_section min es)) ≡ cond b (e ∷ of_section section es) []) [
-        | true ↦ λ rest. here (from_section min es) ∙ ap (λ (l : List Entry). e ∷ l) rest
+        | true ↦ λ rest. here (from_section min es) ∙ ap (λ (l : List SectionEntry). e ∷ l) rest
         | false ↦ λ rest. rest
       ] (from_of min section es)
-      ∙ ap (λ (l : List Entry). cond (nat_le min section) l []) (sym (here es))
+      ∙ ap (λ (l : List SectionEntry). cond (nat_le min section) l []) (sym (here es))
   | inr ne ↦
-      let skip : (l : List Entry) → of_section section (e ∷ l) ≡ of_section section l = λ l. ap (λ (b : Bool). cond b (e ∷ of_section section l) (of_section section l)) (other_section e.0 section ne) in
+      let skip : (l : List SectionEntry) → of_section section (e ∷ l) ≡ of_section section l = λ l. ap (λ (b : Bool). cond b (e ∷ of_section section l) (of_section section l)) (other_section e.0 section ne) in
       elim (nat_le min e.0) as (λ (b : Bool). of_section section (cond b (e ∷ from_section min es) (from_section min es)) ≡ of_section section (from_section min es)) [ true ↦ skip (from_section min es) | false ↦ refl ]
-      ∙ from_of min section es ∙ ap (λ (l : List Entry). cond (nat_le min section) l []) (sym (skip es))
+      ∙ from_of min section es ∙ ap (λ (l : List SectionEntry). cond (nat_le min section) l []) (sym (skip es))
 ]
 
-from_above : (min n : ℕ) (es : List Entry) → Above n es → Above n (from_section min es)
+from_above : (min n : ℕ) (es : List SectionEntry) → Above n es → Above n (from_section min es)
 from_above min n [] above = tt
 from_above min n (e ∷ es) above = elim (nat_le min e.0) as (λ (b : Bool). Above n (cond b (e ∷ from_section min es) (from_section min es))) [
   | true ↦ (above.0, from_above min e.0 es above.1)
   | false ↦ lower e.0 n (from_section min es) above.0 (from_above min e.0 es above.1)
 ]
   where
-    lower : (m n : ℕ) (es : List Entry) → n ≤ m → Above m es → Above n es
+    lower : (m n : ℕ) (es : List SectionEntry) → n ≤ m → Above m es → Above n es
     lower m n [] low above = tt
     lower m n (e ∷ es) low above = (omega (arith, low, above.0), above.1)
 

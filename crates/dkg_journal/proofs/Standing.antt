@@ -8,7 +8,7 @@ use Rattle.dkg_journal.specs.DeviceCall.{DeviceCall}
 use Rattle.dkg_journal.specs.Names.{Files, name_number}
 use Rattle.dkg_journal.specs.Disk.{SameElse, HasFile, Follows, Lands, IsUnchanged}
 use Rattle.dkg_journal.specs.Fuse.{Ran, RanAll}
-use Rattle.dkg_journal.specs.Records.{Entry, entries, placed}
+use Rattle.dkg_journal.specs.Records.{SectionEntry, entries, placed}
 use Rattle.dkg_journal.specs.Steps.{Firm, IsNext, SegmentAt, KeepsBut, Adds, MayAdd, Into, append_calls_at}
 use Rattle.dkg_journal.specs.Operations.{Journaled, journaled, with_name, Operation, Appends, after_operation, calls_of, InPart, Tries, Tried, Finished, TriedOn, FinishedOn, Does}
 use Rattle.dkg_journal.specs.declared.disk.Op.{Op}
@@ -27,10 +27,10 @@ pub stands_for : (c : Files) (j : Journaled) → entries c ≡ j.entries → get
 stands_for c j es plan names = λ i. record { entries = es i; plan = plan i; names = names i }
 
 -- after an append, and in part
-pub appended : (e : Entry) (old c : Files) → SameElse (Segment e.0) old c → HasFile c (Segment e.0) (λ file. Unit {0}) → entries c ≡ placed (entries old) e → journaled c ≡ after_operation (Appends e) (journaled old)
+pub appended : (e : SectionEntry) (old c : Files) → SameElse (Segment e.0) old c → HasFile c (Segment e.0) (λ file. Unit {0}) → entries c ≡ placed (entries old) e → journaled c ≡ after_operation (Appends e) (journaled old)
 appended e old c others has added = stands_for c (after_operation (Appends e) (journaled old)) added (others Plan (plan_apart e.0)) (named (Segment e.0) old c others (is_there c (Segment e.0) has))
 
-pub appended_in_part : (e : Entry) (old c : Files) → SameElse (Segment e.0) old c → HasFile c (Segment e.0) (λ file. Unit {0}) → entries c ≡ entries old → InPart (Appends e) (journaled old) (journaled c)
+pub appended_in_part : (e : SectionEntry) (old c : Files) → SameElse (Segment e.0) old c → HasFile c (Segment e.0) (λ file. Unit {0}) → entries c ≡ entries old → InPart (Appends e) (journaled old) (journaled c)
 appended_in_part e old c others has same = stands_for c (record { entries = entries old; plan = get old Plan; names = with_name (Segment e.0) (keys old) }) same (others Plan (plan_apart e.0)) (named (Segment e.0) old c others (is_there c (Segment e.0) has))
 
 -- nothing was done
@@ -45,7 +45,7 @@ pub into_has : (name : Name) (P : List ℕ → Type 0) (a b : Files → Type 0) 
 into_has name P a b step c now = let from = step.each c now in record { bytes = from.2.1.bytes; there = from.2.1.there; so = tt }
 
 -- an append behind the first of its calls
-pub tries_append : (e : Entry) (old : Files) (image next : Files → Type 0) → Lands old image → Follows (MayAdd e) image next → ((c : Files) → next c → HasFile c (Segment e.0) (λ file. Unit {0})) → (c : Files) → next c → Tries (Appends e) old c
+pub tries_append : (e : SectionEntry) (old : Files) (image next : Files → Type 0) → Lands old image → Follows (MayAdd e) image next → ((c : Files) → next c → HasFile c (Segment e.0) (λ file. Unit {0})) → (c : Files) → next c → Tries (Appends e) old c
 tries_append e old image next lands step has c now =
     let from = step.each c now in
     let is : from.0 ≡ old = lands.only from.0 from.1 in
@@ -53,7 +53,7 @@ tries_append e old image next lands step has c now =
     inr (⊎_elim (λ same. inr (appended_in_part e old c may.others (has c now) same)) (λ added. inl (appended e old c may.others (has c now) added)) may.either)
 
 -- .. and before or in it
-pub tries_make : (e : Entry) (place : Option ℕ) (old : Files) (image next : Files → Type 0) → IsNext e.0 place old image → Lands old image → Follows (KeepsBut (Segment e.0)) image next → ((p : ℕ) → place ≡ Some p → (c : Files) → next c → image c) → (c : Files) → next c → Tries (Appends e) old c
+pub tries_make : (e : SectionEntry) (place : Option ℕ) (old : Files) (image next : Files → Type 0) → IsNext e.0 place old image → Lands old image → Follows (KeepsBut (Segment e.0)) image next → ((p : ℕ) → place ≡ Some p → (c : Files) → next c → image c) → (c : Files) → next c → Tries (Appends e) old c
 tries_make e (Some p) old image next at lands step same c now = tries_none (Appends e) old image lands c (same p refl c now)
 tries_make e None old image next at lands step same c now =
     let from = step.each c now in
@@ -76,18 +76,18 @@ settled_file name x old new image next lands firm step now = record {
       same_files name new c (λ q ne. apart q ne ∙ sym (rest q ne)) (firm.only c here ∙ sym firm.there);
 }
 
-adds_else : (e : Entry) (a b : Files → Type 0) → Follows (Adds e) a b → Follows (SameElse (Segment e.0)) a b
+adds_else : (e : SectionEntry) (a b : Files → Type 0) → Follows (Adds e) a b → Follows (SameElse (Segment e.0)) a b
 adds_else e a b step = weaken (Adds e) (SameElse (Segment e.0)) a b (λ x y now k. k.others) step
 
 -- the calls of an append, of what the files are
-pub append_size : (place : Option ℕ) (e : Entry) (old : Files) (image : Files → Type 0) → IsNext e.0 place old image → length (append_calls_at place e) ≡ calls_of (Appends e) (journaled old)
+pub append_size : (place : Option ℕ) (e : SectionEntry) (old : Files) (image : Files → Type 0) → IsNext e.0 place old image → length (append_calls_at place e) ≡ calls_of (Appends e) (journaled old)
 append_size (Some p) e old image at = sym (ap (λ (b : Bool). cond b 4 5) (has_key old (Segment e.0) ∙ ap is_some at.at.2))
 append_size None e old image at = sym (ap (λ (b : Bool). cond b 4 5) (has_key old (Segment e.0) ∙ ap is_some at.at))
 
-pub tried_append : {D : Type 0} (made : D → D → List (DeviceCall Op) → Type 0) (a b : D) (f g : Burn) (place : Option ℕ) (e : Entry) (old : Files) (image next : Files → Type 0) → IsNext e.0 place old image → Ran made a b f g (append_calls_at place e) → ((c : Files) → next c → Tries (Appends e) old c) → Tried (Appends e) old next f g
+pub tried_append : {D : Type 0} (made : D → D → List (DeviceCall Op) → Type 0) (a b : D) (f g : Burn) (place : Option ℕ) (e : SectionEntry) (old : Files) (image next : Files → Type 0) → IsNext e.0 place old image → Ran made a b f g (append_calls_at place e) → ((c : Files) → next c → Tries (Appends e) old c) → Tried (Appends e) old next f g
 tried_append made a b f g place e old image next at ran each = record { each = each; spent = ran_spent made a b f g (append_calls_at place e) (calls_of (Appends e) (journaled old)) (append_size place e old image at) ran }
 
-pub finished_append : {D : Type 0} (made : D → D → List (DeviceCall Op) → Type 0) (a b : D) (f g : Burn) (place : Option ℕ) (end : ℕ) (e : Entry) (old new : Files) (image next : Files → Type 0) → IsNext e.0 place old image → Lands old image → SegmentAt e.0 end new next → Follows (Adds e) image next → next new → RanAll made a b f g (append_calls_at place e) → Finished (Appends e) old new next f g
+pub finished_append : {D : Type 0} (made : D → D → List (DeviceCall Op) → Type 0) (a b : D) (f g : Burn) (place : Option ℕ) (end : ℕ) (e : SectionEntry) (old new : Files) (image next : Files → Type 0) → IsNext e.0 place old image → Lands old image → SegmentAt e.0 end new next → Follows (Adds e) image next → next new → RanAll made a b f g (append_calls_at place e) → Finished (Appends e) old new next f g
 finished_append made a b f g place end e old new image next at lands segment step now all =
     let from = step.each new now in
     let adds : Adds e old new = subst (λ (d : Files). Adds e d new) (lands.only from.0 from.1) from.2 in

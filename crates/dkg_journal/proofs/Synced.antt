@@ -6,7 +6,7 @@ use Rattle.std.specs.Ordering.{eq_by_cmp}
 use Rattle.dkg_values.specs.declared.name.Name.{Name}
 use Rattle.dkg_journal.specs.Names.{name_cmp}
 use Rattle.dkg_journal.specs.Disk.{written}
-use Rattle.dkg_journal.specs.Kept.{Kept, Undone, restored, rolled, kept_to, wrote, AreWithin}
+use Rattle.dkg_journal.specs.Kept.{KeptBytes, Undone, restored, rolled, kept_to, wrote, AreWithin}
 use Rattle.dkg_journal.specs.Table.{Rows, file_at, IsUpdate, bytes_of, synced_of, synced_at, KeepsSynced, Crashed}
 use Rattle.dkg_journal.proofs.AtOnce.{torn_written}
 use Rattle.dkg_journal.proofs.Loose.{rolled-push, length-rolled}
@@ -64,7 +64,7 @@ module _ (place : ℕ) (new old : List ℕ) (fits : place ≤ length old) where
   ]
 
 -- a write leaves what the last sync left
-pub kept_wrote : (place : ℕ) (new : List ℕ) (f : Kept) → f.synced ≤ length f.bytes → AreWithin f.undo (length f.bytes) → place ≤ length f.bytes → kept_to 0 (wrote place new f) ≡ kept_to 0 f
+pub kept_wrote : (place : ℕ) (new : List ℕ) (f : KeptBytes) → f.synced ≤ length f.bytes → AreWithin f.undo (length f.bytes) → place ≤ length f.bytes → kept_to 0 (wrote place new f) ≡ kept_to 0 f
 kept_wrote place new f synced inside fits =
     let u : Undone = (place, take (length new) (drop place f.bytes)) in
     let now = written place new f.bytes in
@@ -80,7 +80,7 @@ kept_wrote place new f synced inside fits =
     ∙ ap (λ (n : ℕ). take n (rolled 0 f.undo f.bytes)) (sym count_too)
 
 -- where one name has another file, from which the last sync left the same
-pub update_synced : (name : Name) (f g : Kept) (old new : Rows) → file_at name old ≡ Some f → kept_to 0 g ≡ kept_to 0 f → IsUpdate name (Some g) old new → KeepsSynced old new
+pub update_synced : (name : Name) (f g : KeptBytes) (old new : Rows) → file_at name old ≡ Some f → kept_to 0 g ≡ kept_to 0 f → IsUpdate name (Some g) old new → KeepsSynced old new
 update_synced name f g old new was same update = record {
   each = λ q. ⊎_elim
       (λ (at : q ≡ name). subst (λ (n : Name). synced_at n new ≡ synced_at n old) (sym at) (ap synced_of (update_here name (Some g) old new update) ∙ ap (λ (l : List ℕ). Some l) same ∙ sym (ap synced_of was)))
@@ -98,7 +98,7 @@ crashed_synced pick count left (r ∷ rs) (s ∷ ss) one (between, (same, row, r
     ap (λ (n : Name). bytes_of (cond (eq_by_cmp name_cmp q n) (Some s.1) (file_at q ss))) same
     ∙ by_case (eq_by_cmp name_cmp q r.0) (file_at q ss) (file_at q rs) ((row.picked refl).0.as_synced one) (crashed_synced pick between left rs ss one rest q)
   where
-    by_case : (b : Bool) (x y : Option Kept) → s.1.bytes ≡ kept_to 0 r.1 → bytes_of x ≡ synced_of y → bytes_of (cond b (Some s.1) x) ≡ synced_of (cond b (Some r.1) y)
+    by_case : (b : Bool) (x y : Option KeptBytes) → s.1.bytes ≡ kept_to 0 r.1 → bytes_of x ≡ synced_of y → bytes_of (cond b (Some s.1) x) ≡ synced_of (cond b (Some r.1) y)
     by_case true x y is later = ap (λ (l : List ℕ). Some l) is
     by_case false x y is later = later
 crashed_synced pick count left [] (s ∷ ss) one crashed q = absurd crashed

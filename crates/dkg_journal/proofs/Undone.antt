@@ -4,7 +4,7 @@ use Rattle.std.proofs.lemmas.List.{map-append, length-take, length-take-le, leng
 use Rattle.std.proofs.lemmas.Grind.{same_number_lists}
 use Rattle.std.proofs.lemmas.List.Sums.{fold_push}
 use Rattle.dkg_journal.specs.Disk.{written}
-use Rattle.dkg_journal.specs.Kept.{Undone, touched, AreWithin, Kept, IsOutside, FileImage, settled, restored, rolled, filled, filled_all}
+use Rattle.dkg_journal.specs.Kept.{Undone, touched, AreWithin, KeptBytes, IsOutside, FileImage, settled, restored, rolled, filled, filled_all}
 use Rattle.dkg_journal.specs.declared.file.Undo.{Undo}
 use Rattle.dkg_journal.specs.declared.file.Span.{Span}
 use Rattle.std.specs.Prelude.{nat_le, nat_lt, ◌&&◌, ◌||◌, false}
@@ -78,7 +78,7 @@ get_or-filled byte (u ∷ us) bytes i h out =
     ∙ get_or-written u.0 (replicate (length u.1) byte) bytes i (omega (arith, long, h.0)) (⊎_elim (λ low. inl low) (λ high. inr (omega (arith, long, high))) out.0)
 
 -- what is filled is one of the images
-pub filled_image : (byte : ℕ) (f : Kept) → f.synced ≤ length f.bytes → AreWithin f.undo (length f.bytes) → FileImage f (filled_all byte f)
+pub filled_image : (byte : ℕ) (f : KeptBytes) → f.synced ≤ length f.bytes → AreWithin f.undo (length f.bytes) → FileImage f (filled_all byte f)
 filled_image byte f synced within =
     let inner = filled byte f.undo f.bytes in
     let same : length inner ≡ length f.bytes = length-filled byte f.undo f.bytes within in
@@ -91,7 +91,7 @@ filled_image byte f synced within =
       agrees = λ i low out. get_or-written f.synced (replicate (length f.bytes - f.synced) byte) inner i fits (inl low) ∙ get_or-filled byte f.undo f.bytes i within out;
     }
 
-pub settled_image : (f : Kept) → FileImage f f.bytes
+pub settled_image : (f : KeptBytes) → FileImage f f.bytes
 settled_image f = record { no_shorter = omega arith; same_length = λ h. h; agrees = λ i low out. refl }
 
 -- of a file of which nothing is loose a crash leaves what a read gives

@@ -35,7 +35,7 @@ IsWholeFlat None = Unit {0}
 IsWholeFlat (Some file) = (bs : List (List ℕ)) × (place : ℕ) × Whole 8 bs place file
 
 -- .. of the segments of a disk's files
-pub record Finds (files : Files) (waiting : List JournalEntry) (places : Places) (calls : List Op) : Type 0 where
+pub record FindsSegments (files : Files) (waiting : List JournalEntry) (places : Places) (calls : List Op) : Type 0 where
   pub listed : map gated waiting ≡ flat_map gated_row (map_of.entries (segments files))
   pub ends : (section : ℕ) → EndsAt (place_at places section) (get (segments files) section)
   pub made : calls ≡ open_calls files

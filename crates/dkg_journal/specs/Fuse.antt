@@ -39,7 +39,7 @@ calls_in f (op ∷ ops) = call_at (pick_now f) op ∷ calls_in (spent_once f) op
 -- at most so many calls were counted
 pub record SpentUpTo (n : ℕ) (before now : Burn) : Type 0 where
   pub calls : ℕ
-  pub few : calls ≤ n
+  pub in_bound : calls ≤ n
   pub is : now ≡ burnt calls before
 
 -- How calls that ended with this answer have spent their fuse: the one that is cut is the last, and it answers so, or that it found no

@@ -2,28 +2,28 @@
 use Rattle.std.specs.Prelude.{◌≡◌, ℕ, ◌+◌, ◌==◌, if◌then◌else◌, List, [], ◌∷◌, ◌++◌, map, length}
 use Rattle.dkg_journal.specs.Names.{Files}
 use Rattle.dkg_journal.specs.Opening.{broken}
-use Rattle.dkg_journal.specs.Records.{Entry, Front, entries}
+use Rattle.dkg_journal.specs.Records.{SectionEntry, Front, entries}
 use Rattle.dkg_journal.specs.declared.opening.JournalEntry.{JournalEntry}
 
 -- an entry whose body has the place of its gate in front
-abbrev pub gated : JournalEntry → Entry
+abbrev pub gated : JournalEntry → SectionEntry
 gated e = (e.section, e.place ∷ e.body)
 
 -- the entries of a section's records with these bodies, the first of which has its gate at this place
-abbrev pub gated_from : ℕ → ℕ → List (List ℕ) → List Entry
+abbrev pub gated_from : ℕ → ℕ → List (List ℕ) → List SectionEntry
 gated_from section place [] = []
 gated_from section place (b ∷ bs) = (section, place ∷ b) ∷ gated_from section (place + (5 + length b)) bs
 
 -- entries behind those of a section, whose file would go on at this place
-abbrev pub gated_behind : ℕ → ℕ → List Entry → List Entry
+abbrev pub gated_behind : ℕ → ℕ → List SectionEntry → List SectionEntry
 gated_behind section place [] = []
 gated_behind section place (e ∷ es) = let at = if e.0 == section then place else 0 in (e.0, at ∷ e.1) ∷ gated_behind e.0 (at + (5 + length e.1)) es
 
 -- Entries, sections rising, every one with the place of its gate in the segment of its section.
-abbrev pub gated_of : List Entry → List Entry
+abbrev pub gated_of : List SectionEntry → List SectionEntry
 gated_of es = gated_behind 0 0 es
 
-abbrev pub gated_entries : Files → List Entry
+abbrev pub gated_entries : Files → List SectionEntry
 gated_entries files = gated_of (entries files)
 
 -- An opening finds the same in both: the record that is not whole, and the entries.

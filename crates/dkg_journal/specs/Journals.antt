@@ -1,7 +1,7 @@
 -- What the crates above say of a journal: it is open, a section's file is there, and which calls an append makes.
 use Rattle.std.specs.Prelude.{List, ℕ, Bool, is_some}
 use Rattle.dkg_journal.specs.Names.{Files}
-use Rattle.dkg_journal.specs.Records.{Entry}
+use Rattle.dkg_journal.specs.Records.{SectionEntry}
 use Rattle.dkg_journal.specs.Places.{place_at}
 use Rattle.dkg_journal.specs.Steps.{IsOpenAt, append_calls_at}
 use Rattle.dkg_journal.specs.declared.disk.Op.{Op}
@@ -16,5 +16,5 @@ abbrev pub has_file : Journal → ℕ → Bool
 has_file journal section = is_some (place_at journal.places section)
 
 -- the changing calls of an append
-abbrev pub append_calls : Journal → Entry → List Op
+abbrev pub append_calls : Journal → SectionEntry → List Op
 append_calls journal e = append_calls_at (place_at journal.places e.0) e

@@ -8,17 +8,17 @@ abbrev pub Undone : Type 0
 Undone = ℕ × List ℕ
 
 -- the bytes, how many there were at the last sync, and what the writes since have put others in place of, oldest first
-pub record Kept : Type 0 where
+pub record KeptBytes : Type 0 where
   pub bytes : List ℕ
   pub synced : ℕ
   pub undo : List Undone
 
 -- nothing of it is loose
-abbrev pub settled : List ℕ → Kept
+abbrev pub settled : List ℕ → KeptBytes
 settled bytes = record { bytes = bytes; synced = length bytes; undo = [] }
 
 -- after a write
-abbrev pub wrote : ℕ → List ℕ → Kept → Kept
+abbrev pub wrote : ℕ → List ℕ → KeptBytes → KeptBytes
 wrote place bytes f = record {
   bytes = written place bytes f.bytes;
   synced = f.synced;
@@ -35,7 +35,7 @@ rolled from [] bytes = bytes
 rolled from (u ∷ us) bytes = restored from u (rolled from us bytes)
 
 -- what was written below a place is kept, and the rest is as last synced
-abbrev pub kept_to : ℕ → Kept → List ℕ
+abbrev pub kept_to : ℕ → KeptBytes → List ℕ
 kept_to from f = take (max f.synced (min from (length f.bytes))) (rolled from f.undo f.bytes)
 
 -- one byte in all the places of these
@@ -43,7 +43,7 @@ abbrev pub filled : ℕ → List Undone → List ℕ → List ℕ
 filled byte us bytes = fold (λ acc u. written u.0 (replicate (length u.1) byte) acc) bytes us
 
 -- .. and from the old end on
-abbrev pub filled_all : ℕ → Kept → List ℕ
+abbrev pub filled_all : ℕ → KeptBytes → List ℕ
 filled_all byte f = written f.synced (replicate (length f.bytes - f.synced) byte) (filled byte f.undo f.bytes)
 
 abbrev pub AreWithin : List Undone → ℕ → Type 0
@@ -56,7 +56,7 @@ IsOutside [] i = Unit {0}
 IsOutside (u ∷ us) i = ((i < u.0) ⊎ (u.0 + length u.1 ≤ i)) × IsOutside us i
 
 -- what a crash may leave
-pub record FileImage (f : Kept) (c : List ℕ) : Type 0 where
+pub record FileImage (f : KeptBytes) (c : List ℕ) : Type 0 where
   pub no_shorter : min f.synced (length f.bytes) ≤ length c
   pub same_length : length f.bytes ≡ f.synced → length c ≡ f.synced
   pub agrees : (i : ℕ) → i < f.synced → IsOutside f.undo i → get_or c i 0 ≡ get_or f.bytes i 0
@@ -69,7 +69,7 @@ touched us i = list_any (λ u. nat_le u.0 i && nat_lt i (u.0 + length u.1)) us
 abbrev pub loose_by : ℕ → (ℕ → Bool) → ℕ → Bool
 loose_by synced test i = nat_le synced i || test i
 
-abbrev pub is_loose : Kept → ℕ → Bool
+abbrev pub is_loose : KeptBytes → ℕ → Bool
 is_loose f = loose_by f.synced (touched f.undo)
 
 -- how many places below one pass a test
@@ -84,21 +84,21 @@ pub record IsBehind (test : ℕ → Bool) (len q place left : ℕ) : Type 0 wher
   pub rest : left ≡ q - count_below test len
 
 -- the first q loose bytes as written, and the others as last synced
-pub record KeepsFirst (q : ℕ) (f : Kept) (bytes : List ℕ) : Type 0 where
+pub record KeepsFirst (q : ℕ) (f : KeptBytes) (bytes : List ℕ) : Type 0 where
   pub place : ℕ
   pub left : ℕ
   pub behind : IsBehind (is_loose f) (length f.bytes) q place left
   pub is : bytes ≡ kept_to place f
 
 -- What a crash leaves by its pick r + 4 q, where so many loose bytes of this file may still be kept.
-pub record Picked (pick count : ℕ) (f : Kept) (bytes : List ℕ) : Type 0 where
+pub record Picked (pick count : ℕ) (f : KeptBytes) (bytes : List ℕ) : Type 0 where
   pub as_written : pick % 4 ≡ 0 → bytes ≡ f.bytes
   pub as_synced : pick % 4 ≡ 1 → bytes ≡ kept_to 0 f
   pub first : pick % 4 ≡ 2 → KeepsFirst count f bytes
   pub one_byte : pick % 4 ≡ 3 → bytes ≡ filled_all (pick / 4 % 256) f
 
 -- how many may then be kept of the files behind it
-pub record LeftOver (pick count : ℕ) (f : Kept) (left : ℕ) : Type 0 where
+pub record LeftOver (pick count : ℕ) (f : KeptBytes) (left : ℕ) : Type 0 where
   pub counted : pick % 4 ≡ 2 → left ≡ count - count_below (is_loose f) (length f.bytes)
   pub same : pick % 4 < 2 → left ≡ count
   pub same_too : pick % 4 ≡ 3 → left ≡ count

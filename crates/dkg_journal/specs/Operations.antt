@@ -8,14 +8,14 @@ use Rattle.dkg_journal.specs.Names.{Files, name_cmp}
 use Rattle.dkg_journal.specs.Disk.{Lands}
 use Rattle.dkg_journal.specs.Burn.{Burn}
 use Rattle.dkg_journal.specs.Fuse.{burnt, SpentUpTo}
-use Rattle.dkg_journal.specs.Records.{Entry, entries, placed, from_section}
+use Rattle.dkg_journal.specs.Records.{SectionEntry, entries, placed, from_section}
 use Rattle.dkg_journal.specs.Pruning.{is_below}
 use Rattle.dkg_values.specs.declared.name.Name.{Name}
 use Rattle.dkg_values.specs.declared.name.Name.TheVariants.{Plan, Flat, Segment}
 
 -- the journal's entries, the plan's bytes, and the names that are there, rising
 pub record Journaled : Type 0 where
-  pub entries : List Entry
+  pub entries : List SectionEntry
   pub plan : Option (List ℕ)
   pub names : List Name
 
@@ -27,7 +27,7 @@ journaled files = record { entries = entries files; plan = get files Plan; names
 pub data Operation : Type 0 where
   Bars : Operation
   Opens : (calls : ℕ) → Operation
-  Appends : Entry → Operation
+  Appends : SectionEntry → Operation
   Prunes : (min : ℕ) → Operation
   PutsPlan : List ℕ → Operation
   ClearsPlan : Operation
@@ -48,11 +48,11 @@ is_plan Plan = true
 is_plan _ = false
 
 -- with a segment for the section of each entry
-abbrev pub with_segments : List Entry → List Name → List Name
+abbrev pub with_segments : List SectionEntry → List Name → List Name
 with_segments es names = fold (λ ns e. with_name (Segment e.0) ns) names es
 
 -- After an opening there is no flat file: its entries stand in segments, and no other segment is there.
-abbrev pub opened_names : List Entry → List Name → List Name
+abbrev pub opened_names : List SectionEntry → List Name → List Name
 opened_names es names = if has_name Flat names then with_segments es (filter is_plan names) else names
 
 -- what an operation makes of it

@@ -37,42 +37,42 @@ left_over least (suc n) [] = []
 left_over least (suc n) (gate ∷ rest) = if (gate == 1) && is_whole least rest then left_over least n (drop (4 + read32 rest) rest) else gate ∷ rest
 
 -- a section and a body
-abbrev pub Entry : Type 0
-Entry = ℕ × List ℕ
+abbrev pub SectionEntry : Type 0
+SectionEntry = ℕ × List ℕ
 
-abbrev pub entry_of : List ℕ → Entry
+abbrev pub entry_of : List ℕ → SectionEntry
 entry_of body = (read64 body, drop 8 body)
 
 -- behind the entries of its section and of those below
-abbrev pub placed : List Entry → Entry → List Entry
+abbrev pub placed : List SectionEntry → SectionEntry → List SectionEntry
 placed [] e = e ∷ []
 placed (x ∷ xs) e = if nat_lt e.0 x.0 then e ∷ x ∷ xs else x ∷ placed xs e
 
 -- sections rising, each in its order
-abbrev pub in_order : List Entry → List Entry
+abbrev pub in_order : List SectionEntry → List SectionEntry
 in_order es = fold placed [] es
 
 -- the entries of sections at or above a minimum
-abbrev pub from_section : ℕ → List Entry → List Entry
+abbrev pub from_section : ℕ → List SectionEntry → List SectionEntry
 from_section min es = filter (λ e. nat_le min e.0) es
 
-abbrev pub in_sections : List (List ℕ) → List Entry
+abbrev pub in_sections : List (List ℕ) → List SectionEntry
 in_sections bs = in_order (map entry_of bs)
 
 -- The entries of the flat file, sections rising. There a body begins with the eight bytes of its section.
-abbrev pub flat_entries : List ℕ → List Entry
+abbrev pub flat_entries : List ℕ → List SectionEntry
 flat_entries file = in_sections (bodies 8 (length file) file)
 
-abbrev pub segment_entries : Name × List ℕ → List Entry
+abbrev pub segment_entries : Name × List ℕ → List SectionEntry
 segment_entries (Segment section, file) = map (λ body. (section, body)) (bodies 0 (length file) file)
 segment_entries (_, file) = []
 
-abbrev pub entries_with : Option (List ℕ) → Files → List Entry
+abbrev pub entries_with : Option (List ℕ) → Files → List SectionEntry
 entries_with (Some file) f = flat_entries file
 entries_with None f = flat_map segment_entries (map_of.entries f)
 
 -- what the files of a journal stand for
-abbrev pub entries : Files → List Entry
+abbrev pub entries : Files → List SectionEntry
 entries f = entries_with (map_of.get f Flat) f
 
 -- an open gate, the body's length, and the body

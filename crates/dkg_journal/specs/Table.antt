@@ -9,26 +9,26 @@ use Rattle.dkg_values.specs.declared.name.Name.{Name}
 use Rattle.dkg_journal.specs.Names.{Files, name_cmp, name_number}
 use Rattle.dkg_journal.specs.declared.disk.Op.{Op}
 use Rattle.dkg_journal.specs.declared.disk.Op.TheVariants.{WriteAt, Sync, Barrier, Install, Remove}
-use Rattle.dkg_journal.specs.Kept.{Kept, FileImage, settled, wrote, kept_to, Picked, LeftOver}
+use Rattle.dkg_journal.specs.Kept.{KeptBytes, FileImage, settled, wrote, kept_to, Picked, LeftOver}
 
 -- names rising, each with its file
 abbrev pub Rows : Type 0
-Rows = List (Name × Kept)
+Rows = List (Name × KeptBytes)
 
-abbrev pub file_at : Name → Rows → Option Kept
+abbrev pub file_at : Name → Rows → Option KeptBytes
 file_at name rows = find name_cmp name rows
 
 -- one name has this now, and the others have what they had
-abbrev pub IsUpdate : Name → Option Kept → Rows → Rows → Type 0
+abbrev pub IsUpdate : Name → Option KeptBytes → Rows → Rows → Type 0
 IsUpdate name file old new = (q : Name) → file_at q new ≡ cond (eq_by_cmp name_cmp q name) file (file_at q old)
 
 -- the file as it reads, with nothing loose
-abbrev pub made_sure : Option Kept → Option Kept
+abbrev pub made_sure : Option KeptBytes → Option KeptBytes
 made_sure None = None
 made_sure (Some f) = Some (settled f.bytes)
 
 -- a crash leaves the file as one of its images, with nothing loose
-abbrev pub Lands : Option Kept → Option Kept → Type 0
+abbrev pub Lands : Option KeptBytes → Option KeptBytes → Type 0
 Lands None None = Unit {0}
 Lands (Some f) (Some g) = FileImage f g.bytes × (g ≡ settled g.bytes)
 Lands None (Some g) = ⊥
@@ -40,7 +40,7 @@ is_spared None name = false
 is_spared (Some but) name = eq_by_cmp name_cmp but name
 
 -- What a crash leaves of one file by its pick, where so many loose bytes may still be kept, and how many may be kept behind it.
-pub record PickedRow (pick count : ℕ) (but : Option Name) (name : Name) (file after : Kept) (left : ℕ) : Type 0 where
+pub record PickedRow (pick count : ℕ) (but : Option Name) (name : Name) (file after : KeptBytes) (left : ℕ) : Type 0 where
   pub spared : is_spared but name ≡ true → (after ≡ settled file.bytes) × (left ≡ count)
   pub picked : is_spared but name ≡ false → Picked pick count file after.bytes × (after ≡ settled after.bytes) × LeftOver pick count file left
 
@@ -66,10 +66,10 @@ spared_by (Remove name) = Some name
 
 -- a file that is written, made or taken away
 abbrev pub Wrote : Name → ℕ → List ℕ → Rows → Rows → Type 0
-Wrote name place bytes old new = (f : Kept) → file_at name old ≡ Some f → IsUpdate name (Some (wrote place bytes f)) old new
+Wrote name place bytes old new = (f : KeptBytes) → file_at name old ≡ Some f → IsUpdate name (Some (wrote place bytes f)) old new
 
 -- done at an even pick, and else not
-pub record AtEven (pick : ℕ) (name : Name) (file : Option Kept) (old new : Rows) : Type 0 where
+pub record AtEven (pick : ℕ) (name : Name) (file : Option KeptBytes) (old new : Rows) : Type 0 where
   pub even : pick % 2 ≡ 0 → IsUpdate name file old new
   pub odd : pick % 2 ≡ 1 → new ≡ old
 
@@ -88,14 +88,14 @@ pub record CutBy (op : Op) (pick : ℕ) (old new : Rows) : Type 0 where
   pub crashed : CrashedBy pick (spared_by op) between new
 
 -- what a read gives, by name
-abbrev pub row_bytes : Name × Kept → Name × List ℕ
+abbrev pub row_bytes : Name × KeptBytes → Name × List ℕ
 row_bytes row = (row.0, row.1.bytes)
 
 abbrev pub contents : Rows → Files
 contents rows = from_entries {R = name_cmp} (map row_bytes rows)
 
 -- what the last sync left of a file, if it is there
-abbrev pub synced_of : Option Kept → Option (List ℕ)
+abbrev pub synced_of : Option KeptBytes → Option (List ℕ)
 synced_of None = None
 synced_of (Some f) = Some (kept_to 0 f)
 
@@ -107,7 +107,7 @@ pub record KeepsSynced (old new : Rows) : Type 0 where
   pub each : (q : Name) → synced_at q new ≡ synced_at q old
 
 -- a file and what a crash leaves of it are both there or neither is
-abbrev pub MatchFile : Option Kept → Option (List ℕ) → Type 0
+abbrev pub MatchFile : Option KeptBytes → Option (List ℕ) → Type 0
 MatchFile None None = Unit {0}
 MatchFile (Some f) (Some c) = FileImage f c
 MatchFile None (Some c) = ⊥
@@ -120,11 +120,11 @@ pub record RowsImage (rows : Rows) (c : Files) : Type 0 where
 names_total : IsTotalOrder name_cmp
 names_total = on_total name_number nat_cmp_total
 
-settled_image : (f : Kept) → FileImage f f.bytes
+settled_image : (f : KeptBytes) → FileImage f f.bytes
 settled_image f = record { no_shorter = omega arith; same_length = λ h. h; agrees = λ i low out. refl }
 
 -- what a read gives of a file, if it is there
-abbrev pub bytes_of : Option Kept → Option (List ℕ)
+abbrev pub bytes_of : Option KeptBytes → Option (List ℕ)
 bytes_of None = None
 bytes_of (Some f) = Some f.bytes
 
@@ -140,7 +140,7 @@ pub get_contents : (rows : Rows) (q : Name) → get (contents rows) q ≡ bytes_
 get_contents rows q = get-from_entries names_total (map row_bytes rows) q ∙ find_bytes rows q
 
 -- a disk as it reads is one of its images
-pub matches : (o : Option Kept) → MatchFile o (bytes_of o)
+pub matches : (o : Option KeptBytes) → MatchFile o (bytes_of o)
 matches None = tt
 matches (Some f) = settled_image f
 

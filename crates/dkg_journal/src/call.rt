@@ -91,7 +91,7 @@ pub fn perform<D: Disk>(
     // It was made, or cut where the fuse says so.
     ensures calls { D.made disk.old disk.new (calls_in fuse.old (op.now ∷ [])) }
     ensures counted { fuse.new ≡ spent_once fuse.old }
-    ensures kinds { IfErr result IsOfDevice }
+    ensures error_kinds { IfErr result IsOfDevice }
 {
     if let Some(pick) = fuse.spend() {
         return match disk.cut(alloc, op, pick) {
@@ -120,7 +120,7 @@ pub(crate) fn perform_own<D: Disk>(
     ensures caused { Caused (IsTrue D.tells) D.files D.image D.faults D.wants result disk.old disk.new fuse.old fuse.new }
     ensures wanted { IsErrOf result JournalError.NoMemory → Rose (D.wants disk.old) (D.wants disk.new) }
     ensures all { RanAll D.made disk.old disk.new fuse.old fuse.new (op ∷ []) }
-    ensures kinds { IfErr result IsOfDevice }
+    ensures error_kinds { IfErr result IsOfDevice }
 {
     perform(alloc, disk, fuse, &op)
 }

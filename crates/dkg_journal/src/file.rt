@@ -6,7 +6,7 @@ ghost use Rattle.std.specs.Prelude.{◌≡◌, ◌≤◌, ◌<◌, ◌+◌, ◌-
 ghost use Rattle.std.specs.List.{list_any};
 ghost use Rattle.std.specs.List.Sorted.{IsNonDecreasingBy};
 ghost use Rattle.dkg_journal.specs.Disk.{written};
-ghost use Rattle.dkg_journal.specs.Kept.{Kept, Undone, restored, rolled, kept_to, settled, wrote, filled, filled_all, FileImage, AreWithin, loose_by, is_loose, count_below, IsBehind, KeepsFirst, Picked, LeftOver};
+ghost use Rattle.dkg_journal.specs.Kept.{KeptBytes, Undone, restored, rolled, kept_to, settled, wrote, filled, filled_all, FileImage, AreWithin, loose_by, is_loose, count_below, IsBehind, KeepsFirst, Picked, LeftOver};
 
 use std::alloc::{AllocError, Global};
 use std::marker::Model;
@@ -38,9 +38,9 @@ pub struct File {
 impl Model for File {
     ghost use Rattle.std.specs.Prelude.{◌≡◌, ◌≤◌, ◌&&◌, ℕ, nat_le, nat_lt, length, map};
     ghost use Rattle.std.specs.List.{list_any};
-    ghost use Rattle.dkg_journal.specs.Kept.{Kept, AreWithin, touched};
+    ghost use Rattle.dkg_journal.specs.Kept.{KeptBytes, AreWithin, touched};
 
-    ghost Value = { Kept };
+    ghost Value = { KeptBytes };
 
     ghost view = { λ f. record { bytes = f.bytes.items; synced = f.synced; undo = map (λ u. (u.place, u.old.items)) f.undo.items } };
 

@@ -11,7 +11,7 @@ ghost use Rattle.dkg_journal.specs.Disk.{Follows, Allowed, Torn, Rose, written};
 ghost use Rattle.dkg_journal.specs.Fuse.{HasRun};
 ghost use Rattle.dkg_journal.specs.Operations.{Does, Appends};
 ghost use Rattle.dkg_journal.specs.Places.{has_room, place_at};
-ghost use Rattle.dkg_journal.specs.Ready.{IsPrepared, IsReady};
+ghost use Rattle.dkg_journal.specs.Ready.{IsPrepared, CanAppend};
 ghost use Rattle.dkg_journal.specs.Records.{behind};
 ghost use Rattle.dkg_journal.specs.Steps.{Firm, IsNext, Into, KeepsBut, Grows, SegmentAt, start, make_segment, make_calls, append_calls_at};
 ghost use Rattle.dkg_values.specs.declared.name.Name.{Name};
@@ -48,7 +48,7 @@ fn write_segment<D: Disk>(
         → Follows (Into (Name.Segment section) (Torn place (length bytes) x)) (D.image disk.old) (D.image disk.new) }
     ensures caused { Caused (IsTrue D.tells) D.files D.image D.faults D.wants result disk.old disk.new fuse.old fuse.new }
     ensures wanted { IsErrOf result JournalError.NoMemory → Rose (D.wants disk.old) (D.wants disk.new) }
-    ensures kinds { IfErr result IsOfDevice }
+    ensures error_kinds { IfErr result IsOfDevice }
     ensures calls { HasRun D.made result disk.old disk.new fuse.old fuse.new (write.now ∷ Op.Sync (Name.Segment section) ∷ []) }
 {
     perform(alloc, disk, fuse, write)?;
@@ -81,7 +81,7 @@ fn make_file<D: Disk>(
     ensures same { (p : ℕ) → place ≡ Some p → disk.new ≡ disk.old }
     ensures caused { Caused (IsTrue D.tells) D.files D.image D.faults D.wants result disk.old disk.new fuse.old fuse.new }
     ensures wanted { IsErrOf result JournalError.NoMemory → Rose (D.wants disk.old) (D.wants disk.new) }
-    ensures kinds { IfErr result IsOfDevice }
+    ensures error_kinds { IfErr result IsOfDevice }
     ensures calls { HasRun D.made result disk.old disk.new fuse.old fuse.new (make_calls section place) }
 {
     match place {
@@ -162,7 +162,7 @@ fn append_prepared<D: Disk>(
     ensures does { IsTrue D.tells → Does D.files D.image (Appends (section, body.now)) result disk.old disk.new fuse.old fuse.new }
     ensures caused { Caused (IsTrue D.tells) D.files D.image D.faults D.wants result disk.old disk.new fuse.old fuse.new }
     ensures wanted { IsErrOf result JournalError.NoMemory → Rose (D.wants disk.old) (D.wants disk.new) }
-    ensures kinds { IfErr result IsOfDevice }
+    ensures error_kinds { IfErr result IsOfDevice }
     ensures calls { HasRun D.made result disk.old disk.new fuse.old fuse.new (append_calls_at place (section, body.now)) }
 {
     make_file(alloc, disk, fuse, section, place, &calls.make)?;
@@ -202,12 +202,12 @@ impl Journal {
         section: u64,
         body: &[u8],
     ) -> Result<Prepared, JournalError>
-        ensures calls { IfOk result (λ calls. IsReady calls self.new (section, body.now)) }
+        ensures calls { IfOk result (λ calls. CanAppend calls self.new (section, body.now)) }
         ensures places { (s : ℕ) → place_at self.new.places s ≡ place_at self.old.places s }
         ensures waiting { self.new.waiting ≡ self.old.waiting }
         ensures kept { OnErr result (self.new ≡ self.old) }
         ensures too_long { IsErrOf result JournalError.TooLong ↔ 2 ^ 32 ≤ length body.now }
-        ensures kinds { IfErr result (λ e. (e ≡ JournalError.TooLong) ⊎ (e ≡ JournalError.NoMemory)) }
+        ensures error_kinds { IfErr result (λ e. (e ≡ JournalError.TooLong) ⊎ (e ≡ JournalError.NoMemory)) }
     {
         if body.len() >= 1 << 32 {
             return Err(JournalError::TooLong);
@@ -231,7 +231,7 @@ impl Journal {
         section: u64,
         body: &[u8],
     ) -> Result<(), JournalError>
-        requires ready { IsReady calls.now self.old (section, body.now) }
+        requires ready { CanAppend calls.now self.old (section, body.now) }
         requires open { IsTrue D.tells → IsOpen self.old (D.files disk.old) (D.image disk.old) }
         ensures open { OnOk result (IsTrue D.tells → IsOpen self.new (D.files disk.new) (D.image disk.new)) }
         // Each image has the entries from before, with the new one or without; at Ok it has it.
@@ -241,7 +241,7 @@ impl Journal {
         ensures does { IsTrue D.tells → Does D.files D.image (Appends (section, body.now)) result disk.old disk.new fuse.old fuse.new }
         ensures caused { Caused (IsTrue D.tells) D.files D.image D.faults D.wants result disk.old disk.new fuse.old fuse.new }
         ensures wanted { IsErrOf result JournalError.NoMemory → Rose (D.wants disk.old) (D.wants disk.new) }
-        ensures kinds { IfErr result IsOfDevice }
+        ensures error_kinds { IfErr result IsOfDevice }
         ensures calls { HasRun D.made result disk.old disk.new fuse.old fuse.new (append_calls self.old (section, body.now)) }
     {
         let place = self.place_of(section);

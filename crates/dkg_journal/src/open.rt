@@ -10,11 +10,11 @@ ghost use Rattle.dkg_journal.specs.Counts.{Caused, Counts};
 ghost use Rattle.dkg_journal.specs.Errors.{IsOfDisk, IsOfReading};
 ghost use Rattle.dkg_journal.specs.Names.{Files, name_cmp};
 ghost use Rattle.dkg_journal.specs.Disk.{Rose, IsUnchanged, Lands};
-ghost use Rattle.dkg_journal.specs.Found.{Takes, Finds};
+ghost use Rattle.dkg_journal.specs.Found.{Takes, FindsSegments};
 ghost use Rattle.dkg_journal.specs.Fuse.{HasRun};
 ghost use Rattle.dkg_journal.specs.Operations.{Does, Opens};
 ghost use Rattle.dkg_journal.specs.Opening.{broken, broken_rows, is_unnamed, mend_of, open_calls, removes};
-ghost use Rattle.dkg_journal.specs.Records.{Entry, Whole, broken_at, entries};
+ghost use Rattle.dkg_journal.specs.Records.{SectionEntry, Whole, broken_at, entries};
 ghost use Rattle.dkg_journal.specs.Gated.{gated, gated_entries};
 ghost use Rattle.dkg_journal.specs.Segments.{Segments, parted, segment_rows, segments};
 ghost use Rattle.dkg_journal.specs.Opens.{Judges, KeepsAll, Repeats};
@@ -83,7 +83,7 @@ fn list<D: Disk>(alloc: Global, disk: &mut D) -> Result<Vec<Name>, JournalError>
     ensures same { IsUnchanged D.files D.image disk.old disk.new }
     ensures counts { Counts D.faults D.wants result disk.old disk.new }
     ensures wanted { IsErrOf result JournalError.NoMemory → Rose (D.wants disk.old) (D.wants disk.new) }
-    ensures kinds { IfErr result IsOfDisk }
+    ensures error_kinds { IfErr result IsOfDisk }
     ensures calls { D.made disk.old disk.new [] }
 {
     match disk.list(alloc) {
@@ -99,7 +99,7 @@ fn read<D: Disk>(alloc: Global, disk: &mut D, name: Name) -> Result<Option<Vec<u
     ensures same { IsUnchanged D.files D.image disk.old disk.new }
     ensures counts { Counts D.faults D.wants result disk.old disk.new }
     ensures wanted { IsErrOf result JournalError.NoMemory → Rose (D.wants disk.old) (D.wants disk.new) }
-    ensures kinds { IfErr result IsOfDisk }
+    ensures error_kinds { IfErr result IsOfDisk }
     ensures calls { D.made disk.old disk.new [] }
 {
     match disk.read(alloc, name) {
@@ -136,7 +136,7 @@ fn read_flat<D: Disk>(
     ensures unread { list_any (eq_by_cmp name_cmp Flat) names.now ≡ false → disk.new ≡ disk.old }
     ensures counts { Counts D.faults D.wants result disk.old disk.new }
     ensures wanted { IsErrOf result JournalError.NoMemory → Rose (D.wants disk.old) (D.wants disk.new) }
-    ensures kinds { IfErr result IsOfDisk }
+    ensures error_kinds { IfErr result IsOfDisk }
     ensures calls { D.made disk.old disk.new [] }
 {
     if has_flat(names) {
@@ -209,7 +209,7 @@ fn take_parted(
     ensures found { IfOk result (λ f. Takes mending.items (map.entries segments.now) f.waiting.items f.places f.mending.items) }
     ensures broken { (name : Name) (place : ℕ) → IsErrOf result (JournalError.Corrupt name place)
         → broken_rows (map.entries segments.now) ≡ Some (name, place) }
-    ensures kinds { IfErr result IsOfReading }
+    ensures error_kinds { IfErr result IsOfReading }
 {
     let mut found = Found::new(alloc);
     found.mending = mending;
@@ -223,9 +223,9 @@ fn take_parted(
 /// Parts a flat file into segments: first those that it does not name go, then each that it names is put in place, and then it goes.
 fn migrate(alloc: Global, names: &[Name], bytes: &[u8]) -> Result<Found, JournalError>
     ensures found { IfOk result (λ f. (files : Files) → names.now ≡ keys files → get files Flat ≡ Some bytes.now
-        → Finds files f.waiting.items f.places f.mending.items) }
+        → FindsSegments files f.waiting.items f.places f.mending.items) }
     ensures broken { (name : Name) (place : ℕ) → IsErrOf result (JournalError.Corrupt name place) → (name ≡ Flat) × (broken_at 8 bytes.now ≡ Some place) }
-    ensures kinds { IfErr result IsOfReading }
+    ensures error_kinds { IfErr result IsOfReading }
 {
     let segments = part(alloc, bytes)?;
     let removed = unnamed(alloc, names, &segments)?;
@@ -236,7 +236,7 @@ fn migrate(alloc: Global, names: &[Name], bytes: &[u8]) -> Result<Found, Journal
 
 /// Reads a journal's files, and judges them all.
 fn find<D: Disk>(alloc: Global, disk: &mut D) -> Result<Found, JournalError>
-    ensures found { IfOk result (λ f. IsTrue D.tells → Finds (D.files disk.old) f.waiting.items f.places f.mending.items) }
+    ensures found { IfOk result (λ f. IsTrue D.tells → FindsSegments (D.files disk.old) f.waiting.items f.places f.mending.items) }
     ensures broken { (name : Name) (place : ℕ) → IsErrOf result (JournalError.Corrupt name place) → IsTrue D.tells
         → broken (D.files disk.old) ≡ Some (name, place) }
     ensures same { IsUnchanged D.files D.image disk.old disk.new }

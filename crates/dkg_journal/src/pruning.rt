@@ -55,7 +55,7 @@ impl Journal {
         ensures memory { IsErrOf result JournalError.NoMemory →
             ((self.new ≡ self.old) × D.made disk.old disk.new [] × IsUnchanged D.files D.image disk.old disk.new × (fuse.new ≡ fuse.old))
             ⊎ Rose (D.wants disk.old) (D.wants disk.new) }
-        ensures kinds { IfErr result IsOfDevice }
+        ensures error_kinds { IfErr result IsOfDevice }
         ensures calls { IsTrue D.tells → HasRun D.made result disk.old disk.new fuse.old fuse.new (prune_calls min (keys (D.files disk.old))) }
     {
         let ops = doomed(alloc, &self.places, min)?;

@@ -33,7 +33,7 @@ impl Record {
         ensures caused { Caused (IsTrue D.tells) D.files D.image D.faults D.wants result disk.old disk.new fuse.old fuse.new }
         ensures kept { IsErrOf result JournalError.NoMemory → IsUnchanged D.files D.image disk.old disk.new }
         ensures memory { IsErrOf result JournalError.NoMemory → ((disk.new ≡ disk.old) × (fuse.new ≡ fuse.old)) ⊎ Rose (D.wants disk.old) (D.wants disk.new) }
-        ensures kinds { IfErr result IsOfDevice }
+        ensures error_kinds { IfErr result IsOfDevice }
         ensures calls { HasRun D.made result disk.old disk.new fuse.old fuse.new (Op.Install Plan bytes.now ∷ []) }
     {
         let install = Op::Install {
@@ -49,7 +49,7 @@ impl Record {
         ensures same { IsUnchanged D.files D.image disk.old disk.new }
         ensures counts { Counts D.faults D.wants result disk.old disk.new }
         ensures wanted { IsErrOf result JournalError.NoMemory → Rose (D.wants disk.old) (D.wants disk.new) }
-        ensures kinds { IfErr result IsOfDisk }
+        ensures error_kinds { IfErr result IsOfDisk }
         ensures calls { D.made disk.old disk.new [] }
     {
         match disk.read(alloc, Name::Plan) {
@@ -67,7 +67,7 @@ impl Record {
         ensures tried { TriedOn D.files D.image ClearsPlan disk.old disk.new fuse.old fuse.new }
         ensures caused { Caused (IsTrue D.tells) D.files D.image D.faults D.wants result disk.old disk.new fuse.old fuse.new }
         ensures wanted { IsErrOf result JournalError.NoMemory → Rose (D.wants disk.old) (D.wants disk.new) }
-        ensures kinds { IfErr result IsOfDevice }
+        ensures error_kinds { IfErr result IsOfDevice }
         ensures all { RanAll D.made disk.old disk.new fuse.old fuse.new (Op.Remove Plan ∷ []) }
     {
         perform_own(alloc, disk, fuse, Op::Remove { name: Name::Plan })

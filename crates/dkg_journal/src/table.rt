@@ -6,7 +6,7 @@ ghost use Rattle.std.specs.Prelude.{◌≡◌, ◌≤◌, [], Some, None, length
 ghost use Rattle.dkg_journal.specs.Disk.{Allowed, Inside, Follows};
 ghost use Rattle.std.specs.FinMap.Entries.{is_sorted};
 ghost use Rattle.dkg_journal.specs.Names.{name_cmp};
-ghost use Rattle.dkg_journal.specs.Kept.{Kept, FileImage, settled, wrote};
+ghost use Rattle.dkg_journal.specs.Kept.{KeptBytes, FileImage, settled, wrote};
 ghost use Rattle.dkg_journal.specs.Table.{Rows, RowsImage, bytes_of, contents, file_at, IsUpdate, made_sure, Lands, PickedRow, CrashedBy, Begun, KeepsSynced};
 ghost use Rattle.dkg_values.specs.declared.name.Name.{Name};
 
@@ -119,8 +119,8 @@ impl Table {
         place: usize,
         bytes: &[u8],
     ) -> Result<(), AllocError>
-        requires { (f : Kept) × (file_at name self.old ≡ Some f) × (place ≤ length f.bytes) }
-        ensures done { OnOk result ((f : Kept) → file_at name self.old ≡ Some f
+        requires { (f : KeptBytes) × (file_at name self.old ≡ Some f) × (place ≤ length f.bytes) }
+        ensures done { OnOk result ((f : KeptBytes) → file_at name self.old ≡ Some f
             → (f.synced ≤ length f.bytes) × IsUpdate name (Some (wrote place bytes.now f)) self.old self.new) }
         ensures kept { OnErr result (self.new ≡ self.old) }
         ensures synced { KeepsSynced self.old self.new }

@@ -24,7 +24,7 @@ pub fn perform_all<D: Disk>(
     ensures amid { IsTrue D.tells → Follows (Amid ops.now) (D.image disk.old) (D.image disk.new) }
     ensures caused { Caused (IsTrue D.tells) D.files D.image D.faults D.wants result disk.old disk.new fuse.old fuse.new }
     ensures wanted { IsErrOf result JournalError.NoMemory → Rose (D.wants disk.old) (D.wants disk.new) }
-    ensures kinds { IfErr result IsOfDevice }
+    ensures error_kinds { IfErr result IsOfDevice }
     ensures calls { HasRun D.made result disk.old disk.new fuse.old fuse.new ops.now }
 {
     for op in ops {

@@ -30,7 +30,7 @@ use Rattle.dkg_probe.specs.Candidates.{Awaiting, Candidate, all_of, is_candidate
 use Rattle.dkg_probe.specs.Probing as probing
 use Rattle.dkg_probe.specs.Probing.{Fixed, Probes, latest_request, request_line, with_sample, with_awaited, asks_dealers, asks_for, asks_next, one_more, is_done, is_first, activates, subscribes, retries_in, retries, with_known, artifact_line, of_genesis, resolves, begins_at, awaits_block, from_floor, dealers_in, samples, chooses, is_dealer, hears_latest, adds, hears_boundary, info_for, info_at, found_in, refuses, from_body, hears_body, hears_block, hears_in, discovers, response_to, answers, serves, hears, takes, then_serves, new_state}
 use Rattle.dkg_probe.specs.Sampling.{Sampled, Replies, reply_at, awaits, recorded, better, is_higher, highest, is_enough, selected, floor_of, forgotten}
-use Rattle.dkg_probe.specs.Sound.{Counts, IsFloor, OffersBlock, Waits, FromBlock, FromGenesis, IsFound, IsSound, Keeps}
+use Rattle.dkg_probe.specs.Sound.{CountsAsReply, IsFloor, OffersBlock, Waits, FromBlock, FromGenesis, IsFound, IsSoundState, KeepsArtifact}
 use Rattle.dkg_probe.specs.Sources.{Source}
 use Rattle.dkg_probe.specs.Wire.{Reply, IsBoundary, IsBlock, IsLatest, committed, request_of, reply_of}
 
@@ -112,7 +112,7 @@ module _ {Dir : Type 0} (Q : State Dir → Type 0) where
 
 module _ {Dir : Type 0} (c : Fixed Dir) where
   abbrev Held : (minimum : ℕ) → Replies → Type 0
-  Held minimum replies = AllByRecursion (λ (reply : ℕ × Finalization). Counts c minimum reply.0 reply.1) replies
+  Held minimum replies = AllByRecursion (λ (reply : ℕ × Finalization). CountsAsReply c minimum reply.0 reply.1) replies
 
   -- ---- nothing is chosen
 
@@ -128,7 +128,7 @@ module _ {Dir : Type 0} (c : Fixed Dir) where
   none_known_yet st None a settled some = refl
   none_known_yet st (Some k) a settled some = absurd (not_both st.awaited a settled.1 some)
 
-  blank : (st : State Dir) → Held st.sample.minimum st.sample.replies → st.sample.chosen ≡ None → st.awaited ≡ None → st.known ≡ None → IsSound c st
+  blank : (st : State Dir) → Held st.sample.minimum st.sample.replies → st.sample.chosen ≡ None → st.awaited ≡ None → st.known ≡ None → IsSoundState c st
   blank st held chosen awaited known = record {
     replies = held;
     chosen = if_none (IsFloor c st.sample.minimum) st.sample.chosen chosen;
@@ -138,12 +138,12 @@ module _ {Dir : Type 0} (c : Fixed Dir) where
     settled = if_none (λ (k : Known Dir). (is_some st.sample.chosen ≡ true) × (st.awaited ≡ None) × (st.subscribers ≡ 0)) st.known known;
   }
 
-  forgets : (st : State Dir) → IsSound c st → st.sample.chosen ≡ None → IsSound c (with_sample (forgotten st.sample) st)
+  forgets : (st : State Dir) → IsSoundState c st → st.sample.chosen ≡ None → IsSoundState c (with_sample (forgotten st.sample) st)
   forgets st sound none = blank (with_sample (forgotten st.sample) st) tt refl (none_awaited st.awaited st.sample.chosen sound.waits none) (none_known st st.known sound.settled none)
 
   -- ---- a subscriber
 
-  one_more_sound : (st : State Dir) → IsSound c st → st.known ≡ None → IsSound c (one_more st)
+  one_more_sound : (st : State Dir) → IsSoundState c st → st.known ≡ None → IsSoundState c (one_more st)
   one_more_sound st sound none = record {
     replies = sound.replies;
     chosen = sound.chosen;
@@ -153,10 +153,10 @@ module _ {Dir : Type 0} (c : Fixed Dir) where
     settled = if_none (λ (k : Known Dir). (is_some st.sample.chosen ≡ true) × (st.awaited ≡ None) × (st.subscribers + 1 ≡ 0)) st.known none;
   }
 
-  dealers_sound : (st : State Dir) → IsSound c st → st.sample.chosen ≡ None → Ends (IsSound c) (asks_dealers c st)
-  dealers_sound st sound none = ends_after (IsSound c) (map latest_request c.bootstrap.participants.dealers) (Goes (with_sample (forgotten st.sample) st)) (forgets st sound none)
+  dealers_sound : (st : State Dir) → IsSoundState c st → st.sample.chosen ≡ None → Ends (IsSoundState c) (asks_dealers c st)
+  dealers_sound st sound none = ends_after (IsSoundState c) (map latest_request c.bootstrap.participants.dealers) (Goes (with_sample (forgotten st.sample) st)) (forgets st sound none)
 
-  activates_sound : (lack : Option ℕ) (st : State Dir) → IsSound c st → st.sample.chosen ≡ None → Ends (IsSound c) (activates c lack st)
+  activates_sound : (lack : Option ℕ) (st : State Dir) → IsSoundState c st → st.sample.chosen ≡ None → Ends (IsSoundState c) (activates c lack st)
   activates_sound None st sound none = dealers_sound st sound none
   activates_sound (Some peer) st sound none = tt
 
@@ -164,11 +164,11 @@ module _ {Dir : Type 0} (c : Fixed Dir) where
   not_known None e = refl
   not_known (Some k) e = absurd cc
 
-  subscribes_sound : (lack : Option ℕ) (st : State Dir) → IsSound c st → Ends (IsSound c) (subscribes c lack st)
+  subscribes_sound : (lack : Option ℕ) (st : State Dir) → IsSoundState c st → Ends (IsSoundState c) (subscribes c lack st)
   subscribes_sound lack st sound =
-      if_ends (IsSound c) (is_done st) (Goes st) (if is_first st then activates c lack (one_more st) else Goes (one_more st)) (λ e. sound)
+      if_ends (IsSoundState c) (is_done st) (Goes st) (if is_first st then activates c lack (one_more st) else Goes (one_more st)) (λ e. sound)
       (λ e. let more = one_more_sound st sound (not_known st.known (neither_true st.serving (is_some st.known) e).1) in
-      if_ends (IsSound c) (is_first st) (activates c lack (one_more st)) (Goes (one_more st))
+      if_ends (IsSoundState c) (is_first st) (activates c lack (one_more st)) (Goes (one_more st))
       (λ f. activates_sound lack (one_more st) more (none_of st.sample.chosen (both_true (st.subscribers == 0) (is_none st.sample.chosen) f).1)) (λ f. more))
 
   -- ---- the next candidate
@@ -182,7 +182,7 @@ module _ {Dir : Type 0} (c : Fixed Dir) where
   next_waits : (minimum : ℕ) (a : Awaiting) → Waits c minimum a → Waits c minimum (next_asked a)
   next_waits minimum a waits = record { floor = waits.floor; height = waits.height; candidates = next_offers a.floor a.asked a.others waits.candidates }
 
-  awaits_sound : (st : State Dir) (old new : Awaiting) → IsSound c st → st.awaited ≡ Some old → new.floor ≡ old.floor → Waits c st.sample.minimum new → IsSound c (with_awaited new st)
+  awaits_sound : (st : State Dir) (old new : Awaiting) → IsSoundState c st → st.awaited ≡ Some old → new.floor ≡ old.floor → Waits c st.sample.minimum new → IsSoundState c (with_awaited new st)
   awaits_sound st old new sound is floor waits = record {
     replies = sound.replies;
     chosen = sound.chosen;
@@ -192,32 +192,32 @@ module _ {Dir : Type 0} (c : Fixed Dir) where
     settled = if_none (λ (k : Known Dir). (is_some st.sample.chosen ≡ true) × (◌≡◌ {A = Option Awaiting} (Some new) None) × (st.subscribers ≡ 0)) st.known (none_known_yet st st.known old sound.settled is);
   }
 
-  waits_at : (st : State Dir) (a : Awaiting) → IsSound c st → st.awaited ≡ Some a → Waits c st.sample.minimum a
+  waits_at : (st : State Dir) (a : Awaiting) → IsSoundState c st → st.awaited ≡ Some a → Waits c st.sample.minimum a
   waits_at st a sound is = some_of (Waits c st.sample.minimum) st.awaited a sound.awaited is
 
-  next_sound : (st : State Dir) (old a : Awaiting) → IsSound c st → st.awaited ≡ Some old → a.floor ≡ old.floor → Waits c st.sample.minimum a → Ends (IsSound c) (asks_next a st)
+  next_sound : (st : State Dir) (old a : Awaiting) → IsSoundState c st → st.awaited ≡ Some old → a.floor ≡ old.floor → Waits c st.sample.minimum a → Ends (IsSoundState c) (asks_next a st)
   next_sound st old a sound is floor waits =
-      ends_asking (IsSound c) (first_of a.others) a.floor.epoch (with_awaited (next_asked a) st) (awaits_sound st old (next_asked a) sound is floor (next_waits st.sample.minimum a waits))
+      ends_asking (IsSoundState c) (first_of a.others) a.floor.epoch (with_awaited (next_asked a) st) (awaits_sound st old (next_asked a) sound is floor (next_waits st.sample.minimum a waits))
 
-  retries_in_sound : (st : State Dir) (awaited : Option Awaiting) → IsSound c st → st.awaited ≡ awaited → Ends (IsSound c) (retries_in c st awaited)
+  retries_in_sound : (st : State Dir) (awaited : Option Awaiting) → IsSoundState c st → st.awaited ≡ awaited → Ends (IsSoundState c) (retries_in c st awaited)
   retries_in_sound st (Some a) sound is = next_sound st a a sound is refl (waits_at st a sound is)
-  retries_in_sound st None sound is = if_ends (IsSound c) (is_none st.sample.chosen) (asks_dealers c st) (Goes st) (λ e. dealers_sound st sound (none_of st.sample.chosen e)) (λ e. sound)
+  retries_in_sound st None sound is = if_ends (IsSoundState c) (is_none st.sample.chosen) (asks_dealers c st) (Goes st) (λ e. dealers_sound st sound (none_of st.sample.chosen e)) (λ e. sound)
 
-  retries_sound : (st : State Dir) → IsSound c st → Ends (IsSound c) (retries c st)
-  retries_sound st sound = if_ends (IsSound c) (is_done st || (st.subscribers == 0)) (Goes st) (retries_in c st st.awaited) (λ e. sound) (λ e. retries_in_sound st st.awaited sound refl)
+  retries_sound : (st : State Dir) → IsSoundState c st → Ends (IsSoundState c) (retries c st)
+  retries_sound st sound = if_ends (IsSoundState c) (is_done st || (st.subscribers == 0)) (Goes st) (retries_in c st st.awaited) (λ e. sound) (λ e. retries_in_sound st st.awaited sound refl)
 
   -- ---- a floor
 
-  held_entry : (minimum peer : ℕ) (f : Finalization) (e : ℕ × Finalization) (es : Replies) (order : Ordering) → nat_cmp peer e.0 ≡ order → Counts c minimum peer f → Held minimum (e ∷ es) → Held minimum (insert_entry nat_cmp es peer f)
+  held_entry : (minimum peer : ℕ) (f : Finalization) (e : ℕ × Finalization) (es : Replies) (order : Ordering) → nat_cmp peer e.0 ≡ order → CountsAsReply c minimum peer f → Held minimum (e ∷ es) → Held minimum (insert_entry nat_cmp es peer f)
       → Held minimum (insert_entry nat_cmp (e ∷ es) peer f)
   held_entry minimum peer f e es Less is counts held more = rw is (counts, held)
-  held_entry minimum peer f e es Equal is counts held more = rw is (subst (λ (k : ℕ). Counts c minimum k f) (equal peer e.0 is) counts, held.1)
+  held_entry minimum peer f e es Equal is counts held more = rw is (subst (λ (k : ℕ). CountsAsReply c minimum k f) (equal peer e.0 is) counts, held.1)
     where
       equal : (p k : ℕ) → nat_cmp p k ≡ Equal → p ≡ k
       equal p k e = grind (arith, nat_tests)
   held_entry minimum peer f e es Greater is counts held more = rw is (held.0, more)
 
-  held_more : (minimum peer : ℕ) (f : Finalization) (es : Replies) → Counts c minimum peer f → Held minimum es → Held minimum (insert_entry nat_cmp es peer f)
+  held_more : (minimum peer : ℕ) (f : Finalization) (es : Replies) → CountsAsReply c minimum peer f → Held minimum es → Held minimum (insert_entry nat_cmp es peer f)
   held_more minimum peer f [] counts held = (counts, tt)
   held_more minimum peer f (e ∷ es) counts held = held_entry minimum peer f e es (nat_cmp peer e.0) refl counts held (held_more minimum peer f es counts held.1)
 
@@ -255,7 +255,7 @@ module _ {Dir : Type 0} (c : Fixed Dir) where
   chose s dealers none = let did = chose_as s (is_enough s dealers) none in record { least = did.0; same = did.1; is = did.2 }
 
   height_sound : (st : State Dir) (floor : Finalization) (height : Option ℕ) → Held st.sample.minimum st.sample.replies → st.sample.chosen ≡ Some floor → st.awaited ≡ None → st.known ≡ None → IsFloor c st.sample.minimum floor
-      → begins_at c.blocks_per_epoch floor.epoch ≡ height → Ends (IsSound c) (awaits_block floor st height)
+      → begins_at c.blocks_per_epoch floor.epoch ≡ height → Ends (IsSoundState c) (awaits_block floor st height)
   height_sound st floor None held chosen awaited known is at = blank (with_sample (forgotten st.sample) st) tt refl awaited known
   height_sound st floor (Some height) held chosen awaited known is at = record {
     replies = held;
@@ -266,7 +266,7 @@ module _ {Dir : Type 0} (c : Fixed Dir) where
     settled = if_none (λ (k : Known Dir). (is_some st.sample.chosen ≡ true) × (◌≡◌ {A = Option Awaiting} (Some (new_awaiting height floor)) None) × (st.subscribers ≡ 0)) st.known known;
   }
 
-  known_sound : (st : State Dir) (known : Known Dir) → Held st.sample.minimum st.sample.replies → st.sample.chosen ≡ Some known.floor → IsFloor c st.sample.minimum known.floor → FromGenesis c known ⊎ FromBlock c known → IsSound c (with_known known st)
+  known_sound : (st : State Dir) (known : Known Dir) → Held st.sample.minimum st.sample.replies → st.sample.chosen ≡ Some known.floor → IsFloor c st.sample.minimum known.floor → FromGenesis c known ⊎ FromBlock c known → IsSoundState c (with_known known st)
   known_sound st known held chosen is from = record {
     replies = held;
     chosen = subst (λ (o : Option Finalization). IfSome o (IsFloor c st.sample.minimum)) (sym chosen) is;
@@ -277,17 +277,17 @@ module _ {Dir : Type 0} (c : Fixed Dir) where
   }
 
   from_sound : (st : State Dir) (floor : Option Finalization) → Held st.sample.minimum st.sample.replies → st.sample.chosen ≡ floor → st.awaited ≡ None → st.known ≡ None → IfSome floor (IsFloor c st.sample.minimum)
-      → Ends (IsSound c) (from_floor c st floor)
+      → Ends (IsSoundState c) (from_floor c st floor)
   from_sound st None held chosen awaited known is = blank st held chosen awaited known
   from_sound st (Some floor) held chosen awaited known is =
-      if_ends (IsSound c) (floor.epoch == 0) (resolves c.spelling (of_genesis c floor) st) (awaits_block floor st (begins_at c.blocks_per_epoch floor.epoch))
+      if_ends (IsSoundState c) (floor.epoch == 0) (resolves c.spelling (of_genesis c floor) st) (awaits_block floor st (begins_at c.blocks_per_epoch floor.epoch))
       (λ e. known_sound st (of_genesis c floor) held chosen is (inl (eqb-true floor.epoch 0 e, refl, refl)))
       (λ e. height_sound st floor (begins_at c.blocks_per_epoch floor.epoch) held chosen awaited known is refl)
 
-  recorded_held : (s : Sampled) (peer : ℕ) (f : Finalization) → awaits s peer ≡ true → Counts c s.minimum peer f → Held s.minimum s.replies → recorded s peer f ≡ record s { replies = insert_entry nat_cmp s.replies peer f }
+  recorded_held : (s : Sampled) (peer : ℕ) (f : Finalization) → awaits s peer ≡ true → CountsAsReply c s.minimum peer f → Held s.minimum s.replies → recorded s peer f ≡ record s { replies = insert_entry nat_cmp s.replies peer f }
   recorded_held s peer f is counts held = rw is refl
 
-  chooses_sound : (s : Sampled) (st : State Dir) → Held s.minimum s.replies → s.chosen ≡ None → st.awaited ≡ None → st.known ≡ None → Ends (IsSound c) (chooses c s st)
+  chooses_sound : (s : Sampled) (st : State Dir) → Held s.minimum s.replies → s.chosen ≡ None → st.awaited ≡ None → st.known ≡ None → Ends (IsSoundState c) (chooses c s st)
   chooses_sound s st held none awaited known =
       let did = chose s (dealers_in c) none in
       let after = with_sample (selected s (dealers_in c)) st in
@@ -297,27 +297,27 @@ module _ {Dir : Type 0} (c : Fixed Dir) where
       subst (λ (m : ℕ). IfSome (floor_of s (dealers_in c)) (IsFloor c m)) (sym did.least) (floor_is s (dealers_in c) held) in
       from_sound after (floor_of s (dealers_in c)) still did.is awaited known is
 
-  samples_sound : (peer : ℕ) (f : Finalization) (st : State Dir) → IsSound c st → awaits st.sample peer ≡ true → Counts c st.sample.minimum peer f → Ends (IsSound c) (samples c peer f st)
+  samples_sound : (peer : ℕ) (f : Finalization) (st : State Dir) → IsSoundState c st → awaits st.sample peer ≡ true → CountsAsReply c st.sample.minimum peer f → Ends (IsSoundState c) (samples c peer f st)
   samples_sound peer f st sound is counts =
       let none : st.sample.chosen ≡ None = none_of st.sample.chosen (both_true (is_none st.sample.chosen) (is_none (reply_at peer st.sample.replies)) is).0 in
       let more = record st.sample { replies = insert_entry nat_cmp st.sample.replies peer f } in
-      if_ends (IsSound c) (st.subscribers == 0) (Goes (with_sample (forgotten st.sample) st)) (chooses c (recorded st.sample peer f) st) (λ e. forgets st sound none)
-      (λ e. subst (λ (s : Sampled). Ends (IsSound c) (chooses c s st)) (sym (recorded_held st.sample peer f is counts sound.replies))
+      if_ends (IsSoundState c) (st.subscribers == 0) (Goes (with_sample (forgotten st.sample) st)) (chooses c (recorded st.sample peer f) st) (λ e. forgets st sound none)
+      (λ e. subst (λ (s : Sampled). Ends (IsSoundState c) (chooses c s st)) (sym (recorded_held st.sample peer f is counts sound.replies))
       (chooses_sound more st (held_more st.sample.minimum peer f st.sample.replies counts sound.replies) none (none_awaited st.awaited st.sample.chosen sound.waits none) (none_known st st.known sound.settled none)))
 
   not_below : (n m : ℕ) → nat_lt n m ≡ false → m ≤ n
   not_below n m e = grind (arith, nat_tests)
 
-  latest_sound : (peer : ℕ) (f : Finalization) (st : State Dir) → IsSound c st → Ends (IsSound c) (hears_latest c peer f st)
+  latest_sound : (peer : ℕ) (f : Finalization) (st : State Dir) → IsSoundState c st → Ends (IsSoundState c) (hears_latest c peer f st)
   latest_sound peer f st sound =
       let x4 = samples c peer f st in
       let x3 : Probes Dir = if not (c.certifies f) then probing.blocks peer why.Invalid st else x4 in
       let x2 : Probes Dir = if nat_lt f.epoch st.sample.minimum then Goes st else x3 in
       let x1 : Probes Dir = if not (is_dealer c peer) then probing.blocks peer why.Member st else x2 in
-      if_ends (IsSound c) (not (awaits st.sample peer)) (Goes st) x1 (λ e. sound)
-      (λ one. if_ends (IsSound c) (not (is_dealer c peer)) (probing.blocks peer why.Member st) x2 (λ e. sound)
-      (λ two. if_ends (IsSound c) (nat_lt f.epoch st.sample.minimum) (Goes st) x3 (λ e. sound)
-      (λ three. if_ends (IsSound c) (not (c.certifies f)) (probing.blocks peer why.Invalid st) x4 (λ e. sound)
+      if_ends (IsSoundState c) (not (awaits st.sample peer)) (Goes st) x1 (λ e. sound)
+      (λ one. if_ends (IsSoundState c) (not (is_dealer c peer)) (probing.blocks peer why.Member st) x2 (λ e. sound)
+      (λ two. if_ends (IsSoundState c) (nat_lt f.epoch st.sample.minimum) (Goes st) x3 (λ e. sound)
+      (λ three. if_ends (IsSoundState c) (not (c.certifies f)) (probing.blocks peer why.Invalid st) x4 (λ e. sound)
       (λ four. samples_sound peer f st sound (was_true (awaits st.sample peer) one)
       (record { dealer = was_true (is_dealer c peer) two; certified = was_true (c.certifies f) four; recent = not_below f.epoch st.sample.minimum three })))))
 
@@ -341,21 +341,21 @@ module _ {Dir : Type 0} (c : Fixed Dir) where
   just_before : (epoch floor : ℕ) → 0 < floor → nat_lt epoch (floor - 1) ≡ false → nat_lt (floor - 1) epoch ≡ false → epoch + 1 ≡ floor
   just_before epoch floor some low high = grind (arith, nat_tests)
 
-  adds_sound : (st : State Dir) (old a : Awaiting) → IsSound c st → st.awaited ≡ Some old → a.floor ≡ old.floor → Waits c st.sample.minimum a → Ends (IsSound c) (adds a st)
+  adds_sound : (st : State Dir) (old a : Awaiting) → IsSoundState c st → st.awaited ≡ Some old → a.floor ≡ old.floor → Waits c st.sample.minimum a → Ends (IsSoundState c) (adds a st)
   adds_sound st old a sound is floor waits =
-      if_ends (IsSound c) (is_none a.asked) (asks_next a st) (Goes (with_awaited a st)) (λ e. next_sound st old a sound is floor waits) (λ e. awaits_sound st old a sound is floor waits)
+      if_ends (IsSoundState c) (is_none a.asked) (asks_next a st) (Goes (with_awaited a st)) (λ e. next_sound st old a sound is floor waits) (λ e. awaits_sound st old a sound is floor waits)
 
-  boundary_sound : (a : Awaiting) (peer : ℕ) (f : Finalization) (st : State Dir) → IsSound c st → st.awaited ≡ Some a → Ends (IsSound c) (hears_boundary c a peer f st)
+  boundary_sound : (a : Awaiting) (peer : ℕ) (f : Finalization) (st : State Dir) → IsSoundState c st → st.awaited ≡ Some a → Ends (IsSoundState c) (hears_boundary c a peer f st)
   boundary_sound a peer f st sound is =
       let waits = waits_at st a sound is in
       let x4 = adds (with_candidate a (peer, f)) st in
       let x3 : Probes Dir = if not (c.certifies f) then probing.blocks peer why.Boundary st else x4 in
       let x2 : Probes Dir = if is_candidate a peer then Goes st else x3 in
       let x1 : Probes Dir = if nat_lt (a.floor.epoch - 1) f.epoch then probing.blocks peer why.Boundary st else x2 in
-      if_ends (IsSound c) (nat_lt f.epoch (a.floor.epoch - 1)) (Goes st) x1 (λ e. sound)
-      (λ low. if_ends (IsSound c) (nat_lt (a.floor.epoch - 1) f.epoch) (probing.blocks peer why.Boundary st) x2 (λ e. sound)
-      (λ high. if_ends (IsSound c) (is_candidate a peer) (Goes st) x3 (λ e. sound)
-      (λ new. if_ends (IsSound c) (not (c.certifies f)) (probing.blocks peer why.Boundary st) x4 (λ e. sound)
+      if_ends (IsSoundState c) (nat_lt f.epoch (a.floor.epoch - 1)) (Goes st) x1 (λ e. sound)
+      (λ low. if_ends (IsSoundState c) (nat_lt (a.floor.epoch - 1) f.epoch) (probing.blocks peer why.Boundary st) x2 (λ e. sound)
+      (λ high. if_ends (IsSoundState c) (is_candidate a peer) (Goes st) x3 (λ e. sound)
+      (λ new. if_ends (IsSoundState c) (not (c.certifies f)) (probing.blocks peer why.Boundary st) x4 (λ e. sound)
       (λ certified.
       let one : OffersBlock c a.floor (peer, f) = record {
         certified = was_true (c.certifies f) certified;
@@ -397,8 +397,8 @@ module _ {Dir : Type 0} (c : Fixed Dir) where
       tested true d s = at_height (block.height == height) (same_bytes block.digest commitment d) refl s
       tested false d s = absurd cc
 
-  body_sound : (a : Awaiting) (asked : Candidate) (body : List ℕ) (st : State Dir) (info : Option (EpochInfo Dir)) → IsSound c st → st.awaited ≡ Some a → OffersBlock c a.floor asked
-      → found_in c a.height a.floor.epoch asked.1.payload body ≡ info → Ends (IsSound c) (from_body c a asked st info)
+  body_sound : (a : Awaiting) (asked : Candidate) (body : List ℕ) (st : State Dir) (info : Option (EpochInfo Dir)) → IsSoundState c st → st.awaited ≡ Some a → OffersBlock c a.floor asked
+      → found_in c a.height a.floor.epoch asked.1.payload body ≡ info → Ends (IsSoundState c) (from_body c a asked st info)
   body_sound a asked body st None sound is offers found = next_sound st a a sound is refl (waits_at st a sound is)
   body_sound a asked body st (Some info) sound is offers found =
       let waits = waits_at st a sound is in
@@ -419,36 +419,36 @@ module _ {Dir : Type 0} (c : Fixed Dir) where
       } in
       known_sound st artifact sound.replies (some_of (λ (b : Awaiting). st.sample.chosen ≡ Some b.floor) st.awaited a sound.waits is) waits.floor (inr from)
 
-  block_sound : (a : Awaiting) (asked : Option Candidate) (peer epoch : ℕ) (body : List ℕ) (st : State Dir) → IsSound c st → st.awaited ≡ Some a → AllByRecursion (OffersBlock c a.floor) (all_of asked a.others)
-      → Ends (IsSound c) (hears_block c a asked peer epoch body st)
+  block_sound : (a : Awaiting) (asked : Option Candidate) (peer epoch : ℕ) (body : List ℕ) (st : State Dir) → IsSoundState c st → st.awaited ≡ Some a → AllByRecursion (OffersBlock c a.floor) (all_of asked a.others)
+      → Ends (IsSoundState c) (hears_block c a asked peer epoch body st)
   block_sound a None peer epoch body st sound is offer = sound
   block_sound a (Some asked) peer epoch body st sound is offer =
-      if_ends (IsSound c) ((asked.0 == peer) && (epoch == a.floor.epoch)) (hears_body c a asked body st) (Goes st)
+      if_ends (IsSoundState c) ((asked.0 == peer) && (epoch == a.floor.epoch)) (hears_body c a asked body st) (Goes st)
       (λ e. body_sound a asked body st (found_in c a.height a.floor.epoch asked.1.payload body) sound is offer.0 refl) (λ e. sound)
 
   -- ---- a step
 
-  hears_in_sound : (awaited : Option Awaiting) (peer : ℕ) (reply : Reply) (st : State Dir) → IsSound c st → st.awaited ≡ awaited → Ends (IsSound c) (hears_in c awaited peer reply st)
+  hears_in_sound : (awaited : Option Awaiting) (peer : ℕ) (reply : Reply) (st : State Dir) → IsSoundState c st → st.awaited ≡ awaited → Ends (IsSoundState c) (hears_in c awaited peer reply st)
   hears_in_sound awaited peer (IsLatest f) st sound is = latest_sound peer f st sound
   hears_in_sound None peer (IsBoundary f) st sound is = sound
   hears_in_sound None peer (IsBlock epoch body) st sound is = sound
   hears_in_sound (Some a) peer (IsBoundary f) st sound is = boundary_sound a peer f st sound is
   hears_in_sound (Some a) peer (IsBlock epoch body) st sound is = block_sound a a.asked peer epoch body st sound is (waits_at st a sound is).candidates
 
-  discovers_sound : (peer : ℕ) (reply : Result (Option Reply) CodecError) (st : State Dir) → IsSound c st → Ends (IsSound c) (discovers c peer reply st)
+  discovers_sound : (peer : ℕ) (reply : Result (Option Reply) CodecError) (st : State Dir) → IsSoundState c st → Ends (IsSoundState c) (discovers c peer reply st)
   discovers_sound peer (Err e) st sound = sound
   discovers_sound peer (Ok None) st sound = sound
   discovers_sound peer (Ok (Some reply)) st sound = hears_in_sound st.awaited peer reply st sound refl
 
-  hears_sound : (source : Source Dir) (peer : ℕ) (bytes : List ℕ) (st : State Dir) → IsSound c st → Ends (IsSound c) (hears c source peer bytes st)
+  hears_sound : (source : Source Dir) (peer : ℕ) (bytes : List ℕ) (st : State Dir) → IsSoundState c st → Ends (IsSoundState c) (hears c source peer bytes st)
   hears_sound source peer bytes st sound =
-      if_ends (IsSound c) st.serving (serves c source peer (request_of bytes) st) (discovers c peer (reply_of bytes) st) (λ e. ends_serving (IsSound c) c source peer (request_of bytes) st sound) (λ e. discovers_sound peer (reply_of bytes) st sound)
+      if_ends (IsSoundState c) st.serving (serves c source peer (request_of bytes) st) (discovers c peer (reply_of bytes) st) (λ e. ends_serving (IsSoundState c) c source peer (request_of bytes) st sound) (λ e. discovers_sound peer (reply_of bytes) st sound)
 
   fewer : (st : State Dir) (known : Option (Known Dir)) → IfSome known (λ _. (is_some st.sample.chosen ≡ true) × (st.awaited ≡ None) × (st.subscribers ≡ 0)) → IfSome known (λ _. (is_some st.sample.chosen ≡ true) × (st.awaited ≡ None) × (st.subscribers - 1 ≡ 0))
   fewer st None settled = tt
   fewer st (Some k) settled = (settled.0, settled.1, omega (arith, settled.2))
 
-  takes_sound : (lack : Option ℕ) (source : Source Dir) (event : Event) (st : State Dir) → IsSound c st → Ends (IsSound c) (takes c lack source event st)
+  takes_sound : (lack : Option ℕ) (source : Source Dir) (event : Event) (st : State Dir) → IsSoundState c st → Ends (IsSoundState c) (takes c lack source event st)
   takes_sound lack source Subscribe st sound = subscribes_sound lack st sound
   takes_sound lack source Unsubscribe st sound = record { replies = sound.replies; chosen = sound.chosen; awaited = sound.awaited; known = sound.known; waits = sound.waits; settled = fewer st st.known sound.settled }
   takes_sound lack source Attach st sound = record { replies = sound.replies; chosen = sound.chosen; awaited = sound.awaited; known = sound.known; waits = sound.waits; settled = sound.settled }
@@ -458,7 +458,7 @@ module _ {Dir : Type 0} (c : Fixed Dir) where
   -- ---- what is known stays
 
   module _ (st : State Dir) (k : Known Dir) (is : st.known ≡ Some k) (chosen : is_some st.sample.chosen ≡ true) (awaited : st.awaited ≡ None) where
-    here : Keeps st st
+    here : KeepsArtifact st st
     here = inl refl
 
     done : is_done st ≡ true
@@ -468,7 +468,7 @@ module _ {Dir : Type 0} (c : Fixed Dir) where
         or_true true = refl
         or_true false = refl
 
-    hears_kept : (peer : ℕ) (reply : Reply) → Ends (Keeps st) (hears_in c None peer reply st)
+    hears_kept : (peer : ℕ) (reply : Reply) → Ends (KeepsArtifact st) (hears_in c None peer reply st)
     hears_kept peer (IsLatest f) = let no : awaits st.sample peer ≡ false = not_awaited st.sample.chosen chosen in rw no here
       where
         not_awaited : (o : Option Finalization) → is_some o ≡ true → (is_none o && is_none (reply_at peer st.sample.replies)) ≡ false
@@ -477,36 +477,36 @@ module _ {Dir : Type 0} (c : Fixed Dir) where
     hears_kept peer (IsBoundary f) = here
     hears_kept peer (IsBlock epoch body) = here
 
-    discovers_kept : (peer : ℕ) (reply : Result (Option Reply) CodecError) → Ends (Keeps st) (discovers c peer reply st)
+    discovers_kept : (peer : ℕ) (reply : Result (Option Reply) CodecError) → Ends (KeepsArtifact st) (discovers c peer reply st)
     discovers_kept peer (Err e) = here
     discovers_kept peer (Ok None) = here
-    discovers_kept peer (Ok (Some reply)) = subst (λ (a : Option Awaiting). Ends (Keeps st) (hears_in c a peer reply st)) (sym awaited) (hears_kept peer reply)
+    discovers_kept peer (Ok (Some reply)) = subst (λ (a : Option Awaiting). Ends (KeepsArtifact st) (hears_in c a peer reply st)) (sym awaited) (hears_kept peer reply)
 
-    known_kept : (lack : Option ℕ) (source : Source Dir) (event : Event) → Ends (Keeps st) (takes c lack source event st)
+    known_kept : (lack : Option ℕ) (source : Source Dir) (event : Event) → Ends (KeepsArtifact st) (takes c lack source event st)
     known_kept lack source Subscribe = rw done here
     known_kept lack source Unsubscribe = here
     known_kept lack source Attach = here
     known_kept lack source (Peer from bytes) =
-        if_ends (Keeps st) st.serving (serves c source from (request_of bytes) st) (discovers c from (reply_of bytes) st) (λ e. ends_serving (Keeps st) c source from (request_of bytes) st here) (λ e. discovers_kept from (reply_of bytes))
+        if_ends (KeepsArtifact st) st.serving (serves c source from (request_of bytes) st) (discovers c from (reply_of bytes) st) (λ e. ends_serving (KeepsArtifact st) c source from (request_of bytes) st here) (λ e. discovers_kept from (reply_of bytes))
     known_kept lack source Retry = rw done here
 
   takes_kept_in : (st : State Dir) (known : Option (Known Dir)) → st.known ≡ known → IfSome known (λ _. (is_some st.sample.chosen ≡ true) × (st.awaited ≡ None) × (st.subscribers ≡ 0)) → (lack : Option ℕ) (source : Source Dir) (event : Event)
-      → Ends (Keeps st) (takes c lack source event st)
-  takes_kept_in st None is settled lack source event = ends_any (Keeps st) (takes c lack source event st) (λ end. inr is)
+      → Ends (KeepsArtifact st) (takes c lack source event st)
+  takes_kept_in st None is settled lack source event = ends_any (KeepsArtifact st) (takes c lack source event st) (λ end. inr is)
   takes_kept_in st (Some k) is settled lack source event = known_kept st k is settled.0 settled.1 lack source event
 
   -- ---- what follows
 
-  pub step_sound : (lack : Option ℕ) (source : Source Dir) (event : Event) (st mid new : State Dir) (out after : List Line) → IsSound c st → new ≡ then_serves mid → Completes (takes c lack source event st) mid out after → IsSound c new
+  pub step_sound : (lack : Option ℕ) (source : Source Dir) (event : Event) (st mid new : State Dir) (out after : List Line) → IsSoundState c st → new ≡ then_serves mid → Completes (takes c lack source event st) mid out after → IsSoundState c new
   step_sound lack source event st mid new out after sound is ran =
-      let mid_sound = ends_at (IsSound c) (takes c lack source event st) mid out after (takes_sound lack source event st sound) ran in
-      subst (λ (s : State Dir). IsSound c s) (sym is)
+      let mid_sound = ends_at (IsSoundState c) (takes c lack source event st) mid out after (takes_sound lack source event st sound) ran in
+      subst (λ (s : State Dir). IsSoundState c s) (sym is)
       (record { replies = mid_sound.replies; chosen = mid_sound.chosen; awaited = mid_sound.awaited; known = mid_sound.known; waits = mid_sound.waits; settled = mid_sound.settled })
 
-  pub step_keeps : (lack : Option ℕ) (source : Source Dir) (event : Event) (st mid new : State Dir) (out after : List Line) → IsSound c st → new ≡ then_serves mid → Completes (takes c lack source event st) mid out after → Keeps st new
+  pub step_keeps : (lack : Option ℕ) (source : Source Dir) (event : Event) (st mid new : State Dir) (out after : List Line) → IsSoundState c st → new ≡ then_serves mid → Completes (takes c lack source event st) mid out after → KeepsArtifact st new
   step_keeps lack source event st mid new out after sound is ran =
-      let kept = ends_at (Keeps st) (takes c lack source event st) mid out after (takes_kept_in st st.known refl sound.settled lack source event) ran in
-      subst (λ (s : State Dir). Keeps st s) (sym is) (elim kept [ inl same ↦ inl same | inr none ↦ inr none ])
+      let kept = ends_at (KeepsArtifact st) (takes c lack source event st) mid out after (takes_kept_in st st.known refl sound.settled lack source event) ran in
+      subst (λ (s : State Dir). KeepsArtifact st s) (sym is) (elim kept [ inl same ↦ inl same | inr none ↦ inr none ])
 
-  pub new_sound : (minimum : ℕ) → IsSound c (new_state minimum)
+  pub new_sound : (minimum : ℕ) → IsSoundState c (new_state minimum)
   new_sound minimum = blank (new_state minimum) tt refl refl refl

@@ -11,14 +11,14 @@ use Rattle.dkg_probe.specs.Candidates.{Awaiting, Candidate, all_of}
 use Rattle.dkg_probe.specs.Probing.{Fixed, is_dealer, begins_at}
 
 -- It is of a dealer, certified, and not of an epoch below the least one.
-pub record Counts {Dir : Type 0} (c : Fixed Dir) (minimum peer : ℕ) (f : Finalization) : Type 0 where
+pub record CountsAsReply {Dir : Type 0} (c : Fixed Dir) (minimum peer : ℕ) (f : Finalization) : Type 0 where
   pub dealer : is_dealer c peer ≡ true
   pub certified : c.certifies f ≡ true
   pub recent : minimum ≤ f.epoch
 
 -- some dealer gave it
 abbrev pub IsFloor : {Dir : Type 0} → Fixed Dir → (minimum : ℕ) → Finalization → Type 0
-IsFloor c minimum f = (peer : ℕ) × Counts c minimum peer f
+IsFloor c minimum f = (peer : ℕ) × CountsAsReply c minimum peer f
 
 -- a candidate's finalization is certified, and of the epoch before the floor's
 pub record OffersBlock {Dir : Type 0} (c : Fixed Dir) (floor : Finalization) (candidate : Candidate) : Type 0 where
@@ -55,8 +55,8 @@ pub record IsFound {Dir : Type 0} (c : Fixed Dir) (minimum : ℕ) (known : Known
   pub from : FromGenesis c known ⊎ FromBlock c known
 
 -- What is held, chosen, waited for and known is so, and once the artifact is known nothing is waited for.
-pub record IsSound {Dir : Type 0} (c : Fixed Dir) (st : State Dir) : Type 0 where
-  pub replies : AllByRecursion (λ reply. Counts c st.sample.minimum reply.0 reply.1) st.sample.replies
+pub record IsSoundState {Dir : Type 0} (c : Fixed Dir) (st : State Dir) : Type 0 where
+  pub replies : AllByRecursion (λ reply. CountsAsReply c st.sample.minimum reply.0 reply.1) st.sample.replies
   pub chosen : IfSome st.sample.chosen (IsFloor c st.sample.minimum)
   pub awaited : IfSome st.awaited (Waits c st.sample.minimum)
   pub known : IfSome st.known (IsFound c st.sample.minimum)
@@ -64,5 +64,5 @@ pub record IsSound {Dir : Type 0} (c : Fixed Dir) (st : State Dir) : Type 0 wher
   pub settled : IfSome st.known (λ _. (is_some st.sample.chosen ≡ true) × (st.awaited ≡ None) × (st.subscribers ≡ 0))
 
 -- an artifact that is known stays the one that is known
-abbrev pub Keeps : {Dir : Type 0} → (old new : State Dir) → Type 0
-Keeps old new = (new.known ≡ old.known) ⊎ (old.known ≡ None)
+abbrev pub KeepsArtifact : {Dir : Type 0} → (old new : State Dir) → Type 0
+KeepsArtifact old new = (new.known ≡ old.known) ⊎ (old.known ≡ None)

@@ -104,10 +104,10 @@ said_by (response.Block epoch body) = IsBlock epoch body.now
 said_by (response.Latest f) = IsLatest f
 
 -- what a call answered is what reading gives, unless memory ran out
-abbrev pub Answers : Result (Option Reply) CodecError → Result (Option Response) CodecError → Type 0
-Answers reading (Ok None) = reading ≡ Ok None
-Answers reading (Ok (Some r)) = reading ≡ Ok (Some (said_by r))
-Answers reading (Err e) = Fails e reading
+abbrev pub AnswersReply : Result (Option Reply) CodecError → Result (Option Response) CodecError → Type 0
+AnswersReply reading (Ok None) = reading ≡ Ok None
+AnswersReply reading (Ok (Some r)) = reading ≡ Ok (Some (said_by r))
+AnswersReply reading (Err e) = Fails e reading
 
 -- ---- what is written
 

@@ -7,7 +7,7 @@ ghost use Rattle.dkg_probe.specs.Candidates.{are_apart, peers_of};
 ghost use Rattle.dkg_probe.specs.OneEpoch.{OfOneEpoch, SaidSince, TellsKnown};
 ghost use Rattle.dkg_probe.specs.Probing.{ended_by, ended_in, fixed, hears, new_state, steps, takes, then_serves, tracked_of};
 ghost use Rattle.dkg_probe.specs.Serving.{Serves};
-ghost use Rattle.dkg_probe.specs.Sound.{IsSound, Keeps};
+ghost use Rattle.dkg_probe.specs.Sound.{IsSoundState, KeepsArtifact};
 
 use crate::artifact::{Artifact, Bootstrap};
 use crate::blocks::Blocks;
@@ -48,7 +48,7 @@ pub struct Actor<M, S, Dir> {
     terms: Terms<S, Dir>,
     state: State<Dir>,
     failed: bool,
-    ghost few: { length terms.bootstrap.participants.players + length terms.bootstrap.participants.next_players < 2 ^ 32 },
+    ghost in_bound: { length terms.bootstrap.participants.players + length terms.bootstrap.participants.next_players < 2 ^ 32 },
 }
 
 /// The higher of the checkpoint's epoch and that of a configured floor.
@@ -104,7 +104,7 @@ where
     ensures tracked { let c = fixed S.verifies Dir.spelling ⟦<Block<Dir> as Read>⟧.read_of terms.now.limits terms.now in
         let lack = M.lacks terms.now.bootstrap.directory (tracked_of terms.now.bootstrap.participants) in
         IsTrue M.tells → Tracks (takes c lack (B.source source.now) event state.old) result (M.sets manager.old) (M.sets manager.new) }
-    ensures kinds { IsErrOf result ProbeStop.Failed → ⊥ }
+    ensures error_kinds { IsErrOf result ProbeStop.Failed → ⊥ }
     ensures kept { OnErr result (state.new.known ≡ state.old.known) }
 {
     match event {
@@ -156,7 +156,7 @@ where
         ensures limits { result.terms.limits ≡ config.limits }
         ensures state { result.state ≡ new_state (option_map_or (λ f. max config.bootstrap.epoch f.epoch) config.floor config.bootstrap.epoch) }
         ensures failed { result.failed ≡ false }
-        ensures sound { IsSound (fixed S.verifies Dir.spelling ⟦<Block<Dir> as Read>⟧.read_of result.terms.limits result.terms) result.state }
+        ensures sound { IsSoundState (fixed S.verifies Dir.spelling ⟦<Block<Dir> as Read>⟧.read_of result.terms.limits result.terms) result.state }
     {
         let Config {
             manager,
@@ -217,7 +217,7 @@ where
         ensures artifact { SaidSince (TellsKnown Dir.spelling self.new.state.known) out.old.entries out.new.entries }
         // What is found rests on what it should, and an artifact that is known stays.
         ensures sound { let c = fixed S.verifies Dir.spelling ⟦<Block<Dir> as Read>⟧.read_of self.old.terms.limits self.old.terms in
-            IsSound c self.old.state → OnOk result (IsSound c self.new.state × Keeps self.old.state self.new.state) }
+            IsSoundState c self.old.state → OnOk result (IsSoundState c self.new.state × KeepsArtifact self.old.state self.new.state) }
         ensures kept { OnErr result (self.new.state.known ≡ self.old.state.known) }
         // Who serves says nothing but what is held, to who asks for it.
         ensures held { let c = fixed S.verifies Dir.spelling ⟦<Block<Dir> as Read>⟧.read_of self.old.terms.limits self.old.terms in

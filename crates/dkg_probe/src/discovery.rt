@@ -142,7 +142,7 @@ where
     ensures tracked { let c = fixed S.verifies Dir.spelling ⟦<Block<Dir> as Read>⟧.read_of terms.now.limits terms.now in
         let lack = M.lacks terms.now.bootstrap.directory (tracked_of terms.now.bootstrap.participants) in
         IsTrue M.tells → Tracks (activates c lack state.old) result (M.sets manager.old) (M.sets manager.new) }
-    ensures kinds { IsErrOf result ProbeStop.Failed → ⊥ }
+    ensures error_kinds { IsErrOf result ProbeStop.Failed → ⊥ }
     ensures kept { state.new.known ≡ state.old.known }
 {
     activate(alloc, manager, terms)?;
@@ -181,7 +181,7 @@ where
     ensures tracked { let c = fixed S.verifies Dir.spelling ⟦<Block<Dir> as Read>⟧.read_of terms.now.limits terms.now in
         let lack = M.lacks terms.now.bootstrap.directory (tracked_of terms.now.bootstrap.participants) in
         IsTrue M.tells → Tracks (subscribes c lack state.old) result (M.sets manager.old) (M.sets manager.new) }
-    ensures kinds { IsErrOf result ProbeStop.Failed → ⊥ }
+    ensures error_kinds { IsErrOf result ProbeStop.Failed → ⊥ }
     ensures kept { OnErr result (state.new.known ≡ state.old.known) }
 {
     if looks_no_more(state) {

@@ -6,7 +6,7 @@ ghost use Rattle.dkg_values.specs.Uint.{uint};
 ghost use Rattle.dkg_types.specs.Bounds.{IsBound};
 ghost use Rattle.dkg_types.specs.BlockCodes.{BlockFits, block_spelling};
 ghost use Rattle.dkg_types.specs.PayloadCodes.{PayloadFits};
-ghost use Rattle.dkg_probe.specs.Wire.{tag_at, tag_byte, request_of, reply_of, number_at, committed, Answers, MessageFits, message_spelling};
+ghost use Rattle.dkg_probe.specs.Wire.{tag_at, tag_byte, request_of, reply_of, number_at, committed, AnswersReply, MessageFits, message_spelling};
 
 use bytes::{BufMut, BytesMut};
 use dkg_ceremony::{
@@ -124,7 +124,7 @@ pub fn read_request(bytes: &[u8]) -> Result<Option<Request>, CodecError>
 
 /// What some bytes answer, or none where they are a request's, which isn't looked at.
 pub fn read_response(alloc: Global, bytes: &[u8]) -> Result<Option<Response<'_>>, CodecError>
-    ensures exact { Answers (reply_of bytes.now) result }
+    ensures exact { AnswersReply (reply_of bytes.now) result }
 {
     let mut input = Reader::new(bytes);
     match read_tag(&mut input)? {

@@ -10,7 +10,7 @@ use Rattle.dkg_inclusion.specs.declared.inclusion.Inclusion.{Inclusion}
 use Rattle.dkg_dealing.specs.declared.life.Life.{Life}
 use Rattle.dkg_dealing.specs.declared.stop.Stop.{Stop}
 use Rattle.dkg_dealing.specs.Ready.{IsReadyLife}
-use Rattle.dkg_reshare.specs.Actors.{EndsAt, HasFailed, IfIncluding, IsAt, IsNew}
+use Rattle.dkg_reshare.specs.Actors.{EndsAt, HasFailed, IfIncluding, IsOpenedOn, IsNew}
 
 module _ {C Dir Signer Cfg : Type 0} where
   abbrev Apart : State C Dir Signer Cfg → Type 0
@@ -34,7 +34,7 @@ module _ {C Dir Signer Cfg : Type 0} where
 -- What a call says of its end is what the next one asks for.
 pub stands_again : {C Dir Signer Cfg D X : Type 0} (tells : Bool) (files : D → Files) (image : D → Files → Type 0) (ack_of : AckOf) (deal_of : DealOf) (check_ack_of : CheckAckOf) (terms : Terms)
     (state : State C Dir Signer Cfg) (devices : Devices D X) (result : Result (Unit {0}) Stop)
-    → EndsAt state result (λ life. IsReadyLife tells files image ack_of deal_of check_ack_of terms life devices) → IsAt tells files image ack_of deal_of check_ack_of terms state devices
+    → EndsAt state result (λ life. IsReadyLife tells files image ack_of deal_of check_ack_of terms life devices) → IsOpenedOn tells files image ack_of deal_of check_ack_of terms state devices
 stands_again tells files image ack_of deal_of check_ack_of terms New devices (Ok done) ends = absurd ends
 stands_again tells files image ack_of deal_of check_ack_of terms (Living life its) devices (Ok done) ends = record { opened = λ new. new; ready = ends }
 stands_again tells files image ack_of deal_of check_ack_of terms HadFailed devices (Ok done) ends = absurd ends

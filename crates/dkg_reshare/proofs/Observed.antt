@@ -20,7 +20,7 @@ use Rattle.dkg_core.specs.Live as core
 use Rattle.dkg_core.specs.Live.{Live}
 use Rattle.dkg_core.specs.Logs as recorded
 use Rattle.dkg_dealing.specs.Ready.{IsReadyLife}
-use Rattle.dkg_reshare.specs.Carried.{cleared_of, forgotten}
+use Rattle.dkg_reshare.specs.CarriedLogs.{cleared_of, forgotten}
 use Rattle.dkg_dealing.specs.declared.config.Terms.{Terms}
 use Rattle.dkg_dealing.specs.declared.life.Life.{Life}
 use Rattle.dkg_dealing.specs.declared.stop.Stop.{Stop}

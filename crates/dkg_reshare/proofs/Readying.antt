@@ -18,7 +18,7 @@ use Rattle.dkg_dealing.specs.declared.life.Stage.{Stage}
 use Rattle.dkg_dealing.specs.declared.life.Stage.TheVariants.{Dealing, Including, Following}
 use Rattle.dkg_dealing.specs.declared.stop.Stop.{Stop}
 use Rattle.dkg_dealing.specs.Ready.{IsReadyLife}
-use Rattle.dkg_dealing.specs.LiveOf.{DealsIn, IsDealing, IsPlaced, IsSeated, IsToSign, IsWithin, Sits, SitsIn}
+use Rattle.dkg_dealing.specs.LiveOf.{DealsIn, IsDealing, IsPlaced, PlayerSits, IsToSign, IsWithin, Sits, SitsIn}
 use Rattle.dkg_dealing.specs.Moved.{IsFirm}
 use Rattle.dkg_dealing.specs.Rules.{AckOf, CheckAckOf, DealOf}
 use Rattle.dkg_reshare.proofs.Applying.{tip_at}
@@ -27,7 +27,7 @@ use Rattle.dkg_reshare.proofs.Standing.{height_is, placed_behind, placed_followi
 -- ITS PARTS
 
 module _ {Dir : Type 0} (old new : Life Dir) where
-  pub seated_with : (ack_of : AckOf) (me : ℕ) → new.round ≡ old.round → new.store ≡ old.store → new.player ≡ old.player → IsSeated ack_of me old → IsSeated ack_of me new
+  pub seated_with : (ack_of : AckOf) (me : ℕ) → new.round ≡ old.round → new.store ≡ old.store → new.player ≡ old.player → PlayerSits ack_of me old → PlayerSits ack_of me new
   seated_with ack_of me round store player seated = subst (λ (o : Option Player). IfSome o (Sits ack_of me new)) (sym player) (in_seat old.player seated)
     where
       in_seat : (o : Option Player) → IfSome o (Sits ack_of me old) → IfSome o (Sits ack_of me new)

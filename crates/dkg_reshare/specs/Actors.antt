@@ -31,7 +31,7 @@ use Rattle.std.specs.FinMap as maps
 use Rattle.dkg_dealing.specs.declared.stop.Stop.TheVariants.{Failed}
 use Rattle.dkg_dealing.specs.Ends.{by_stop}
 use Rattle.dkg_dealing.specs.declared.tip.Judged.TheVariants.{New as IsNewBlock}
-use Rattle.dkg_reshare.specs.Carried.{CarriesWithin}
+use Rattle.dkg_reshare.specs.CarriedLogs.{CarriesWithin}
 use Rattle.dkg_dealing.specs.Judged.{judged}
 use Rattle.dkg_dealing.specs.LiveOf.{records_of}
 use Rattle.dkg_dealing.specs.Ready.{IsReadyLife}
@@ -77,7 +77,7 @@ told_in state request = None
 -- BETWEEN TWO CALLS
 
 -- It was opened, and its life, if it goes on, stands on these devices.
-pub record IsAt {C Dir Signer Cfg D X : Type 0} (tells : Bool) (files : D → Files) (image : D → Files → Type 0) (ack_of : AckOf) (deal_of : DealOf) (check_ack_of : CheckAckOf)
+pub record IsOpenedOn {C Dir Signer Cfg D X : Type 0} (tells : Bool) (files : D → Files) (image : D → Files → Type 0) (ack_of : AckOf) (deal_of : DealOf) (check_ack_of : CheckAckOf)
     (terms : Terms) (state : State C Dir Signer Cfg) (devices : Devices D X) : Type 0 where
   pub opened : IsNew state → ⊥
   pub ready : IfLiving state (λ life. IsReadyLife tells files image ack_of deal_of check_ack_of terms life devices)

@@ -1,2 +1,2 @@
 pub mod Actors
-pub mod Carried
+pub mod CarriedLogs

@@ -13,15 +13,15 @@ ghost use Rattle.dkg_dealing.specs.Ready.{IsFoundAt, IsReadyLife, IsSoundAt};
 ghost use Rattle.dkg_dealing.specs.Configured.{config_fault};
 ghost use Rattle.dkg_dealing.specs.Ends.{IsCausedBy, IsCausedInStep, ends, ends_in};
 ghost use Rattle.dkg_dealing.specs.Given.{AreGivenFrom, HasRead, IsIn, IsLent, ReadsPlanless, reading};
-ghost use Rattle.dkg_dealing.specs.LiveOf.{Beside, EndsBeside, EndsWith, Took, live_of, no_fence, nothing_beside};
+ghost use Rattle.dkg_dealing.specs.LiveOf.{Beside, EndsBeside, EndsWith, TookSchemes, live_of, no_fence, nothing_beside};
 ghost use Rattle.dkg_dealing.specs.Made.{Makes, Tells, UnlessBroken};
 ghost use Rattle.dkg_dealing.specs.Moved.{Moved, StaysAbove};
 ghost use Rattle.dkg_dealing.specs.Opened.{IsInGrammar, IsOpeningOf, OpensReadable, epoch_at};
 ghost use Rattle.dkg_dealing.specs.Rules.{IncludesBy, IsRuledBy, SameProvided};
 ghost use Rattle.dkg_dealing.specs.Planless.{IsBareOpening};
 ghost use Rattle.dkg_inclusion.specs.InclusionOf.{IsSeen, IsSettledInclusion, result_of};
-ghost use Rattle.dkg_reshare.specs.Actors.{AreTerms, BringsWithin, EndsAt, FailsStop, IfIncluding, IfLiving, IsAgreed, IsAt, IsNew, lives, message_of, running_in, told_in};
-ghost use Rattle.dkg_reshare.specs.Carried.{CarriesWithin};
+ghost use Rattle.dkg_reshare.specs.Actors.{AreTerms, BringsWithin, EndsAt, FailsStop, IfIncluding, IfLiving, IsAgreed, IsOpenedOn, IsNew, lives, message_of, running_in, told_in};
+ghost use Rattle.dkg_reshare.specs.CarriedLogs.{CarriesWithin};
 
 use crate::blocks::take_block;
 use crate::logs::{release, serve};
@@ -98,14 +98,14 @@ fn take<
         → IsRuledBy C.round_of C.deal_of C.dealing_of C.ack_of C.check_ack_of C.sign_log_of C.bears_ack_of C.share_public_of C.partial_public_of c.rules
         → IncludesBy C.check_log_of C.outcome_of C.finish_of (P.participants_of provider.old) (P.directory_of provider.old) Dir.spelling Dir.matches_of c
         → IsSeen inclusion.old beside.inclusion → EndsWith beside (λ i. OnOk result (IsSeen inclusion.new i))
-        (λ more. OnOk result (Took R.tells (R.taken registrar.old) (R.taken registrar.new) more))
+        (λ more. OnOk result (TookSchemes R.tells (R.taken registrar.old) (R.taken registrar.new) more))
         (λ now. Makes D.files D.image X.held (step c (message_of message) (live_of beside fence.old life.old)) (ends_in (live_of now fence.new life.new) result)
         devices.old devices.new out.old.entries out.new.entries) }
     ensures tells { IsTrue P.tells → (c : Fixed Dir) (beside : Beside Dir) → IsIn terms.now life.old.word c → ReadsPlanless c
         → IsRuledBy C.round_of C.deal_of C.dealing_of C.ack_of C.check_ack_of C.sign_log_of C.bears_ack_of C.share_public_of C.partial_public_of c.rules
         → IncludesBy C.check_log_of C.outcome_of C.finish_of (P.participants_of provider.old) (P.directory_of provider.old) Dir.spelling Dir.matches_of c
         → IsSeen inclusion.old beside.inclusion → EndsWith beside (λ i. OnOk result (IsSeen inclusion.new i))
-        (λ more. OnOk result (Took R.tells (R.taken registrar.old) (R.taken registrar.new) more))
+        (λ more. OnOk result (TookSchemes R.tells (R.taken registrar.old) (R.taken registrar.new) more))
         (λ now. Tells (step c (message_of message) (live_of beside fence.old life.old)) (ends_in (live_of now fence.new life.new) result)
         out.old.entries out.new.entries) }
 {
@@ -158,7 +158,7 @@ where
     ///
     /// InvalidConfig: the sharing mode is not supported; else an epoch has one block.
     pub fn new(config: Config<C, P, R, M>) -> Result<Actor<C, P, R, M, Dir>, Fault>
-        requires few { non_zero_u32_get config.max_participants ≤ 2 ^ 30 }
+        requires in_bound { non_zero_u32_get config.max_participants ≤ 2 ^ 30 }
         ensures new { IfOk result (λ actor. IsNew actor.state) }
         ensures parts { IfOk result (λ actor. (actor.ceremony ≡ config.ceremony) × (actor.signer ≡ config.signer) × (actor.registrar ≡ config.registrar)
             × (actor.provider ≡ config.provider) × (actor.manager ≡ config.manager)) }
@@ -216,7 +216,7 @@ impl<
             → IsOpeningOf self.old.terms (B.answers source.now) life word (D.files devices.old.disk.now) c
             → IsRuledBy C.round_of C.deal_of C.dealing_of C.ack_of C.check_ack_of C.sign_log_of C.bears_ack_of C.share_public_of C.partial_public_of c.rules
             → fence.old ≡ no_fence → EndsBeside nothing_beside
-            (λ more. OnOk result (Took R.tells (R.taken self.old.registrar) (R.taken self.new.registrar) more))
+            (λ more. OnOk result (TookSchemes R.tells (R.taken self.old.registrar) (R.taken self.new.registrar) more))
             (λ now. Makes D.files D.image X.held (opening c) (lives (live_of now fence.new) self.new.state result)
             devices.old devices.new out.old.entries out.new.entries) }
         // Whatever the devices tell, its lines are those of an opening that has read something: where they tell, dealings that each image gives back.
@@ -225,7 +225,7 @@ impl<
             → fence.old ≡ no_fence
             → HasRead (λ s. UnlessBroken (ends (λ done. done) result) (IsTrue D.tells → IsTrue X.tells
             → AreGivenFrom (epoch_at (B.answers source.now) self.old.terms - 1) s.dealings (D.image devices.new.disk.now) (X.held devices.new.secrets.now)))
-            (λ s. EndsBeside nothing_beside (λ more. OnOk result (Took R.tells (R.taken self.old.registrar) (R.taken self.new.registrar) more))
+            (λ s. EndsBeside nothing_beside (λ more. OnOk result (TookSchemes R.tells (R.taken self.old.registrar) (R.taken self.new.registrar) more))
             (λ now. Tells (opening (reading s c)) (lives (live_of now fence.new) self.new.state result)
             out.old.entries out.new.entries)) }
         // A journal that is not in its grammar is not opened: nothing is told, and all stays.
@@ -300,7 +300,7 @@ impl<
         fence: &mut Fence,
         out: &mut Transcript,
     ) -> Result<(), Stop>
-        requires at { IsAt D.tells D.files D.image C.ack_of C.deal_of C.check_ack_of self.old.terms self.old.state devices.old }
+        requires at { IsOpenedOn D.tells D.files D.image C.ack_of C.deal_of C.check_ack_of self.old.terms self.old.state devices.old }
         requires within { BringsWithin (non_zero_u32_get self.old.terms.limit) message }
         requires including { IfIncluding self.old.state (IsSettledInclusion C.check_log_of C.dealing_of C.finish_of
             (non_zero_u64_get self.old.terms.blocks_per_epoch)) }
@@ -314,7 +314,7 @@ impl<
             → IncludesBy C.check_log_of C.outcome_of C.finish_of (P.participants_of self.old.provider) (P.directory_of self.old.provider) Dir.spelling
             Dir.matches_of c
             → IsSeen its beside.inclusion → EndsWith beside (λ i. OnOk result (IfIncluding self.new.state (λ life now. IsSeen now i)))
-            (λ more. OnOk result (Took R.tells (R.taken self.old.registrar) (R.taken self.new.registrar) more))
+            (λ more. OnOk result (TookSchemes R.tells (R.taken self.old.registrar) (R.taken self.new.registrar) more))
             (λ now. Makes D.files D.image X.held (step c (message_of message) (live_of beside fence.old old))
             (lives (live_of now fence.new) self.new.state result) devices.old devices.new out.old.entries out.new.entries)) }
         ensures tells { IsTrue P.tells → (c : Fixed Dir) (beside : Beside Dir) → IfIncluding self.old.state (λ old its. IsIn self.old.terms old.word c
@@ -323,7 +323,7 @@ impl<
             → IncludesBy C.check_log_of C.outcome_of C.finish_of (P.participants_of self.old.provider) (P.directory_of self.old.provider) Dir.spelling
             Dir.matches_of c
             → IsSeen its beside.inclusion → EndsWith beside (λ i. OnOk result (IfIncluding self.new.state (λ life now. IsSeen now i)))
-            (λ more. OnOk result (Took R.tells (R.taken self.old.registrar) (R.taken self.new.registrar) more))
+            (λ more. OnOk result (TookSchemes R.tells (R.taken self.old.registrar) (R.taken self.new.registrar) more))
             (λ now. Tells (step c (message_of message) (live_of beside fence.old old))
             (lives (live_of now fence.new) self.new.state result) out.old.entries out.new.entries)) }
         // It may go on over these devices alone, or it has failed.
@@ -379,7 +379,7 @@ impl<
         fence: &mut Fence,
         out: &mut Transcript,
     ) -> Result<(), Stop>
-        requires at { IsAt D.tells D.files D.image C.ack_of C.deal_of C.check_ack_of self.old.terms self.old.state devices.old }
+        requires at { IsOpenedOn D.tells D.files D.image C.ack_of C.deal_of C.check_ack_of self.old.terms self.old.state devices.old }
         requires within { CarriesWithin (non_zero_u32_get self.old.terms.limit) block.now }
         requires including { IfIncluding self.old.state (IsSettledInclusion C.check_log_of C.dealing_of C.finish_of
             (non_zero_u64_get self.old.terms.blocks_per_epoch)) }
@@ -393,7 +393,7 @@ impl<
             → IncludesBy C.check_log_of C.outcome_of C.finish_of (P.participants_of self.old.provider) (P.directory_of self.old.provider) Dir.spelling
             Dir.matches_of c
             → IsSeen its beside.inclusion → EndsWith beside (λ i. OnOk result (IfIncluding self.new.state (λ life now. IsSeen now i)))
-            (λ more. OnOk result (Took R.tells (R.taken self.old.registrar) (R.taken self.new.registrar) more))
+            (λ more. OnOk result (TookSchemes R.tells (R.taken self.old.registrar) (R.taken self.new.registrar) more))
             (λ now. Makes D.files D.image X.held (blocks.delivers c block.now (live_of beside fence.old old))
             (lives (live_of now fence.new) self.new.state result) devices.old devices.new out.old.entries out.new.entries)) }
         ensures tells { IsTrue P.tells → (c : Fixed Dir) (beside : Beside Dir) → IfIncluding self.old.state (λ old its. IsIn self.old.terms old.word c
@@ -402,7 +402,7 @@ impl<
             → IncludesBy C.check_log_of C.outcome_of C.finish_of (P.participants_of self.old.provider) (P.directory_of self.old.provider) Dir.spelling
             Dir.matches_of c
             → IsSeen its beside.inclusion → EndsWith beside (λ i. OnOk result (IfIncluding self.new.state (λ life now. IsSeen now i)))
-            (λ more. OnOk result (Took R.tells (R.taken self.old.registrar) (R.taken self.new.registrar) more))
+            (λ more. OnOk result (TookSchemes R.tells (R.taken self.old.registrar) (R.taken self.new.registrar) more))
             (λ now. Tells (blocks.delivers c block.now (live_of beside fence.old old))
             (lives (live_of now fence.new) self.new.state result) out.old.entries out.new.entries)) }
         // It may go on over these devices alone, or it has failed.
@@ -460,7 +460,7 @@ impl<
         _fence: &mut Fence,
         out: &mut Transcript,
     ) -> Result<(), Stop>
-        requires at { IsAt D.tells D.files D.image C.ack_of C.deal_of C.check_ack_of self.old.terms self.old.state devices.old }
+        requires at { IsOpenedOn D.tells D.files D.image C.ack_of C.deal_of C.check_ack_of self.old.terms self.old.state devices.old }
         requires including { IfIncluding self.old.state (IsSettledInclusion C.check_log_of C.dealing_of C.finish_of
             (non_zero_u64_get self.old.terms.blocks_per_epoch)) }
         ensures including { OnOk result (IfIncluding self.new.state (IsSettledInclusion C.check_log_of C.dealing_of C.finish_of
@@ -473,7 +473,7 @@ impl<
             → IncludesBy C.check_log_of C.outcome_of C.finish_of (P.participants_of self.old.provider) (P.directory_of self.old.provider) Dir.spelling
             Dir.matches_of c
             → IsSeen its beside.inclusion → EndsWith beside (λ i. OnOk result (IfIncluding self.new.state (λ life now. IsSeen now i)))
-            (λ more. OnOk result (Took R.tells (R.taken self.old.registrar) (R.taken self.new.registrar) more))
+            (λ more. OnOk result (TookSchemes R.tells (R.taken self.old.registrar) (R.taken self.new.registrar) more))
             (λ now. Makes D.files D.image X.held (works c (option_map result_of done) (live_of beside _fence.old old))
             (lives (live_of now _fence.new) self.new.state result) devices.old devices.new out.old.entries out.new.entries)) }
         ensures tells { IsTrue P.tells → (c : Fixed Dir) (beside : Beside Dir) → IfIncluding self.old.state (λ old its. IsIn self.old.terms old.word c
@@ -482,7 +482,7 @@ impl<
             → IncludesBy C.check_log_of C.outcome_of C.finish_of (P.participants_of self.old.provider) (P.directory_of self.old.provider) Dir.spelling
             Dir.matches_of c
             → IsSeen its beside.inclusion → EndsWith beside (λ i. OnOk result (IfIncluding self.new.state (λ life now. IsSeen now i)))
-            (λ more. OnOk result (Took R.tells (R.taken self.old.registrar) (R.taken self.new.registrar) more))
+            (λ more. OnOk result (TookSchemes R.tells (R.taken self.old.registrar) (R.taken self.new.registrar) more))
             (λ now. Tells (works c (option_map result_of done) (live_of beside _fence.old old))
             (lives (live_of now _fence.new) self.new.state result) out.old.entries out.new.entries)) }
         // It may go on over these devices alone, or it has failed.

@@ -26,7 +26,7 @@ ghost use Rattle.dkg_dealing.specs.Moved.{IsFirm, Moved};
 ghost use Rattle.dkg_dealing.specs.Rules.{IncludesBy, IsRuledBy, SameProvided};
 ghost use Rattle.dkg_dealing.specs.Ends.{IsCausedBy, ends};
 ghost use Rattle.dkg_dealing.specs.Given.{IsIn};
-ghost use Rattle.dkg_dealing.specs.LiveOf.{Took};
+ghost use Rattle.dkg_dealing.specs.LiveOf.{TookSchemes};
 ghost use Rattle.dkg_dealing.specs.Made.{Speaks};
 ghost use Rattle.dkg_dealing.specs.declared.life.Life.{Life};
 ghost use Rattle.dkg_dealing.specs.declared.life.Stage.TheVariants.{Including};
@@ -407,14 +407,14 @@ fn pass_on<C: Ceremony + Drop, R: Registrar, Dir: Directory + Drop, D: Disk, X: 
     ensures acts { IsTrue D.tells → IsTrue X.tells → (c : Fixed Dir) (beside : Beside Dir) → IsIn terms.now life.old.word c → ReadsPlanless c
         → IsRuledBy C.round_of C.deal_of C.dealing_of C.ack_of C.check_ack_of C.sign_log_of C.bears_ack_of C.share_public_of C.partial_public_of c.rules
         → IsSeen inclusion.old beside.inclusion → EndsWith beside (λ i. OnOk result (IsSeen inclusion.new i))
-        (λ more. OnOk result (Took R.tells (R.taken registrar.old) (R.taken registrar.new) more))
+        (λ more. OnOk result (TookSchemes R.tells (R.taken registrar.old) (R.taken registrar.new) more))
         (λ now. Makes D.files D.image X.held (blocks.passes_on c block.now (Some info.now) (live_of beside fence.old life.old)) (ends_in
         (live_of now fence.new life.new) result)
         devices.old devices.new out.old.entries out.new.entries) }
     ensures tells { (c : Fixed Dir) (beside : Beside Dir) → IsIn terms.now life.old.word c → ReadsPlanless c
         → IsRuledBy C.round_of C.deal_of C.dealing_of C.ack_of C.check_ack_of C.sign_log_of C.bears_ack_of C.share_public_of C.partial_public_of c.rules
         → IsSeen inclusion.old beside.inclusion → EndsWith beside (λ i. OnOk result (IsSeen inclusion.new i))
-        (λ more. OnOk result (Took R.tells (R.taken registrar.old) (R.taken registrar.new) more))
+        (λ more. OnOk result (TookSchemes R.tells (R.taken registrar.old) (R.taken registrar.new) more))
         (λ now. Tells (blocks.passes_on c block.now (Some info.now) (live_of beside fence.old life.old)) (ends_in (live_of now fence.new life.new) result)
         out.old.entries out.new.entries) }
     ensures moved { Moved D.tells D.made X.made D.faults X.faults devices.old devices.new }
@@ -466,14 +466,14 @@ pub(crate) fn take_over<
     ensures acts { IsTrue D.tells → IsTrue X.tells → (c : Fixed Dir) (beside : Beside Dir) → IsIn terms.now life.old.word c → ReadsPlanless c
         → IsRuledBy C.round_of C.deal_of C.dealing_of C.ack_of C.check_ack_of C.sign_log_of C.bears_ack_of C.share_public_of C.partial_public_of c.rules
         → c.directories.spelling ≡ Dir.spelling → IsSeen inclusion.old beside.inclusion → EndsWith beside (λ i. OnOk result (IsSeen inclusion.new i))
-        (λ more. OnOk result (Took R.tells (R.taken registrar.old) (R.taken registrar.new) more))
+        (λ more. OnOk result (TookSchemes R.tells (R.taken registrar.old) (R.taken registrar.new) more))
         (λ now. Makes D.files D.image X.held (blocks.takes_over c block.now info.now (blocks.share_for c info.now (artifact_of artifact.now))
         (live_of beside fence.old life.old)) (ends_in (live_of now fence.new life.new) result)
         devices.old devices.new out.old.entries out.new.entries) }
     ensures tells { (c : Fixed Dir) (beside : Beside Dir) → IsIn terms.now life.old.word c → ReadsPlanless c
         → IsRuledBy C.round_of C.deal_of C.dealing_of C.ack_of C.check_ack_of C.sign_log_of C.bears_ack_of C.share_public_of C.partial_public_of c.rules
         → c.directories.spelling ≡ Dir.spelling → IsSeen inclusion.old beside.inclusion → EndsWith beside (λ i. OnOk result (IsSeen inclusion.new i))
-        (λ more. OnOk result (Took R.tells (R.taken registrar.old) (R.taken registrar.new) more))
+        (λ more. OnOk result (TookSchemes R.tells (R.taken registrar.old) (R.taken registrar.new) more))
         (λ now. Tells (blocks.takes_over c block.now info.now (blocks.share_for c info.now (artifact_of artifact.now)) (live_of beside fence.old life.old))
         (ends_in (live_of now fence.new life.new) result)
         out.old.entries out.new.entries) }

@@ -22,7 +22,7 @@ ghost use Rattle.dkg_dealing.specs.declared.life.Life.{Life};
 ghost use Rattle.dkg_dealing.specs.declared.life.Stage.TheVariants.{Including};
 ghost use Rattle.dkg_dealing.specs.declared.stop.Stop.TheVariants.{Fault as Faulted};
 ghost use Rattle.dkg_inclusion.specs.InclusionOf.{IsSeen};
-ghost use Rattle.dkg_reshare.specs.Carried.{CarriesWithin, cleared_of};
+ghost use Rattle.dkg_reshare.specs.CarriedLogs.{CarriesWithin, cleared_of};
 
 use dkg_ceremony::{Ceremony, Round, SignedDealerLog};
 use dkg_dealing::{Life, Stage, Stop, Terms};

@@ -31,7 +31,7 @@ use Rattle.dkg_core.specs.Courses.{Course, Say, Do, Call, Ask, Goes, Stops, bind
 use Rattle.dkg_core.specs.Dealing as d
 use Rattle.dkg_core.specs.Endings.{ComesTo}
 use Rattle.dkg_core.specs.Entering as half
-use Rattle.dkg_core.specs.Entering.{delivered}
+use Rattle.dkg_core.specs.Entering.{takes_delivered}
 use Rattle.dkg_core.specs.Fixed.{Fixed, OneShot, has}
 use Rattle.dkg_core.specs.Forms.{Applied, Judged, Passed, judged_block}
 use Rattle.dkg_core.specs.Including as i
@@ -738,10 +738,10 @@ module _ (c : Fixed U) (reshare : c.oneshot ≡ None) (n : ℕ) (Was : Type 0) w
     node_kept : (message : Message U) → IsKept [] (Before st message) → Accounts (λ said end. Reads c reshare st apart message → IsKept said end) [] (node_step c (event_of message) st)
     node_kept (Finalized block) kept =
         acc_behind (Where st apart block kept) (λ said end. Reads c reshare st apart (Finalized block) → IsKept said end) (under Faulted (step c (Finalized block) st))
-        (λ now. unless_once c (bind (delivered c block now) (λ left. half.acked_at block.height left.answer left.live)) (Say (Acked block.height) (Goes now))) []
+        (λ now. unless_once c (bind (takes_delivered c block now) (λ left. half.acked_at block.height left.answer left.live)) (Say (Acked block.height) (Goes now))) []
         (acc_under (Where st apart block kept) Faulted (step c (Finalized block) st) [] (block_to st apart block kept))
         (λ said now its. behind_so (Reads c reshare st apart (Finalized block)) said now
-        (unless_once c (bind (delivered c block now) (λ left. half.acked_at block.height left.answer left.live)) (Say (Acked block.height) (Goes now))) (block_says c IsUnanswered half_line block now) (behind_block c reshare now.inclusion block now refl) its)
+        (unless_once c (bind (takes_delivered c block now) (λ left. half.acked_at block.height left.answer left.live)) (Say (Acked block.height) (Goes now))) (block_says c IsUnanswered half_line block now) (behind_block c reshare now.inclusion block now refl) its)
     node_kept (Sent (Peer from bytes)) kept = acc_any (λ said end. Reads c reshare st apart (Sent (Peer from bytes)) → IsKept said end) (λ said end reads. absurd reads) (node_step c (event_of (Sent (Peer from bytes))) st) []
     node_kept (Sent (NextLog request height)) kept = mail_kept (NextLog request height) kept (λ from bytes e. cc)
     node_kept (Sent (ReleaseLog height)) kept = mail_kept (ReleaseLog height) kept (λ from bytes e. cc)
@@ -891,7 +891,7 @@ module _ (c : Fixed U) (reshare : c.oneshot ≡ None) (n : ℕ) (Was : Type 0) w
         last_kept end out now said = acc_all Done (node_step c (event_of (Finalized block)) st) [] said.lines end node_last said.by
           where
             next : Live U → Course U NodeStop (Live U)
-            next now = unless_once c (bind (delivered c block now) (λ left. half.acked_at block.height left.answer left.live)) (Say (Acked block.height) (Goes now))
+            next now = unless_once c (bind (takes_delivered c block now) (λ left. half.acked_at block.height left.answer left.live)) (Say (Acked block.height) (Goes now))
 
             node_last : Accounts Done [] (node_step c (event_of (Finalized block)) st)
             node_last =

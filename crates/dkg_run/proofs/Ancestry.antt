@@ -10,7 +10,7 @@ use Rattle.dkg_types.specs.Blocks.{Block}
 use Rattle.dkg_types.specs.Paths.{logs_of_path}
 use Rattle.dkg_types.specs.declared.entry.Why.{Why}
 use Rattle.dkg_types.specs.declared.entry.Why.TheVariants.{Short}
-use Rattle.dkg_artifact.specs.Ancestries.{Completes, IsUnderWay, Refuses, Says, Stands}
+use Rattle.dkg_artifact.specs.Ancestries.{CompletesPath, IsUnderWay, Refuses, Says, StandsAtPath}
 use Rattle.dkg_artifact.specs.Scans.{Check, above, feeds, first_answer, starts}
 use Rattle.dkg_artifact.specs.Seen.{Scan}
 use Rattle.dkg_artifact.specs.declared.scan.Fed as declared
@@ -32,7 +32,7 @@ module _ {Dir : Type 0} (check : Check) (round : Round) (bounds : Bounds) (tip :
     pub lowest : Block Dir
     pub rest : List (Block Dir)
     pub fed : all ≡ reverse (lowest ∷ path) ++ rest
-    pub completes : Completes bounds tip path lowest
+    pub completes : CompletesPath bounds tip path lowest
     pub logs : found ≡ logs_of_path check bounds.midpoint bounds.last round (above tip (lowest ∷ path))
 
   -- Behind a path the next block is refused.
@@ -70,7 +70,7 @@ module _ {Dir : Type 0} (check : Check) (round : Round) (bounds : Bounds) (tip :
         by_end true is = inl (refl, is, on)
         by_end false is = (on, is)
 
-    walk : (bs path : List (Block Dir)) (s : Scan) → Stands check round bounds tip path s → all ≡ reverse path ++ bs → IsRead all ended (closed_by ended (fed_all check s answer.Need bs).0)
+    walk : (bs path : List (Block Dir)) (s : Scan) → StandsAtPath check round bounds tip path s → all ≡ reverse path ++ bs → IsRead all ended (closed_by ended (fed_all check s answer.Need bs).0)
     walk [] path s stands fed = at_end path stands.under_way fed
     walk (b ∷ bs) path s stands fed =
         by_answer (λ now says. walk bs (b ∷ path) now (says.goes_on refl) (fed ∙ one_more path b bs)) (feeds check s b).0 (feeds check s b).1 (feed_says check round bounds tip path s b stands)

@@ -17,10 +17,10 @@ use Rattle.dkg_store.specs.Noted.{Notes}
 use Rattle.dkg_store.specs.Recorded.{at_epoch, bare_logs, is_reached, reached_logs}
 use Rattle.dkg_store.specs.declared.recorded_log.RecordedLog.{RecordedLog}
 use Rattle.dkg_types.specs.Blocks as made
-use Rattle.dkg_types.specs.Paths.{counts, log_of_block, logs_from, logs_of_path}
+use Rattle.dkg_types.specs.Paths.{log_counts, log_of_block, logs_from, logs_of_path}
 use Rattle.dkg_types.specs.PayloadCodes.{its_log}
 use Rattle.dkg_types.specs.declared.directory.Unit as directory
-use Rattle.dkg_artifact.specs.Ancestries.{BeginsBelow, Completes, IsLinked}
+use Rattle.dkg_artifact.specs.Ancestries.{BeginsBelow, CompletesPath, IsLinked}
 use Rattle.dkg_artifact.specs.Scans.{above, is_above}
 use Rattle.dkg_artifact.specs.declared.scan.Tip as scan
 use Rattle.dkg_text.specs.declared.script.Life.{Life}
@@ -88,29 +88,29 @@ module _ (middle end : ℕ) (round : Round) where
   dealt p = (p.1.dealer, p.1.log)
 
   abbrev pairs : List (ℕ × SignedDealerLog) → LogMap
-  pairs ps = map dealt (filter (counts check_log_of middle end round) ps)
+  pairs ps = map dealt (filter (log_counts check_log_of middle end round) ps)
 
   one_more : (o : Option (ℕ × SignedDealerLog)) (xs ys : List (ℕ × SignedDealerLog)) → pairs xs ≡ pairs ys → pairs (cons_option o xs) ≡ pairs (cons_option o ys)
   one_more None xs ys same = same
-  one_more (Some p) xs ys same = by_test (counts check_log_of middle end round p)
+  one_more (Some p) xs ys same = by_test (log_counts check_log_of middle end round p)
     where
-      by_test : (t : Bool) → map dealt (if t then p ∷ filter (counts check_log_of middle end round) xs else filter (counts check_log_of middle end round) xs)
-          ≡ map dealt (if t then p ∷ filter (counts check_log_of middle end round) ys else filter (counts check_log_of middle end round) ys)
+      by_test : (t : Bool) → map dealt (if t then p ∷ filter (log_counts check_log_of middle end round) xs else filter (log_counts check_log_of middle end round) xs)
+          ≡ map dealt (if t then p ∷ filter (log_counts check_log_of middle end round) ys else filter (log_counts check_log_of middle end round) ys)
       by_test true = ap (λ (logs : LogMap). (p.1.dealer, p.1.log) ∷ logs) same
       by_test false = same
 
-  none_more : (o : Option (ℕ × SignedDealerLog)) (xs : List (ℕ × SignedDealerLog)) → IfSome o (λ p. counts check_log_of middle end round p ≡ false) → pairs (cons_option o xs) ≡ pairs xs
+  none_more : (o : Option (ℕ × SignedDealerLog)) (xs : List (ℕ × SignedDealerLog)) → IfSome o (λ p. log_counts check_log_of middle end round p ≡ false) → pairs (cons_option o xs) ≡ pairs xs
   none_more None xs none = refl
   none_more (Some p) xs none =
-      ap (λ (t : Bool). map dealt (if t then p ∷ filter (counts check_log_of middle end round) xs else filter (counts check_log_of middle end round) xs)) none
+      ap (λ (t : Bool). map dealt (if t then p ∷ filter (log_counts check_log_of middle end round) xs else filter (log_counts check_log_of middle end round) xs)) none
 
-  early : (b : made.Block U) → b.height < middle → IfSome (log_of_block b) (λ p. counts check_log_of middle end round p ≡ false)
+  early : (b : made.Block U) → b.height < middle → IfSome (log_of_block b) (λ p. log_counts check_log_of middle end round p ≡ false)
   early b low = by_log (option_and_then its_log b.payload)
     where
       under : (x : ℕ) → x < middle → nat_le middle x ≡ false
       under x low = grind (arith, nat_tests)
 
-      by_log : (o : Option SignedDealerLog) → IfSome (option_map (λ s. (b.height, s)) o) (λ p. counts check_log_of middle end round p ≡ false)
+      by_log : (o : Option SignedDealerLog) → IfSome (option_map (λ s. (b.height, s)) o) (λ p. log_counts check_log_of middle end round p ≡ false)
       by_log None = tt
       by_log (Some signed) = ap (λ (t : Bool). t && nat_lt b.height end && is_some (place_of signed.dealer round.dealers) && check_log_of round signed) (under b.height low)
 
@@ -292,8 +292,8 @@ module _ (s : Setting) (ends : List (Option CutAt)) (consistent : IsConsistentSc
     found_is : (o : Option Tip) → tip_in s.script life read ≡ o → asked.found ≡ logs_of_path check_log_of middle end round (above (scanned o) (lowest ∷ path))
     found_is o is = (asked.read).logs ∙ ap (λ (o : Option Tip). logs_of_path check_log_of middle end round (above (scanned o) (lowest ∷ path))) is
 
-    completes_at : (o : Option Tip) → tip_in s.script life read ≡ o → Completes (bounds_in s.script epoch) (scanned o) path lowest
-    completes_at o is = subst (λ (o : Option Tip). Completes (bounds_in s.script epoch) (scanned o) path lowest) is (asked.read).completes
+    completes_at : (o : Option Tip) → tip_in s.script life read ≡ o → CompletesPath (bounds_in s.script epoch) (scanned o) path lowest
+    completes_at o is = subst (λ (o : Option Tip). CompletesPath (bounds_in s.script epoch) (scanned o) path lowest) is (asked.read).completes
 
     recorded_is : (o : Option Tip) → tip_in s.script life read ≡ o → recorded ≡ reached_logs middle (option_map (λ t. t.height) o) (at_epoch epoch known.m)
     recorded_is o is = known.is ∙ ap (λ (o : Option Tip). reached_logs middle (option_map (λ t. t.height) o) (at_epoch epoch known.m)) is

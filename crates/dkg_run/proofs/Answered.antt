@@ -44,7 +44,7 @@ use Rattle.dkg_core.specs.Stepping.{dealt_behind, given_itself}
 use Rattle.dkg_core.specs.Through.{IsLiveThrough, asked_by, included}
 use Rattle.dkg_core.proofs.NodeSaying.{node_steps_say_through}
 use Rattle.dkg_run.specs.Answers.{IsAnsweredSo, IsAskedFor, IsMadeOf, IsUnavailable}
-use Rattle.dkg_run.specs.Asks.{IsRefusedAt, IsUncancelled, Standing, WereAsked, bounds_in, fed_in, next_bytes, scan_tip, standing_of, turns}
+use Rattle.dkg_run.specs.Asks.{IsRefusedAt, IsUncancelled, RequestStanding, WereAsked, bounds_in, fed_in, next_bytes, scan_tip, standing_of, turns}
 use Rattle.dkg_run.specs.Blamed.{IsInfoOf, IsTakenLast, round_by, tip_in}
 use Rattle.dkg_run.specs.Epochs.{IsLifeInForm, StandsInScript, any_shares, epoch_by}
 use Rattle.dkg_run.specs.Given.{Lived, at_step, blocks_in}
@@ -280,7 +280,7 @@ module _ {Known : Knows} (g : Lived) (here : IsLifeInForm g) (i : ℕ) (its : Ev
       next a = omega arith
 
   -- the one that waits stays, where the event doesn't cancel it
-  waits_on : (number : ℕ) → ((s : Standing) → IsUncancelled s → IsUncancelled (turns number s its)) → IsAwaited g Known e i st.inclusion.running st.participation.round number → IsUncancelled (standing_of g.life number (suc i))
+  waits_on : (number : ℕ) → ((s : RequestStanding) → IsUncancelled s → IsUncancelled (turns number s its)) → IsAwaited g Known e i st.inclusion.running st.participation.round number → IsUncancelled (standing_of g.life number (suc i))
   waits_on number keeps one = subst IsUncancelled (sym (stands_more number g.life i its is)) (keeps (standing_of g.life number i) one.uncancelled)
 
   mail_answers : (mail : Mail U) → m.message ≡ Sent mail → (line : Entry) → IsMailLine c st mail line → IsSaidHere line
@@ -313,7 +313,7 @@ module _ {Known : Knows} (g : Lived) (here : IsLifeInForm g) (i : ℕ) (its : Ev
         sym (ap (λ (t : Bool). if t then st.tip else its_tip) (ap (λ (o : Option Tip). option_map_or (λ t. nat_le b.height t.height) o false) tip ∙ above_by g here i its is reached m st live stands tip b applied))
         ∙ ap (λ (x : Message U). tip_behind x st.tip) (sym sent) ∙ tip_next
 
-    keeps : (n : ℕ) (s : Standing) → IsUncancelled s → IsUncancelled (turns n s its)
+    keeps : (n : ℕ) (s : RequestStanding) → IsUncancelled s → IsUncancelled (turns n s its)
     keeps n s its_open = subst (λ (x : Event). IsUncancelled (turns n s x)) (sym of) (keeps_final n number s its_open)
 
     final_so : st.participation.stage ≡ Includes → is_last_height c b.height ≡ true → (n : ℕ) (line : Entry) → OfRequest st n (λ r. line ≡ Answer n (Unavailable Finished)) → IsSaidHere line

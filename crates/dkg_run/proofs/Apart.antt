@@ -29,7 +29,7 @@ use Rattle.dkg_core.specs.Courses.{Course, Say, Do, Call, Ask, Goes, Stops, Gene
 use Rattle.dkg_core.specs.Dealing as d
 use Rattle.dkg_core.specs.Endings.{ComesTo}
 use Rattle.dkg_core.specs.Entering as half
-use Rattle.dkg_core.specs.Entering.{Half, HalfAnswer, Acknowledges, Withholds, active, delivered}
+use Rattle.dkg_core.specs.Entering.{Half, HalfAnswer, Acknowledges, Withholds, active, takes_delivered}
 use Rattle.dkg_core.specs.Fixed.{Fixed, OneShot, has}
 use Rattle.dkg_core.specs.Forms.{Applied, judged_block}
 use Rattle.dkg_core.specs.Including as i
@@ -476,7 +476,7 @@ module _ (c : Fixed U) (reshare : c.oneshot ≡ None) where
         (λ e. comes_if Any (λ left. left.live.inclusion ≡ its) (nat_lt block.height (last c.blocks_per_epoch epoch)) (half.leaves st.orchestrator Acknowledges st) (half.enters_at c block (epoch + 1) (Some block.height) st) (λ e. same)
         (λ e. enters_at block (epoch + 1) (Some block.height) st same))
 
-    delivers : (block : Block U) (st : Live U) → st.inclusion ≡ its → HalfTo (delivered c block st)
+    delivers : (block : Block U) (st : Live U) → st.inclusion ≡ its → HalfTo (takes_delivered c block st)
     delivers block st same =
         comes_behind Any (λ now. now.inclusion ≡ its) (λ left. left.live.inclusion ≡ its) (half.asks_again c st) (λ now. half.delivered_in c block now (active now.orchestrator)) (again st same)
         (λ now is. delivers_in block now is (active now.orchestrator))
@@ -485,10 +485,10 @@ module _ (c : Fixed U) (reshare : c.oneshot ≡ None) where
     behind_mail st same = comes_if Any (λ end. end.inclusion ≡ its) (is_some c.oneshot) (Goes st) (half.asks_again c st) (λ e. same) (λ e. again st same)
 
     pub behind_block : (block : Block U) (st : Live U) → st.inclusion ≡ its
-        → LifeTo (unless_once c (bind (delivered c block st) (λ left. half.acked_at block.height left.answer left.live)) (Say (Acked block.height) (Goes st)))
+        → LifeTo (unless_once c (bind (takes_delivered c block st) (λ left. half.acked_at block.height left.answer left.live)) (Say (Acked block.height) (Goes st)))
     behind_block block st same =
-        comes_if Any (λ end. end.inclusion ≡ its) (is_some c.oneshot) (Say (Acked block.height) (Goes st)) (bind (delivered c block st) (λ left. half.acked_at block.height left.answer left.live)) (λ e. same)
-        (λ e. comes_behind Any (λ left. left.live.inclusion ≡ its) (λ end. end.inclusion ≡ its) (delivered c block st) (λ left. half.acked_at block.height left.answer left.live) (delivers block st same)
+        comes_if Any (λ end. end.inclusion ≡ its) (is_some c.oneshot) (Say (Acked block.height) (Goes st)) (bind (takes_delivered c block st) (λ left. half.acked_at block.height left.answer left.live)) (λ e. same)
+        (λ e. comes_behind Any (λ left. left.live.inclusion ≡ its) (λ end. end.inclusion ≡ its) (takes_delivered c block st) (λ left. half.acked_at block.height left.answer left.live) (delivers block st same)
         (λ left is. acked block.height left.answer left.live is))
 
   -- A NODE'S STEP, where requests are read
@@ -517,10 +517,10 @@ module _ (c : Fixed U) (reshare : c.oneshot ≡ None) where
     pub node_apart : (message : Message U) → ((mail : Mail U) → message ≡ Sent mail → IsNewOne st mail) → ComesTo (λ (stop : NodeStop). ⊤) (WhereRead message) (node_step c (event_of message) st)
     node_apart (Finalized block) new =
         comes_behind Any (Where st apart block) (WhereRead (Finalized block)) (under Faulted (step c (Finalized block) st))
-        (λ now. unless_once c (bind (delivered c block now) (λ left. half.acked_at block.height left.answer left.live)) (Say (Acked block.height) (Goes now)))
+        (λ now. unless_once c (bind (takes_delivered c block now) (λ left. half.acked_at block.height left.answer left.live)) (Say (Acked block.height) (Goes now)))
         (any_under (Where st apart block) Faulted (step c (Finalized block) st) (block_to st apart block))
         (λ now its. comes_as Any Any (λ end. end.inclusion ≡ now.inclusion) (WhereRead (Finalized block))
-        (unless_once c (bind (delivered c block now) (λ left. half.acked_at block.height left.answer left.live)) (Say (Acked block.height) (Goes now))) (λ stop any. any)
+        (unless_once c (bind (takes_delivered c block now) (λ left. half.acked_at block.height left.answer left.live)) (Say (Acked block.height) (Goes now))) (λ stop any. any)
         (λ end same reads. subst IsApart (sym same) (its reads)) (behind_block now.inclusion block now refl))
     node_apart (Sent (Peer from bytes)) new = comes_so (WhereRead (Sent (Peer from bytes))) (λ end reads. absurd reads) (node_step c (event_of (Sent (Peer from bytes))) st)
     node_apart (Sent (NextLog request height)) new = read_mail (NextLog request height) tt (λ from bytes e. cc)

@@ -1,12 +1,12 @@
 -- The words that ask for a made script, or for its run, ask for one alone.
 use Rattle.std.proofs.Common.{◌≡◌, ◌<◌, ◌^◌, ◌∙◌, ℕ, List, [], Some, get_or, decimal, sym, ap}
-use Rattle.dkg_text.specs.Rows.{number_of}
+use Rattle.dkg_text.specs.Rows.{decimal_of}
 use Rattle.dkg_text.proofs.FieldLaws.{number_law}
 use Rattle.dkg_run.specs.Command.{IsMake, IsRunOfMade}
 
 by_text : (n m : ℕ) → n < 2 ^ 64 → m < 2 ^ 64 → decimal n ≡ decimal m → n ≡ m
 by_text n m low below text =
-    let both : Some n ≡ Some m = sym ((number_law).again n low) ∙ (ap number_of text ∙ (number_law).again m below) in
+    let both : Some n ≡ Some m = sym ((number_law).again n low) ∙ (ap decimal_of text ∙ (number_law).again m below) in
     cc
 
 pub same_number : (words : List (List ℕ)) (n m : ℕ) → IsMake n words → IsMake m words → n ≡ m

@@ -688,7 +688,7 @@ module _ (g : Lived) (here : IsLifeInForm g) where
         where
           none : (k : ℕ) → 1 ≤ k → k ≡ 0 → ⊥
           none k some is = omega (arith, some, is)
-      provider_clear info (fault.InvalidParticipants (cause.ProviderAbove count most)) has why = over count most _ _ has.few why.0 why.1 why.2
+      provider_clear info (fault.InvalidParticipants (cause.ProviderAbove count most)) has why = over count most _ _ has.in_bound why.0 why.1 why.2
         where
           over : (count most k limit : ℕ) → k ≤ limit → count ≡ k → most ≡ limit → most < count → ⊥
           over count most k limit few one two high = omega (arith, few, one, two, high)

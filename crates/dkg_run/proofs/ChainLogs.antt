@@ -18,7 +18,7 @@ use Rattle.dkg_store.specs.declared.recorded_log.RecordedLog.{RecordedLog}
 use Rattle.dkg_store.proofs.Epochs.{rising}
 use Rattle.dkg_store.proofs.Own.{lookup_at}
 use Rattle.dkg_types.specs.Blocks as made
-use Rattle.dkg_types.specs.Paths.{counts, logs_of_path}
+use Rattle.dkg_types.specs.Paths.{log_counts, logs_of_path}
 use Rattle.dkg_types.specs.Units.{unit_spelling}
 use Rattle.dkg_types.specs.declared.directory.Unit as directory
 use Rattle.dkg_script.specs.Blocks.{Block, chain}
@@ -109,7 +109,7 @@ module _ (s : Setting) (epoch : ℕ) (round : Round) where
   -- the log that a block at a height brings, if it counts in the round
   abbrev pub counted_at : (height : ℕ) → Option SignedDealerLog → Option (ℕ × DealerLog)
   counted_at height None = None
-  counted_at height (Some signed) = if counts check_log_of middle ends round (height, signed) then Some (signed.dealer, signed.log) else None
+  counted_at height (Some signed) = if log_counts check_log_of middle ends round (height, signed) then Some (signed.dealer, signed.log) else None
 
   abbrev pub brings_of : (height : ℕ) → Option (ℕ × DealerLog)
   brings_of height = option_and_then (λ b. counted_at height b.log) (chain s height)
@@ -130,9 +130,9 @@ module _ (s : Setting) (epoch : ℕ) (round : Round) where
       by_log : (o : Option SignedDealerLog) → (seen_block unit_spelling b).log ≡ o → brought check_log_of middle ends round bs ≡ brought_from brings_of (height + 1) (length bs)
           → brought check_log_of middle ends round (b ∷ bs) ≡ option_to_list (brings_of height) ++ brought_from brings_of (height + 1) (length bs)
       by_log None is rest = rw (here, is) rest
-      by_log (Some signed) is rest = by_test (counts check_log_of middle ends round (height, signed)) refl
+      by_log (Some signed) is rest = by_test (log_counts check_log_of middle ends round (height, signed)) refl
         where
-          by_test : (t : Bool) → counts check_log_of middle ends round (height, signed) ≡ t → brought check_log_of middle ends round (b ∷ bs) ≡ option_to_list (brings_of height) ++ brought_from brings_of (height + 1) (length bs)
+          by_test : (t : Bool) → log_counts check_log_of middle ends round (height, signed) ≡ t → brought check_log_of middle ends round (b ∷ bs) ≡ option_to_list (brings_of height) ++ brought_from brings_of (height + 1) (length bs)
           by_test true counted = rw (here, is, are.0, counted) (ap (λ (l : LogMap). (signed.dealer, signed.log) ∷ l) rest)
           by_test false counted = rw (here, is, are.0, counted) rest
 

@@ -8,7 +8,7 @@ use Rattle.dkg_ceremony.specs.Deals.{deal_of}
 use Rattle.dkg_ceremony.specs.declared.output.Output.{Output}
 use Rattle.dkg_ceremony.specs.declared.round.RoundParts.{RoundParts as Round}
 use Rattle.dkg_journal.specs.Names.{Files}
-use Rattle.dkg_journal.specs.Records.{Entry}
+use Rattle.dkg_journal.specs.Records.{SectionEntry}
 use Rattle.dkg_secrets.specs.Secrets.{Secrets}
 use Rattle.dkg_secrets.proofs.Map.{exact_keys, keys_total}
 use Rattle.dkg_secrets.specs.declared.secrets.SecretOp.TheVariants.{PutSeed}
@@ -104,7 +104,7 @@ none_carried P o never so = some_there (λ (b : Block directory.Unit). IsSomeAnd
 -- what is given back depends on the records and the private halves alone
 same_given : (h k : Held) → notes k ≡ notes h → k.secrets.privates ≡ h.secrets.privates → recovered_in k ≡ recovered_in h
 same_given h k entries halves =
-    ap (λ (es : List Entry). recovered es k.secrets) entries ∙ same_map keys_total exact_keys _ _ (λ key. recovered_at h.secrets k.secrets key (notes h) (ap (λ m. get m key) halves))
+    ap (λ (es : List SectionEntry). recovered es k.secrets) entries ∙ same_map keys_total exact_keys _ _ (λ key. recovered_at h.secrets k.secrets key (notes h) (ap (λ m. get m key) halves))
 
 -- WHAT A COMMIT leaves
 module _ (info : EpochInfo directory.Unit) (seed : List ℕ) (h : Held) where
@@ -487,7 +487,7 @@ module _ (s : Setting) (ends : List (Option CutAt)) (valid : IsValidCase s ends)
             record {
               given = (
                 (
-                  subst (λ (t : Secrets). IsWhole (notes now.held) t) (sym same) (subst (λ (es : List Entry). IsWhole es w.held.secrets) (sym entries) all.given.0.0),
+                  subst (λ (t : Secrets). IsWhole (notes now.held) t) (sym same) (subst (λ (es : List SectionEntry). IsWhole es w.held.secrets) (sym entries) all.given.0.0),
                   subst (PassesAll s) (sym given) all.given.0.1,
                 ),
                 subst (λ (pairs : Pairs). AreBacked s form pairs now.held.secrets) (sym given) (subst (λ (t : Secrets). AreBacked s form (recovered_in w.held) t) (sym same) all.given.1),

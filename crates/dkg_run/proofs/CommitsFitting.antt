@@ -28,7 +28,7 @@ use Rattle.dkg_script.specs.Progress.{progress}
 use Rattle.dkg_script.specs.Readings.{Info, with_spelled}
 use Rattle.dkg_script.specs.Setting.{CutAt, Setting, life_at, me, setting_of}
 use Rattle.dkg_store.specs.Acts.{Ended, Held, World, at, broken, moment, says, stopped, went}
-use Rattle.dkg_core.specs.Asked.{Reads}
+use Rattle.dkg_core.specs.Asked.{ReadsShare}
 use Rattle.dkg_core.specs.Behind.{event_of}
 use Rattle.dkg_core.specs.Courses.{Course, EndsSo}
 use Rattle.dkg_core.specs.Endings.{CameTo, first_block, first_epoch}
@@ -51,7 +51,7 @@ use Rattle.dkg_dealing.specs.declared.stop.Stop.{Stop}
 use Rattle.dkg_run.specs.Epochs.{IsLifeInForm}
 use Rattle.dkg_run.specs.Given.{Lived, at_step, blocks_in, lived, step_of}
 use Rattle.dkg_run.specs.Lives.{LivesSo, RunsOver, RunsSo, never}
-use Rattle.dkg_run.specs.SharesStand.{CommitsFit, Fits}
+use Rattle.dkg_run.specs.SharesStand.{CommitsFit, FitsCarried}
 use Rattle.dkg_run.specs.Ways.{by_worlds}
 use Rattle.dkg_run.proofs.Awaiting.{IsReached}
 use Rattle.dkg_run.proofs.CommitsOver.{IsTakenShare, Tells, asked, block_over, opened_held, opening_over, peer_over}
@@ -69,7 +69,7 @@ all_as P Q (line ∷ lines) so all = (so line all.0, all_as P Q lines so all.1)
 
 -- A share of an epoch fits, if there is one.
 abbrev pub FitsAt : Setting → ℕ → Option ℕ → Type 0
-FitsAt s epoch share = IfSome share (Fits s epoch)
+FitsAt s epoch share = IfSome share (FitsCarried s epoch)
 
 fits_of : (s : Setting) (epoch : ℕ) (info : Info) → known_info s epoch ≡ Some info → (share : Option ℕ) → IfSome share (IsMineAt s epoch) → FitsAt s epoch share
 fits_of s epoch info known None its = tt
@@ -132,7 +132,7 @@ module _ (s : Setting) (cuts : List (Option CutAt)) (form : IsFormOfInclusion s.
     abbrev m : IsMessage g its
     m = message_in g its (event_in_form g here i its is)
 
-    found : Reads c (mine s) (Some w.held)
+    found : ReadsShare c (mine s) (Some w.held)
     found h epoch same = subst (λ (x : Held). mine s epoch (lookup epoch (c.seen x).shares)) (sym same) (said_of s cuts form consistent l life seen files life_is reads (suc i) w.held q epoch)
 
     abbrev OfInfo : made.Block directory.Unit → ℕ → Option ℕ → EpochInfo directory.Unit → Type 0
@@ -253,7 +253,7 @@ module _ (script : Script) (files : Files) (secrets : Secrets)
   pub run_commits : (form : IsFormOfInclusion script) (cuts : List (Option CutAt)) → IsConsistentScript s cuts → (answered : Result (Unit {0}) Fault) (old new added : List Line) (secrets_now : Secrets) (c : Files) → new ≡ old ++ added
       → RunsOver script answered files (at (moment old secrets never) files) (λ f. at (moment new secrets_now f) c)
       → ((epoch share : ℕ) (info : Info) → maps.get secrets.shares epoch ≡ Some share → known_info s epoch ≡ Some info → partial_public_of info.output (me s) ≡ Some (share_public_of share))
-      → (epoch share : ℕ) → Contains added (entry.Committed epoch (Some share)) → Fits s epoch share
+      → (epoch share : ℕ) → Contains added (entry.Committed epoch (Some share)) → FitsCarried s epoch share
   run_commits form cuts consistent answered old new added secrets_now c is run fit epoch share has =
       all_of (Tells (FitsAt s)) adds.added (entry.Committed epoch (Some share)) adds.fits (subst (λ (ls : List Line). Contains ls (entry.Committed epoch (Some share))) (append_cancel_left old added adds.added (sym is ∙ adds.is)) has)
     where

@@ -26,15 +26,15 @@ use Rattle.dkg_types.specs.declared.fault.LocalCause.TheVariants.{OutcomeOmitted
 use Rattle.dkg_types.specs.declared.info.EpochInfo.{EpochInfo}
 use Rattle.dkg_types.specs.declared.participants.Participants.{Participants}
 use Rattle.dkg_types.specs.declared.participants.ParticipantsError.{ParticipantsError}
-use Rattle.dkg_core.specs.Asked.{HasAsked, IsArtifactIn, IsAskStop, IsJobIn, IsResultIn, OfShares, Reads}
+use Rattle.dkg_core.specs.Asked.{HasAsked, IsArtifactIn, IsAskStop, IsJobIn, IsResultIn, OfShares, ReadsShare}
 use Rattle.dkg_core.specs.Behind.{event_of}
 use Rattle.dkg_core.specs.Blocks as b
-use Rattle.dkg_core.specs.Core.{begun, opening, opens_in, step}
+use Rattle.dkg_core.specs.Core.{begun_life, opening, opens_in, step}
 use Rattle.dkg_core.specs.Courses.{Course, Goes, Say, Stops, bind, under}
 use Rattle.dkg_core.specs.Dealing as d
 use Rattle.dkg_core.specs.Endings.{first_epoch, validity}
 use Rattle.dkg_core.specs.Entering as half
-use Rattle.dkg_core.specs.Entering.{delivered}
+use Rattle.dkg_core.specs.Entering.{takes_delivered}
 use Rattle.dkg_core.specs.Fixed.{Fixed, Material, OneShot, has, start}
 use Rattle.dkg_core.specs.Forms.{IsForm, round_for, seed_read, share_read}
 use Rattle.dkg_core.specs.Idle.{IsAskedLine}
@@ -170,7 +170,7 @@ module _ {Dir : Type 0} (c : Fixed Dir) (So : ℕ → Option ℕ → Type 0) whe
 
   -- THE ORCHESTRATOR'S HALF commits nothing
 
-  behind_block : (block : Block Dir) (now : Live Dir) → SaysSo P (unless_once c (bind (delivered c block now) (λ left. half.acked_at block.height left.answer left.live)) (Say (Acked block.height) (Goes now)))
+  behind_block : (block : Block Dir) (now : Live Dir) → SaysSo P (unless_once c (bind (takes_delivered c block now) (λ left. half.acked_at block.height left.answer left.live)) (Say (Acked block.height) (Goes now)))
   behind_block = halves.behind_block c P (λ epoch. tt) tt (λ height. tt)
 
   -- A PEER'S MESSAGE commits nothing
@@ -201,7 +201,7 @@ module _ {Dir : Type 0} (c : Fixed Dir) (So : ℕ → Option ℕ → Type 0) whe
     pub opening_over : SaysOver P (node_opening c) h
     opening_over =
         over_behind P (under Faulted (opening c)) (λ now. unless_once c (kept_material c now) (Goes now)) h
-        (over_under P Faulted (opening c) h (tt, opens (begun (c.seen (opened_held h))))) (halves.behind_opening c P (λ epoch. tt) tt (λ height. tt))
+        (over_under P Faulted (opening c) h (tt, opens (begun_life (c.seen (opened_held h))))) (halves.behind_opening c P (λ epoch. tt) tt (λ height. tt))
 
 -- A BLOCK
 
@@ -210,7 +210,7 @@ abbrev pub IsTakenShare : {Dir : Type 0} → Fixed Dir → OfShares → Block Di
 IsTakenShare c stored block st h epoch share =
     (is_last_height c block.height ≡ true) × IsSomeAnd (info_of block.payload) (λ info. (info.epoch ≡ epoch) × (info.epoch ≡ next_epoch c block) × IsShareTaken c stored st h info share st.participation.stage)
 
-module _ {Dir : Type 0} (c : Fixed Dir) (form : IsFormThrough c) (stored : OfShares) (block : Block Dir) (st : Live Dir) (live : IsLiveThrough c stored st) (held : Held) (reads : Reads c stored (Some held)) where
+module _ {Dir : Type 0} (c : Fixed Dir) (form : IsFormThrough c) (stored : OfShares) (block : Block Dir) (st : Live Dir) (live : IsLiveThrough c stored st) (held : Held) (reads : ReadsShare c stored (Some held)) where
   abbrev Taken : ℕ → Option ℕ → Type 0
   Taken = IsTakenShare c stored block st held
 
@@ -394,7 +394,7 @@ module _ {Dir : Type 0} (c : Fixed Dir) (form : IsFormThrough c) (stored : OfSha
   -- ANY
   pub block_over : SaysOver Q (node_step c (event_of (Finalized block)) st) held
   block_over =
-      over_behind Q (under Faulted (step c (Finalized block) st)) (λ now. unless_once c (bind (delivered c block now) (λ left. half.acked_at block.height left.answer left.live)) (Say (Acked block.height) (Goes now))) held
+      over_behind Q (under Faulted (step c (Finalized block) st)) (λ now. unless_once c (bind (takes_delivered c block now) (λ left. half.acked_at block.height left.answer left.live)) (Say (Acked block.height) (Goes now))) held
       (over_under Q Faulted (step c (Finalized block) st) held
       (judged_is c block st (λ course. SaysOver Q course held) (λ t x y one other. over_if Q held t x y one other) (λ fault is. tt) (λ is. tt) (λ is. applies_over st.participation.stage refl) (λ is. tt)))
       (behind_block c Taken block)

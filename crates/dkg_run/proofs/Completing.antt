@@ -4,7 +4,7 @@ use Rattle.std.specs.Prelude.{IfErr}
 use Rattle.dkg_journal.specs.Gated.{gated, gated_behind}
 use Rattle.dkg_journal.specs.Names.{Files}
 use Rattle.dkg_journal.specs.Opening.{broken}
-use Rattle.dkg_journal.specs.Records.{Entry as Record, entries}
+use Rattle.dkg_journal.specs.Records.{SectionEntry as Record, entries}
 use Rattle.dkg_journal.specs.Views.{views}
 use Rattle.dkg_journal.specs.declared.opening.JournalEntry.{JournalEntry}
 use Rattle.dkg_values.specs.declared.name.Name.{Name}
@@ -25,7 +25,7 @@ use Rattle.dkg_script.proofs.ScriptedCuts.{ends_as_scripted}
 use Rattle.dkg_run.specs.Complete.{IsValidAnyhow, IsValidAsCut, IsValidRun}
 use Rattle.dkg_run.specs.Found.{IsFoundRecord}
 use Rattle.dkg_run.specs.GivesBack.{NamesNoRecord}
-use Rattle.dkg_run.specs.Over.{Standing}
+use Rattle.dkg_run.specs.Over.{DevicesStanding}
 
 -- NO CORRUPT RECORD
 
@@ -63,7 +63,7 @@ unblamed limit files_now image now (Ok done) found fit here = tt
 unblamed limit files_now image now (Err its) found fit here = λ fits. names_none limit files_now now its found (fit fits) here
 
 -- What is valid however it is cut is valid as it was.
-pub valid_as_cut : (script : Script) (entries : List Entry) (before : Standing) → IsValidAnyhow script before → RunsInOrder script entries → IsValidAsCut script entries before
+pub valid_as_cut : (script : Script) (entries : List Entry) (before : DevicesStanding) → IsValidAnyhow script before → RunsInOrder script entries → IsValidAsCut script entries before
 valid_as_cut script entries before valid ordered =
     let s : Setting = setting_of script before.files before.held in
     let ends : List (Option CutAt) = (progress s entries).cuts in

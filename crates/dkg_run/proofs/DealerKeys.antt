@@ -9,7 +9,7 @@ use Rattle.dkg_ceremony.specs.declared.dealer_log.DealerLog.{DealerLog}
 use Rattle.dkg_ceremony.specs.declared.round.RoundParts.{RoundParts as Round}
 use Rattle.dkg_ceremony.specs.declared.signed_log.SignedDealerLog.{SignedDealerLog}
 use Rattle.dkg_types.specs.Blocks as made
-use Rattle.dkg_types.specs.Paths.{counts}
+use Rattle.dkg_types.specs.Paths.{log_counts}
 use Rattle.dkg_types.specs.PayloadCodes.{its_log}
 use Rattle.dkg_types.specs.declared.directory.Unit as directory
 use Rattle.dkg_text.specs.declared.script.BlockLine.{BlockLine}
@@ -81,7 +81,7 @@ module _ (s : Setting) where
       where
         by_log : (b : Block) → chain s height ≡ Some b → (o : Option SignedDealerLog) → b.log ≡ o → counted_at s epoch round height o ≡ Some (dealer, log) → dealer < 2 ^ 32
         by_log b there None carried found = absurd (none_some found)
-        by_log b there (Some signed) carried found = by_test (counts check_log_of (midpoint (blocks_per_epoch s) epoch) (last (blocks_per_epoch s) epoch) round (height, signed)) found
+        by_log b there (Some signed) carried found = by_test (log_counts check_log_of (midpoint (blocks_per_epoch s) epoch) (last (blocks_per_epoch s) epoch) round (height, signed)) found
           where
             by_test : (t : Bool) → ◌≡◌ {A = Option (ℕ × DealerLog)} (if t then Some (signed.dealer, signed.log) else None) (Some (dealer, log)) → dealer < 2 ^ 32
             by_test true found = subst (λ (d : ℕ). d < 2 ^ 32) (ap (λ (p : ℕ × DealerLog). p.0) (some_is found)) (log_small b signed carried height there)

@@ -8,7 +8,7 @@ use Rattle.dkg_values.specs.declared.name.Name.TheVariants.{Flat, Plan}
 use Rattle.dkg_journal.specs.Names.{Files, name_cmp}
 use Rattle.dkg_journal.specs.Opening.{broken, broken_rows, broken_with}
 use Rattle.dkg_journal.specs.Segments.{segment_rows}
-use Rattle.dkg_journal.specs.Records.{Entry, entries}
+use Rattle.dkg_journal.specs.Records.{SectionEntry, entries}
 use Rattle.dkg_journal.specs.Table.{MatchFile, Rows, RowsImage, contents}
 use Rattle.dkg_journal.proofs.Steps.{names_total, exact_names}
 use Rattle.dkg_store.specs.Corrupt.{AreEvents}
@@ -32,7 +32,7 @@ only_these : (c : Files) → RowsImage [] c → c ≡ contents []
 only_these c here = same_map names_total exact_names c (contents []) (λ name. none_there (get c name) (here.each name) ∙ sym (get-empty name_cmp name))
 
 honest : (script : Script) (held : Secrets) → AreHonestStores (setting_of script (contents []) held) (RowsImage [])
-honest script held = record { whole = subst (λ (es : List Entry). IsWhole es held) (sym nothing_there) tt; nothing_loose = record { only = only_these } }
+honest script held = record { whole = subst (λ (es : List SectionEntry). IsWhole es held) (sym nothing_there) tt; nothing_loose = record { only = only_these } }
 
 nothing_broken : broken (contents []) ≡ None
 nothing_broken = ap (λ (o : Option (List ℕ)). broken_with o (contents [])) (get-empty name_cmp Flat) ∙ ap (λ (xs : List (Name × List ℕ)). broken_rows (segment_rows xs)) (no_pairs name_cmp)

@@ -33,7 +33,7 @@ use Rattle.dkg_script.specs.Position.{awaited_before, awaited_epoch, awaited_hei
 use Rattle.dkg_script.specs.Progress.{Progress}
 use Rattle.dkg_script.specs.Setting.{CutAt, Setting, blocks_per_epoch, is_oneshot, life_at, me}
 use Rattle.dkg_store.specs.Acts.{Cause, Ended, Held, World, broken, says, stopped, went}
-use Rattle.dkg_core.specs.Asked.{OfShares, Reads}
+use Rattle.dkg_core.specs.Asked.{OfShares, ReadsShare}
 use Rattle.dkg_core.specs.Behind.{event_of}
 use Rattle.dkg_core.specs.Blocks as b
 use Rattle.dkg_core.specs.Courses.{Course, EndsSo}
@@ -736,7 +736,7 @@ module _ (s : Setting) (ends : List (Option CutAt)) (form : IsFormOfInclusion s.
           by_end (broken cause) (inr quietly) = inr (told_so Never quietly.1.0 quietly.1.1)
 
       -- .. and each share is the one that is taken
-      found : Reads C (SomeAt (e i) (is_some (get w.held.secrets.shares (e i)))) (Some w.held)
+      found : ReadsShare C (SomeAt (e i) (is_some (get w.held.secrets.shares (e i)))) (Some w.held)
       found h epoch same = subst (λ (x : Held). SomeAt (e i) (is_some (get w.held.secrets.shares (e i))) epoch (lookup epoch (C.seen x).shares)) (sym same) (some_read i w.held epoch)
 
       pub shares_told : (block : made.Block U) → m.message ≡ Finalized block → AllByRecursion (Tells (IsTakenShare C (SomeAt (e i) (is_some (get w.held.secrets.shares (e i)))) block st w.held)) added

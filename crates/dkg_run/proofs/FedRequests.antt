@@ -14,7 +14,7 @@ use Rattle.dkg_text.specs.declared.script.Event.TheVariants as event
 use Rattle.dkg_text.specs.declared.script.Life.{Life}
 use Rattle.dkg_text.specs.declared.script.Script.{Script}
 use Rattle.dkg_script.specs.Asked.{AskAnew, IsAskedAnew, fed_to, fed_while_open}
-use Rattle.dkg_run.specs.Asks.{Standing, Unmade, Open, Closed, Cancelled, turns, standing_of, fed_in}
+use Rattle.dkg_run.specs.Asks.{RequestStanding, Unmade, Open, Closed, Cancelled, turns, standing_of, fed_in}
 use Rattle.dkg_run.specs.Given.{blocks_in, numbered}
 use Rattle.dkg_run.proofs.Awaiting.{one_more}
 
@@ -29,17 +29,17 @@ itself a = grind (arith, nat_tests)
 
 module _ (request : ℕ) where
   -- what an event adds to what it was fed, by how it stands
-  abbrev pub adds : Standing → Event → List ℕ
+  abbrev pub adds : RequestStanding → Event → List ℕ
   adds Open (event.Feed number block) = if number == request then block ∷ [] else []
   adds standing _ = []
 
-  abbrev fed_from : Standing → List Event → List ℕ
+  abbrev fed_from : RequestStanding → List Event → List ℕ
   fed_from Unmade events = fed_to request events
   fed_from Open events = fed_while_open request events
   fed_from Closed events = []
   fed_from Cancelled events = []
 
-  first_fed : (standing : Standing) (e : Event) (es : List Event) → fed_from standing (e ∷ es) ≡ adds standing e ++ fed_from (turns request standing e) es
+  first_fed : (standing : RequestStanding) (e : Event) (es : List Event) → fed_from standing (e ∷ es) ≡ adds standing e ++ fed_from (turns request standing e) es
   first_fed Closed e es = closed e
     where
       closed : (e : Event) → [] ≡ adds Closed e ++ fed_from (turns request Closed e) es
@@ -73,13 +73,13 @@ module _ (request : ℕ) where
       by_test false = refl
   first_fed Open other es = refl
 
-  nothing_from : (standing : Standing) → fed_from standing [] ≡ []
+  nothing_from : (standing : RequestStanding) → fed_from standing [] ≡ []
   nothing_from Unmade = refl
   nothing_from Open = refl
   nothing_from Closed = refl
   nothing_from Cancelled = refl
 
-  fed_more_from : (standing : Standing) (es : List Event) (e : Event) → fed_from standing (es ++ e ∷ []) ≡ fed_from standing es ++ adds (fold (turns request) standing es) e
+  fed_more_from : (standing : RequestStanding) (es : List Event) (e : Event) → fed_from standing (es ++ e ∷ []) ≡ fed_from standing es ++ adds (fold (turns request) standing es) e
   fed_more_from standing [] e =
       first_fed standing e [] ∙ ap (λ (xs : List ℕ). adds standing e ++ xs) (nothing_from (turns request standing e)) ∙ append-nil (adds standing e)
       ∙ sym (ap (λ (xs : List ℕ). xs ++ adds standing e) (nothing_from standing))
@@ -156,12 +156,12 @@ made_anew life i request anew there = unmade request (take i life.events) (anew_
 
 pub becomes_open : (life : Life) (i request : ℕ) → AskAnew life.events → slice_get life.events i ≡ Some (event.Info request) → standing_of life request (suc i) ≡ Open
 becomes_open life i request anew there =
-    stands_more request life i (event.Info request) there ∙ ap (λ (s : Standing). turns request s (event.Info request)) (made_anew life i request anew there) ∙ ap (λ (t : Bool). if t then Open else Unmade) (itself request)
+    stands_more request life i (event.Info request) there ∙ ap (λ (s : RequestStanding). turns request s (event.Info request)) (made_anew life i request anew there) ∙ ap (λ (t : Bool). if t then Open else Unmade) (itself request)
 
 pub fed_nothing : (script : Script) (life : Life) (i request : ℕ) → AskAnew life.events → slice_get life.events i ≡ Some (event.Info request) → fed_in script life request (suc i) ≡ []
 fed_nothing script life i request anew there =
     fed_more request life i (event.Info request) there script
-    ∙ ap (λ (s : Standing). fed_in script life request i ++ numbered (blocks_in script) (adds request s (event.Info request))) (made_anew life i request anew there)
+    ∙ ap (λ (s : RequestStanding). fed_in script life request i ++ numbered (blocks_in script) (adds request s (event.Info request))) (made_anew life i request anew there)
     ∙ append-nil (fed_in script life request i) ∙ ap (numbered (blocks_in script)) (unfed request (take i life.events) (anew_at [] life.events i request anew there))
 
 -- What a request is fed grows at its end alone.

@@ -80,7 +80,7 @@ module _ (g : Lived) (here : IsLifeInForm g) where
   seated_few taken standing info share seed st end seated round is =
       let same : seated.round ≡ round = some_is (sym seated.in_round ∙ is) in
       let players : (seated.round).players ≡ info.players = players_are g.script.config.namespace st.participation.epoch (Some info.output) g.script.config.mode _ info.output.players info.players seated.round seated.drawn in
-      subst (λ (r : Round). length r.players ≤ 2 ^ 30) same (low _ _ (ap length players) (within _ _ (Some info.output) info.epoch seated.valid) here.form.few)
+      subst (λ (r : Round). length r.players ≤ 2 ^ 30) same (low _ _ (ap length players) (within _ _ (Some info.output) info.epoch seated.valid) here.form.in_bound)
     where
       low : (xs ys : ℕ) {max : ℕ} → xs ≡ ys → ys ≤ max → max ≤ 2 ^ 30 → xs ≤ 2 ^ 30
       low xs ys is few high = omega (arith, is, few, high)

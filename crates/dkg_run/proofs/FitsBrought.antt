@@ -69,13 +69,13 @@ log_fits : (most : ℕ) (log : DealerLog) → most ≤ 2 ^ 30 → LogFits most l
 log_fits most log few fit = record { one = public; other = entries }
   where
     public : PublicFits no_limit log.public
-    public = record { some = (fit.one).some; few = under (length log.public) most (fit.one).few few; small = (fit.one).small; elements = (fit.one).elements }
+    public = record { some = (fit.one).some; in_bound = under (length log.public) most (fit.one).in_bound few; small = (fit.one).small; elements = (fit.one).elements }
       where
         under : (a b : ℕ) → a ≤ b → b ≤ 2 ^ 30 → a ≤ 2 ^ 32 - 1
         under a b one two = omega (arith, one, two)
 
     entries : EntriesFit no_limit log.entries
-    entries = record { few = under (length log.entries) most (fit.other).few few; small = (fit.other).small; each = (fit.other).each }
+    entries = record { in_bound = under (length log.entries) most (fit.other).in_bound few; small = (fit.other).small; each = (fit.other).each }
       where
         under : (a b : ℕ) → a ≤ b → b ≤ 2 ^ 30 → a ≤ 2 ^ 32 - 1
         under a b one two = omega (arith, one, two)
@@ -98,13 +98,13 @@ module _ (g : Lived) (here : IsLifeInForm g) where
 
   few_at : (n : ℕ) → (at_step g n).limit ≤ 2 ^ 30
   unfolding at_step
-  few_at n = here.form.few
+  few_at n = here.form.in_bound
 
   -- each block's payload is bytes, and its height is one of 64 bits
   module _ (bytes : AreBytes g.script.blocks) (heights : AllByRecursion (λ line. line.height < 2 ^ 64) g.script.blocks) where
     block_brings : (number : ℕ) (made : IsMadeOf g.script number) (log : SignedDealerLog) → option_and_then its_log (made.block).payload ≡ Some log → IsEvent (events.LogAt log.dealer (made.block).height log.log)
     block_brings number made log is =
-        log_event (non_zero_u32_get g.script.config.limit) (made.block).height log here.form.few
+        log_event (non_zero_u32_get g.script.config.limit) (made.block).height log here.form.in_bound
         (subst (λ (h : ℕ). h < 2 ^ 64) (sym made.height) (holds_at (λ (line : BlockLine). line.height < 2 ^ 64) g.script.blocks number made.line heights made.line_is))
         (log_read (non_zero_u32_get g.script.config.limit) g.script.config.max_mode.0 (made.line).payload (holds_at (λ (line : BlockLine). IfSome line.payload IsBytes) g.script.blocks number made.line bytes made.line_is) log
         (ap (λ (o : Option (Payload directory.Unit)). option_and_then its_log o) (sym made.payload) ∙ is))

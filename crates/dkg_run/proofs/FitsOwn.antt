@@ -70,7 +70,7 @@ fits_where round signer share seed few true is =
     most n = omega arith
 
     made : (xs : List ℕ) (count n : ℕ) → n ≤ 2 ^ 30 → length xs ≡ count → 1 ≤ count → count ≤ n + 1 → AllByRecursion (λ e. e < 65521) xs → PublicFits no_limit xs
-    made xs count n few long some high all = record { some = omega (arith, long, some); few = omega (arith, long, high, few); small = omega (arith, long, high, few); elements = all }
+    made xs count n few long some high all = record { some = omega (arith, long, some); in_bound = omega (arith, long, high, few); small = omega (arith, long, high, few); elements = all }
 
 all_fit : (round : Round) (signer : ℕ) (share : Option ℕ) (seed : List ℕ) → length round.players ≤ 2 ^ 30 → IfOk (deal_of round signer share seed) (λ d. PublicFits no_limit d.0)
 unfolding deal_of

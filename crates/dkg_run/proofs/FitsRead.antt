@@ -58,7 +58,7 @@ public_read most bytes xs rest few e =
     let is : length xs ≡ b.0.0 = many.0 in
     let low : 1 ≤ b.0.0 = n.0 in
     let high : b.0.0 ≤ most = n.1 in
-    record { some = omega (arith, is, low); few = omega (arith, is, high, few); small = omega (arith, is, high, few); elements = many.1 }
+    record { some = omega (arith, is, low); in_bound = omega (arith, is, high, few); small = omega (arith, is, high, few); elements = many.1 }
 
 -- what of a message is recorded
 abbrev pub MayBeRecorded : Message → Type 0

@@ -6,7 +6,7 @@ use Rattle.std.specs.List.{AllByRecursion}
 use Rattle.dkg_journal.specs.Burn.{Burn}
 use Rattle.dkg_journal.specs.Names.{Files}
 use Rattle.dkg_journal.specs.Operations.{Journaled}
-use Rattle.dkg_journal.specs.Records.{Entry as Noted}
+use Rattle.dkg_journal.specs.Records.{SectionEntry as Noted}
 use Rattle.dkg_journal.proofs.Order.{Above}
 use Rattle.dkg_secrets.specs.Secrets.{Secrets}
 use Rattle.dkg_types.specs.declared.directory.Unit as directory
@@ -104,7 +104,7 @@ module _ (g : Lived) (here : IsLifeInForm g) (bytes : AreBytes g.script.blocks) 
   -- where a step begins
   record Stands (i : ℕ) (st : Live directory.Unit) (h : Held) : Type 0 where
     at : IsAt g i st
-    few : HasFew st
+    in_bound : HasFew st
     knows : Knows st.records h
     drawn : HasDrawn g.script st
     deals : DealsStored g.script.config.me st h
@@ -116,8 +116,8 @@ module _ (g : Lived) (here : IsLifeInForm g) (bytes : AreBytes g.script.blocks) 
       let dealt = step_deals g here i its is reached st stands.at end (record w { fuse = f }) new goes.0 stands.drawn stands.deals in
       record {
         at = led.1;
-        few = next_few g here (suc i) st end _ (led.0).0 (led.0).1 (live_here by_worlds worlds_lead g here i its is st stands.at) (led.0).2 stands.few;
-        knows = step_knows g here bytes i its is reached st stands.at stands.few (record w { fuse = f }) new stands.knows stands.drawn stands.deals end goes.0;
+        in_bound = next_few g here (suc i) st end _ (led.0).0 (led.0).1 (live_here by_worlds worlds_lead g here i its is st stands.at) (led.0).2 stands.in_bound;
+        knows = step_knows g here bytes i its is reached st stands.at stands.in_bound (record w { fuse = f }) new stands.knows stands.drawn stands.deals end goes.0;
         drawn = dealt.0;
         deals = dealt.1;
       }
@@ -127,7 +127,7 @@ module _ (g : Lived) (here : IsLifeInForm g) (bytes : AreBytes g.script.blocks) 
   takes_show [] i rest before st w new how stands takes = subst (λ (r : Result (Unit {0}) Stop). ShowsStop g.script r new.held) (sym takes.0) tt
   takes_show (its ∷ events) i rest before st w new how stands takes =
       steps_show g.script (step_of g (suc i) its st) (entry.Step (suc i)) (fuse_for g.life.cut (suc i)) w new how (λ end mid. TakesAll by_worlds g (suc i + 1) events end mid how new)
-      (λ f lit own run. step_shows g here bytes i its is (reached_lit g.life.cut (suc i) f lit before) st stands.at stands.few (record w { fuse = f }) new stands.knows stands.drawn stands.deals own run)
+      (λ f lit own run. step_shows g here bytes i its is (reached_lit g.life.cut (suc i) f lit before) st stands.at stands.in_bound (record w { fuse = f }) new stands.knows stands.drawn stands.deals own run)
       (λ f lit end mid goes more. takes_show events (suc i) (rest_at g.life.events i its events rest) (before_suc g.life.cut (suc i) (reached_lit g.life.cut (suc i) f lit before)) end (by_worlds.says mid (entry.Step (suc i))) new how
       (step_stands i its is (reached_lit g.life.cut (suc i) f lit before) st end w mid stands f goes)
       (subst (λ (j : ℕ). TakesAll by_worlds g j events end (by_worlds.says mid (entry.Step (suc i))) how new) (add-one (suc i)) more)) takes
@@ -141,7 +141,7 @@ module _ (g : Lived) (here : IsLifeInForm g) (bytes : AreBytes g.script.blocks) 
     opening_stands st mid f goes =
         let led = opened_at by_worlds worlds_lead g here st f w mid goes in
         let dealt = opening_deals g here st (record w { fuse = f }) mid goes.0 in
-        record { at = led.3; few = begun_few g here led.0 led.1 st led.2; knows = opening_knows g here bytes reads (record w { fuse = f }) mid rising st goes.0; drawn = dealt.0; deals = dealt.1 }
+        record { at = led.3; in_bound = begun_few g here led.0 led.1 st led.2; knows = opening_knows g here bytes reads (record w { fuse = f }) mid rising st goes.0; drawn = dealt.0; deals = dealt.1 }
 
     life_shows : (files : Files) (new : World) (how : Result (Unit {0}) Stop) → LivesSo by_worlds g files w how new → ShowsStop g.script how new.held
     life_shows files new how (inl steps) =

@@ -9,7 +9,7 @@ use Rattle.dkg_ceremony.specs.Dealings.{dealing_of}
 use Rattle.dkg_ceremony.specs.Schedule.{epoch_of}
 use Rattle.dkg_ceremony.specs.declared.round.RoundParts.{RoundParts as Round}
 use Rattle.dkg_journal.specs.Operations.{Journaled, Prunes}
-use Rattle.dkg_journal.specs.Records.{Entry, from_section}
+use Rattle.dkg_journal.specs.Records.{SectionEntry, from_section}
 use Rattle.dkg_journal.proofs.Order.{Above}
 use Rattle.dkg_secrets.specs.Keys.{key_cmp}
 use Rattle.dkg_secrets.specs.Secrets.{Secrets}
@@ -128,7 +128,7 @@ module _ (most : ℕ) (held : Held) where
   -- the same entries and private halves
   same_halves : (w new : World) → notes new.held ≡ notes w.held → new.held.secrets.privates ≡ w.held.secrets.privates → K w → K new
   same_halves w new entries same q key above =
-      ap (λ (es : List Entry). get (recovered es new.held.secrets) key) entries
+      ap (λ (es : List SectionEntry). get (recovered es new.held.secrets) key) entries
       ∙ recovered_at w.held.secrets new.held.secrets key (notes w.held) (ap (λ (m : FinMap key_cmp ℕ). get m key) same) ∙ q key above
 
   commits : {Dir : Type 0} (info : EpochInfo Dir) (seed : List ℕ) (share : Option ℕ) (st : Live Dir) (w : World) → K w → Throughout {Dir = Dir} K (s.commits info seed share st) w
@@ -151,7 +151,7 @@ module _ (most : ℕ) (held : Held) where
   -- entries from a section on, no later than that epoch
   upto : (least : ℕ) → least ≤ most → (w new : World) → notes new.held ≡ from_section least (notes w.held) → ((key : ℕ × ℕ) → most ≤ key.0 → get new.held.secrets.privates key ≡ get w.held.secrets.privates key) → K w → K new
   upto least low w new entries halves q key above =
-      ap (λ (es : List Entry). get (recovered es new.held.secrets) key) entries
+      ap (λ (es : List SectionEntry). get (recovered es new.held.secrets) key) entries
       ∙ recovered_at w.held.secrets new.held.secrets key (from_section least (notes w.held)) (halves key above) ∙ pruned_at least (notes w.held) w.held.secrets key (omega (arith, low, above)) ∙ q key above
 
   prunes : {Dir : Type 0} (min : ℕ) → min ≤ most → (st : Live Dir) (w : World) → K w → Throughout K (s.prunes min st) w
@@ -387,7 +387,7 @@ module _ (g : Lived) (here : IsLifeInForm g) (bytes : AreBytes g.script.blocks) 
 
     limit_is : c.limit ≤ 2 ^ 30
     unfolding at_step
-    limit_is = here.form.few
+    limit_is = here.form.in_bound
 
     rules_are : c.rules ≡ stand_in
     unfolding at_step
@@ -425,7 +425,7 @@ module _ (g : Lived) (here : IsLifeInForm g) (bytes : AreBytes g.script.blocks) 
       Run ended = EndsSo (node_step c (event_of (Finalized block)) st) ended w new
 
       fits : BringsRecords c (Finalized block)
-      fits = block_fits g bytes here.form.placed here.form.few (suc i) number made_it
+      fits = block_fits g bytes here.form.placed here.form.in_bound (suc i) number made_it
 
       -- one that is applied while dealing
       abbrev asked_dealing : List Pair

@@ -100,7 +100,7 @@ module _ (s : Setting) (cuts : List (Option CutAt)) (form : IsFormOfInclusion s.
   pub record IsPassing (j : ℕ) (st : Live directory.Unit) (h : Held) : Type 0 where
     pub at : IsAt g j st
     pub rounds : HasRoundOf s st
-    pub few : HasFew st
+    pub in_bound : HasFew st
     pub agreed : AreAgreed st.records h
     pub passes : PassesAll s (recovered_in h)
 
@@ -124,7 +124,7 @@ module _ (s : Setting) (cuts : List (Option CutAt)) (form : IsFormOfInclusion s.
         record {
           at = begun_at g here ((at_step g 0).seen k) k st led.0;
           rounds = begun_round s cuts form consistent l life seen files life_is ((at_step g 0).seen k) k st led.0;
-          few = begun_few g here ((at_step g 0).seen k) k st led.0;
+          in_bound = begun_few g here ((at_step g 0).seen k) k st led.0;
           agreed = node_openings_agree (at_step g 0) st w new (reads_at 0) pass.0 run;
           passes = (opens_passing (went st) run).1;
         }
@@ -149,7 +149,7 @@ module _ (s : Setting) (cuts : List (Option CutAt)) (form : IsFormOfInclusion s.
     taken = step_taken g its m.message m.brings c st
 
     pub can : CanRecord c st m.message
-    can = record { acks = fits.acks (suc i); dealing = own_fits g here (suc i) st live passing.few; brings = fits.brings i its is m }
+    can = record { acks = fits.acks (suc i); dealing = own_fits g here (suc i) st live passing.in_bound; brings = fits.brings i its is m }
 
     -- one round of an epoch
     same_round : (round other : Round) (epoch : ℕ) → st.participation.round ≡ Some round → epoch ≡ round.number → round_at s epoch ≡ Some other → round ≡ other
@@ -249,7 +249,7 @@ module _ (s : Setting) (cuts : List (Option CutAt)) (form : IsFormOfInclusion s.
         record {
           at = record { live = led.live; active = led.active; stands = step_stands g here i its is reached m st live (passing.at).stands (Some w.held) end (Some new.held) led };
           rounds = step_round s cuts form consistent l life seen files life_is i its is reached m st live (Some w.held) end (Some new.held) (form_at g here (suc i)) led passing.rounds;
-          few = next_few g here (suc i) st end m.message (Some w.held) (Some new.held) live led passing.few;
+          in_bound = next_few g here (suc i) st end m.message (Some w.held) (Some new.held) live led passing.in_bound;
           agreed = node_steps_agree c st end m.message w new passing.agreed can its_run;
           passes = (step_passes (went end) run).1;
         }

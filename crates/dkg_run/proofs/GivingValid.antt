@@ -17,7 +17,7 @@ use Rattle.dkg_run.specs.Epochs.{IsLifeInForm}
 use Rattle.dkg_run.specs.Given.{AreBytes, lived}
 use Rattle.dkg_run.specs.GivesBack.{StaysValid}
 use Rattle.dkg_run.specs.Lives.{RunsOver, never}
-use Rattle.dkg_run.specs.Over.{Standing}
+use Rattle.dkg_run.specs.Over.{DevicesStanding}
 use Rattle.dkg_run.specs.Ways.{by_worlds}
 use Rattle.dkg_run.proofs.FitsBrought.{acks_fit, brings_fit}
 use Rattle.dkg_run.proofs.GivingDealings.{FitsRecords}
@@ -30,7 +30,7 @@ pub stays_valid : (s : Setting) (cuts : List (Option CutAt)) (form : IsFormOfInc
     → (over : (l : ℕ) (life : Life) (seen : Held → Seen) (files : Files) → slice_get s.script.lives l ≡ Some life → by_worlds.reads seen → IsLifeInForm (lived s.script l life seen files))
     → (reads : (seen : Held → Seen) → by_worlds.reads seen → ReadsRecords seen) (secrets : (seen : Held → Seen) → by_worlds.reads seen → ReadsSecrets seen)
     → (bytes : AreBytes s.script.blocks) (heights : AllByRecursion (λ line. line.height < 2 ^ 64) s.script.blocks)
-    → (answered : Result (Unit {0}) Fault) (before now : Standing) (out out_now : List Entry) → before.image before.files
+    → (answered : Result (Unit {0}) Fault) (before now : DevicesStanding) (out out_now : List Entry) → before.image before.files
     → (Stands before.files before.image → (c : Files) → now.image c → RunsOver s.script answered before.files (at (moment out before.held never) before.files) (λ f. at (moment out_now now.held f) c))
     → StaysValid s before now
 stays_valid s cuts form consistent over reads secrets bytes heights answered before now out out_now here run lands valid c left =

@@ -5,7 +5,7 @@ use Rattle.std.specs.List.{AllByRecursion}
 use Rattle.dkg_ceremony.specs.declared.round.RoundParts.{RoundParts as Round}
 use Rattle.dkg_journal.specs.Disk.{Lands}
 use Rattle.dkg_journal.specs.Names.{Files}
-use Rattle.dkg_journal.specs.Records.{Entry, entries}
+use Rattle.dkg_journal.specs.Records.{SectionEntry, entries}
 use Rattle.dkg_secrets.specs.Secrets.{Secrets}
 use Rattle.dkg_types.specs.Blocks.{Block}
 use Rattle.dkg_types.specs.declared.directory.Unit as directory
@@ -41,7 +41,7 @@ use Rattle.dkg_dealing.specs.declared.stop.Stop.{Stop}
 use Rattle.dkg_run.specs.Epochs.{IsAt, IsLifeInForm, any_shares}
 use Rattle.dkg_run.specs.Given.{AreBytes, Lived, at_step, lived, step_of}
 use Rattle.dkg_run.specs.Lives.{LivesSo, RunsOver, RunsSo, never}
-use Rattle.dkg_run.specs.Over.{Standing}
+use Rattle.dkg_run.specs.Over.{DevicesStanding}
 use Rattle.dkg_run.specs.Ways.{by_worlds}
 use Rattle.dkg_run.proofs.Awaiting.{IsReached}
 use Rattle.dkg_run.proofs.FewPlayers.{HasFew, begun_few, next_few, own_fits}
@@ -67,7 +67,7 @@ module _ (g : Lived) (here : IsLifeInForm g) (reads : ReadsRecords g.seen) (byte
   -- memory and devices agree
   record IsWholeAt (j : ℕ) (st : Live directory.Unit) (h : Held) : Type 0 where
     pub at : IsAt g j st
-    pub few : HasFew st
+    pub in_bound : HasFew st
     pub agreed : AreAgreed st.records h
 
   so : (j : ℕ) (st : Live directory.Unit) (h : Held) → IsWholeAt j st h → WholeHeld h
@@ -85,7 +85,7 @@ module _ (g : Lived) (here : IsLifeInForm g) (reads : ReadsRecords g.seen) (byte
       let led : IsNodeBegun (at_step g 0) ((at_step g 0).seen k) k st × LeavesHeld (at_step g 0) k new.held (first_block (at_step g 0)) = node_openings_lead_over (at_step g 0) (went st) w new (form_at g here 0) (lacks_nobody g 0) run in
       record {
         at = begun_at g here ((at_step g 0).seen k) k st led.0;
-        few = begun_few g here ((at_step g 0).seen k) k st led.0;
+        in_bound = begun_few g here ((at_step g 0).seen k) k st led.0;
         agreed = node_openings_agree (at_step g 0) st w new (reads_at 0) whole run;
       }
 
@@ -110,7 +110,7 @@ module _ (g : Lived) (here : IsLifeInForm g) (reads : ReadsRecords g.seen) (byte
     taken = step_taken g its m.message m.brings c st
 
     can : CanRecord c st m.message
-    can = record { acks = acks_fit g here (suc i); dealing = own_fits g here (suc i) st live here_at.few; brings = brings_fit g here bytes heights i its is m }
+    can = record { acks = acks_fit g here (suc i); dealing = own_fits g here (suc i) st live here_at.in_bound; brings = brings_fit g here bytes heights i its is m }
 
     -- A MESSAGE: without a round nothing is done
     module _ (from : ℕ) (sent : List ℕ) (fit : Fits c (from, sent)) (ended : Ended NodeStop (Live directory.Unit)) (run : EndsSo (node_step c (event_of (Sent (Peer from sent))) st) ended w new) where
@@ -156,7 +156,7 @@ module _ (g : Lived) (here : IsLifeInForm g) (reads : ReadsRecords g.seen) (byte
         = node_steps_lead_through_over c any_shares st m.message (went end) w new (through_at g here (suc i)) (lacks_nobody g (suc i)) (λ h epoch found. tt) taken live (here_at.at).active its_run in
         record {
           at = record { live = led.live; active = led.active; stands = step_stands g here i its is reached m st live (here_at.at).stands (Some w.held) end (Some new.held) led };
-          few = next_few g here (suc i) st end m.message (Some w.held) (Some new.held) live led here_at.few;
+          in_bound = next_few g here (suc i) st end m.message (Some w.held) (Some new.held) live led here_at.in_bound;
           agreed = node_steps_agree c st end m.message w new here_at.agreed can its_run;
         }
 
@@ -172,7 +172,7 @@ module _ (g : Lived) (here : IsLifeInForm g) (reads : ReadsRecords g.seen) (byte
       life_holds WholeHeld IsWholeAt so g step_keeps files w new how whole (opening_keeps w.held whole) (λ stop now refused. same_devices w.held now.held refused.2.entries refused.2.secrets whole) lives
     where
       same_devices : (h k : Held) → notes k ≡ notes h → k.secrets ≡ h.secrets → WholeHeld h → WholeHeld k
-      same_devices h k records secrets whole = subst (λ (t : Secrets). IsWhole (notes k) t) (sym secrets) (subst (λ (es : List Entry). IsWhole es h.secrets) (sym records) whole)
+      same_devices h k records secrets whole = subst (λ (t : Secrets). IsWhole (notes k) t) (sym secrets) (subst (λ (es : List SectionEntry). IsWhole es h.secrets) (sym records) whole)
 
 -- A RUN leaves whole devices whole
 pub run_whole : (script : Script) → ((l : ℕ) (life : Life) (seen : Held → Seen) (files : Files) → slice_get script.lives l ≡ Some life → by_worlds.reads seen → IsLifeInForm (lived script l life seen files))
@@ -186,7 +186,7 @@ run_whole script over reads bytes heights first w new answered whole run =
 -- .. so does what a crash may leave behind it, where what a read gave before was one of what a crash might have left
 pub stays_whole : (script : Script) → ((l : ℕ) (life : Life) (seen : Held → Seen) (files : Files) → slice_get script.lives l ≡ Some life → by_worlds.reads seen → IsLifeInForm (lived script l life seen files))
     → ((seen : Held → Seen) → by_worlds.reads seen → ReadsRecords seen) → AreBytes script.blocks → AllByRecursion (λ line. line.height < 2 ^ 64) script.blocks
-    → (answered : Result (Unit {0}) Fault) (before now : Standing) (out out_now : List Line) → before.image before.files
+    → (answered : Result (Unit {0}) Fault) (before now : DevicesStanding) (out out_now : List Line) → before.image before.files
     → (Stands before.files before.image → (c : Files) → now.image c → RunsOver script answered before.files (at (moment out before.held never) before.files) (λ f. at (moment out_now now.held f) c))
     → Lands before.files before.image → IsWhole (entries before.files) before.held → (c : Files) → now.image c → IsWhole (entries c) now.held
 stays_whole script over reads bytes heights answered before now out out_now here run lands whole c left =

@@ -17,7 +17,7 @@ use Rattle.dkg_types.specs.declared.info.EpochInfo.{EpochInfo}
 use Rattle.dkg_types.specs.declared.scheme.SchemeInfo.{SchemeInfo}
 use Rattle.dkg_core.specs.Courses.{Certified, Course, Genesis, Goes, Say, Stops, bind}
 use Rattle.dkg_core.specs.Entering as half
-use Rattle.dkg_core.specs.Entering.{Acknowledges, Half, HalfAnswer, Withholds, active, delivered}
+use Rattle.dkg_core.specs.Entering.{Acknowledges, Half, HalfAnswer, Withholds, active, takes_delivered}
 use Rattle.dkg_core.specs.Fixed.{Fixed, Material}
 use Rattle.dkg_core.specs.Live.{Faulted, Live, NodeStop, Orchestrator, Waiting}
 use Rattle.dkg_core.specs.Node.{kept_material, unless_once}
@@ -79,10 +79,10 @@ module _ {Dir : Type 0} (c : Fixed Dir) (P : Line → Type 0) (entered : (epoch 
       (λ e. so_if P (nat_lt block.height (last c.blocks_per_epoch epoch)) (half.leaves now.orchestrator Acknowledges now) (half.enters_at c block (epoch + 1) (Some block.height) now) (λ e. tt)
       (λ e. enters_at block (epoch + 1) (Some block.height) now))
 
-  pub behind_block : (block : Block Dir) (now : Live Dir) → SaysSo P (unless_once c (bind (delivered c block now) (λ left. half.acked_at block.height left.answer left.live)) (Say (Acked block.height) (Goes now)))
+  pub behind_block : (block : Block Dir) (now : Live Dir) → SaysSo P (unless_once c (bind (takes_delivered c block now) (λ left. half.acked_at block.height left.answer left.live)) (Say (Acked block.height) (Goes now)))
   behind_block block now =
-      so_if P (is_some c.oneshot) (Say (Acked block.height) (Goes now)) (bind (delivered c block now) (λ left. half.acked_at block.height left.answer left.live)) (λ e. (acked block.height, tt))
-      (λ e. so_behind P (delivered c block now) (λ left. half.acked_at block.height left.answer left.live)
+      so_if P (is_some c.oneshot) (Say (Acked block.height) (Goes now)) (bind (takes_delivered c block now) (λ left. half.acked_at block.height left.answer left.live)) (λ e. (acked block.height, tt))
+      (λ e. so_behind P (takes_delivered c block now) (λ left. half.acked_at block.height left.answer left.live)
       (so_behind P (half.asks_again c now) (λ mid. half.delivered_in c block mid (active mid.orchestrator)) (again now) (λ mid. delivers_in block mid (active mid.orchestrator))) (λ left. acks block.height left.answer left.live))
 
   pub behind_mail : (now : Live Dir) → SaysSo P (unless_once c (half.asks_again c now) (Goes now))

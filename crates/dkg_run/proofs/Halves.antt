@@ -25,7 +25,7 @@ use Rattle.dkg_store.specs.Acts.{Acts, Breaks, Cause, Completes, Ended, Faults, 
 use Rattle.dkg_store.proofs.Acts.{breaks_none}
 use Rattle.dkg_core.specs.Courses.{Course, Genesis, Goes, Say, Stops, bind, on_devices}
 use Rattle.dkg_core.specs.Entering as core
-use Rattle.dkg_core.specs.Entering.{Acknowledges, Withholds, acked_at, acked_late, active, asks_again, delivered, delivered_in, enters, enters_at, is_ready, leaves, starts_engine, stops_engine, tracks_peers, wait_for, waited_for}
+use Rattle.dkg_core.specs.Entering.{Acknowledges, Withholds, acked_at, acked_late, active, asks_again, takes_delivered, delivered_in, enters, enters_at, is_ready, leaves, starts_engine, stops_engine, tracks_peers, wait_for, waited_for}
 use Rattle.dkg_core.specs.Fixed.{Fixed}
 use Rattle.dkg_core.specs.Live.{Faulted, Live, NodeStop, Orchestrator, Waiting, with_orchestrator}
 use Rattle.dkg_core.specs.Splitting.{named}
@@ -132,7 +132,7 @@ module _ (c : Fixed directory.Unit) (b : Block directory.Unit) (st : Live direct
   at_waiting waiting = option_map_or (λ w. bind (enters c w st) (acked_late w.block)) waiting (Goes st)
 
   -- it is judged by the epoch of this half
-  in_epoch : (o : Option ℕ) → (if half.halted then None else half.entered) ≡ o → bind (delivered_in c b st o) answers ≡ bind (delivered c b st) answers
+  in_epoch : (o : Option ℕ) → (if half.halted then None else half.entered) ≡ o → bind (delivered_in c b st o) answers ≡ bind (takes_delivered c b st) answers
   in_epoch o is =
       ap (λ (e : Option ℕ). bind (delivered_in c b st e) answers) (sym active_is)
       ∙ ap (λ (w : Option (Waiting directory.Unit)). bind (bind (at_waiting w) (λ now. delivered_in c b now (active now.orchestrator))) answers) (sym has.unawaited)
@@ -148,22 +148,22 @@ module _ (c : Fixed directory.Unit) (b : Block directory.Unit) (st : Live direct
 
   module _ (epoch : ℕ) (is : (if half.halted then None else half.entered) ≡ Some epoch) where
     -- an active one stops
-    pub stops_so : (its : Stop) (out now : List Line) → Speaks (delivered_in c b st (Some epoch)) (by_node_stop its) out now → Speaks (bind (delivered c b st) answers) (by_node_stop its) out now
+    pub stops_so : (its : Stop) (out now : List Line) → Speaks (delivered_in c b st (Some epoch)) (by_node_stop its) out now → Speaks (bind (takes_delivered c b st) answers) (by_node_stop its) out now
     stops_so its out now a =
         subst (λ (x : Course directory.Unit NodeStop (Live directory.Unit)). Speaks x (by_node_stop its) out now) (in_epoch (Some epoch) is) (early_speaks (delivered_in c b st (Some epoch)) answers its out now a)
 
     -- .. or went on, and the block is acknowledged
     acks : (end : Live directory.Unit) (out mid : List Line) → Speaks (delivered_in c b st (Some epoch)) (went (record { live = end; answer = Acknowledges })) out mid
-        → (how : Ended NodeStop (Live directory.Unit)) (now : List Line) → Speaks (says_acked end) how mid now → Speaks (bind (delivered c b st) answers) how out now
+        → (how : Ended NodeStop (Live directory.Unit)) (now : List Line) → Speaks (says_acked end) how mid now → Speaks (bind (takes_delivered c b st) answers) how out now
     acks end out mid a how now more =
         subst (λ (x : Course directory.Unit NodeStop (Live directory.Unit)). Speaks x how out now) (in_epoch (Some epoch) is)
         (then_speaks (delivered_in c b st (Some epoch)) answers (record { live = end; answer = Acknowledges }) how out mid now a more)
 
     module _ (end : Live directory.Unit) (out mid : List Line) (went_on : Speaks (delivered_in c b st (Some epoch)) (went (record { live = end; answer = Acknowledges })) out mid) where
-      pub acks_wanted : (now : List Line) → now ≡ mid → Speaks (bind (delivered c b st) answers) (by_node_stop (stop.Fault NoMemory)) out now
+      pub acks_wanted : (now : List Line) → now ≡ mid → Speaks (bind (takes_delivered c b st) answers) (by_node_stop (stop.Fault NoMemory)) out now
       acks_wanted now same = acks end out mid went_on (by_node_stop (stop.Fault NoMemory)) now (wants_speaks (says_acked end) (stop.Fault NoMemory) refl mid now same)
 
-      pub acks_said : (height : ℕ) → height ≡ b.height → (now : List Line) → now ≡ mid ++ Acked height ∷ [] → Speaks (bind (delivered c b st) answers) (went end) out now
+      pub acks_said : (height : ℕ) → height ≡ b.height → (now : List Line) → now ≡ mid ++ Acked height ∷ [] → Speaks (bind (takes_delivered c b st) answers) (went end) out now
       acks_said height is now told =
           acks end out mid went_on (went end) now (λ h f. (ap (λ (l : List Line). world_of l h f) (told ∙ ap (λ (n : ℕ). mid ++ Acked n ∷ []) is), refl))
 

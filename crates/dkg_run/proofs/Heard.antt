@@ -27,7 +27,7 @@ use Rattle.dkg_store.specs.Acts.{Held, World, Cause, OnDisk, Changes, Tears, End
 use Rattle.dkg_store.specs.Events.{IsEvent, event_spelling}
 use Rattle.dkg_store.specs.declared.event.Event.TheVariants as events
 use Rattle.dkg_secrets.specs.declared.secrets.SecretOp.TheVariants.{PutDealing}
-use Rattle.dkg_store.specs.Pairs.{Pairs, IsWhole, recovered, dealing_of as dealing_of_entry}
+use Rattle.dkg_store.specs.Pairs.{Pairs, IsWhole, recovered, recorded_dealing as dealing_of_entry}
 use Rattle.dkg_store.proofs.Silent.{says_dealing}
 use Rattle.dkg_secrets.specs.Secrets.{Secrets, after as after_change}
 use Rattle.dkg_store.proofs.Acts.{along_runs}
@@ -85,7 +85,7 @@ HasNew epoch dealer public private w new =
 
 module _ (epoch dealer private : ℕ) (public : List ℕ) (w : World) (is_event : IsEvent (events.Dealing dealer public)) (none : get (recovered_in w.held) (epoch, dealer) ≡ None)
     (is_whole : IsWhole (notes w.held) w.held.secrets) where
-  abbrev note : journal.Entry
+  abbrev note : journal.SectionEntry
   note = (epoch, event_spelling (events.Dealing dealer public))
 
   abbrev secrets_then : Secrets
@@ -98,7 +98,7 @@ module _ (epoch dealer private : ℕ) (public : List ℕ) (w : World) (is_event 
   both_put = record_one epoch dealer private public is_event (recovered_in w.held) none w.held.secrets (notes w.held) is_whole refl
 
   -- what the entries and the secrets have, the devices have
-  has_of : (new : World) (es : List journal.Entry) (held : Secrets) → notes new.held ≡ es → new.held.secrets ≡ held → IsWhole es held
+  has_of : (new : World) (es : List journal.SectionEntry) (held : Secrets) → notes new.held ≡ es → new.held.secrets ≡ held → IsWhole es held
       → ((new.out ≡ w.out) × (recovered es held ≡ recovered_in w.held)) ⊎ (recovered es held ≡ insert (recovered_in w.held) (epoch, dealer) (public, private)) → HasNew epoch dealer public private w new
   has_of new es held is_es is_held whole gives = rw (is_es, is_held) (whole, gives)
 
@@ -204,14 +204,14 @@ module _ {Dir : Type 0} (st : Live Dir) (round : Round) (dealer : Dealer) (from 
       aside_if h (is_some (lookup from dealer.acks)) (Goes st) (if is_some (recorded_at st.records.acks round.number from) then Goes (d.counts dealer from ack st) else noted) tt
       (aside_if h (is_some (recorded_at st.records.acks round.number from)) (Goes (d.counts dealer from ack st)) noted tt tt)
 
-  abbrev silent_entry : journal.Entry
+  abbrev silent_entry : journal.SectionEntry
   silent_entry = (round.number, event_spelling (events.Ack from ack))
 
   module _ (w : World) (is : IsEvent (events.Ack from ack)) (is_whole : IsWhole (notes w.held) w.held.secrets) where
     of_silent : dealing_of_entry silent_entry ≡ None
     of_silent = says_dealing round.number (events.Ack from ack) is
 
-    same_of : (new : World) (es : List journal.Entry) → notes new.held ≡ es → new.held.secrets ≡ w.held.secrets → IsWhole es w.held.secrets → recovered es w.held.secrets ≡ recovered_in w.held → IsSameGiven w new
+    same_of : (new : World) (es : List journal.SectionEntry) → notes new.held ≡ es → new.held.secrets ≡ w.held.secrets → IsWhole es w.held.secrets → recovered es w.held.secrets ≡ recovered_in w.held → IsSameGiven w new
     same_of new es is_es is_t its_whole gives = rw (is_es, is_t) (its_whole, gives)
 
     with_note : (new : World) → notes new.held ≡ placed (notes w.held) silent_entry → new.held.secrets ≡ w.held.secrets → IsSameGiven w new

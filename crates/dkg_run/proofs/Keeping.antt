@@ -112,7 +112,7 @@ module _ (s : Setting) (ends : List (Option CutAt)) (built : IsGivenSetting s) (
 
     limit_given : (n : ℕ) → (at_step g n).limit ≤ 2 ^ 30
     unfolding at_step
-    limit_given n = built.form.few
+    limit_given n = built.form.in_bound
 
     brings_given : (i : ℕ) (its : script_event.Event) → slice_get g.life.events i ≡ Some its → (m : IsMessage g its) → BringsRecords (at_step g (suc i)) m.message
     brings_given i its is m = by_event its (event_in_form g here i its is) m.message m.brings
@@ -122,7 +122,7 @@ module _ (s : Setting) (ends : List (Option CutAt)) (built : IsGivenSetting s) (
 
         by_event : (x : script_event.Event) → IsEventIn s.script.blocks x → (message : Message U) → Brings g x message → BringsRecords (at_step g (suc i)) message
         by_event (event.Peer from bytes) form message brings = brought_as message (Sent (Peer from bytes)) brings (message_fits (at_step g (suc i)) from bytes (limit_given (suc i)) form)
-        by_event (event.Final number) form message brings = brought_as message (Finalized (brings.0).block) brings.1 (block_fits g built.bytes built.heights built.form.few (suc i) number brings.0)
+        by_event (event.Final number) form message brings = brought_as message (Finalized (brings.0).block) brings.1 (block_fits g built.bytes built.heights built.form.in_bound (suc i) number brings.0)
         by_event (event.Next request height) form message brings = brought_as message (Sent (NextLog request height)) brings tt
         by_event (event.Release height) form message brings = brought_as message (Sent (ReleaseLog height)) brings tt
         by_event (event.Info request) form message brings = brought_as message (Sent (EpochInfoOf request)) brings tt

@@ -39,7 +39,7 @@ use Rattle.dkg_core.specs.Endings.{CameTo}
 use Rattle.dkg_core.specs.Forms.{Judged, Refusal, Passed, Applied, IsForm, judged_block}
 use Rattle.dkg_core.specs.Heard.{recovered_in}
 use Rattle.dkg_core.specs.Idle.{IsAskedLine, LeavesIdle}
-use Rattle.dkg_core.specs.Laws.{IsOther, IsOwn, IsOffered, reach_of}
+use Rattle.dkg_core.specs.Laws.{IsOther, IsDealtToItself, IsOffered, reach_of}
 use Rattle.dkg_core.specs.NodeThrough.{IsActiveThrough}
 use Rattle.dkg_core.specs.Through.{IsLiveThrough}
 use Rattle.dkg_core.specs.Transcripts.{IfWentTo}
@@ -436,7 +436,7 @@ module _ {Dir : Type 0} (c : Fixed Dir) (b e l : ℕ) (life : Life) (j number : 
   lines_kept (entry.Fault fault ∷ lines) q same fine given older = absurd fine.0.0
   lines_kept (entry.Ack epoch dealer ack ∷ lines) q same fine given older = absurd fine.0.0
   lines_kept (entry.Recorded epoch dealer public private ∷ lines) q same fine given older =
-      let own : IsOwn c st epoch public private = fine.0.0.1 in
+      let own : IsDealtToItself c st epoch public private = fine.0.0.1 in
       let is : epoch ≡ e = own.number ∙ (in_round own.round own.of_epoch).1 in
       let above : b - 1 ≤ epoch = omega (arith, is, current) in
       let there : get m (epoch, dealer) ≡ Some (public, private) = fine.0.1 above in
@@ -496,7 +496,7 @@ module _ {Dir : Type 0} (c : Fixed Dir) (b0 e0 b e l : ℕ) (life : Life) (j num
       one_aside (entry.Step step) fine = absurd fine
       one_aside (entry.Fault fault) fine = absurd fine
       one_aside (entry.Ack epoch dealer ack) fine = absurd fine
-      one_aside (entry.Recorded epoch dealer public private) fine = let own : IsOwn c st epoch public private = fine.1 in absurd (none_some own.round (sym none ∙ own.of_epoch))
+      one_aside (entry.Recorded epoch dealer public private) fine = let own : IsDealtToItself c st epoch public private = fine.1 in absurd (none_some own.round (sym none ∙ own.of_epoch))
       one_aside (entry.Offer epoch player public private) fine = let its : IsOffered c st epoch player public private = fine in absurd (none_some its.round (sym none ∙ its.of_epoch))
       one_aside other fine = tt
 

@@ -16,7 +16,7 @@ use Rattle.dkg_ceremony.specs.declared.round.RoundParts.{RoundParts as Round}
 use Rattle.dkg_ceremony.specs.declared.signed_log.SignedDealerLog.{SignedDealerLog}
 use Rattle.dkg_ceremony.specs.Schedule.{midpoint}
 use Rattle.dkg_journal.specs.Operations.{Appends, Prunes}
-use Rattle.dkg_journal.specs.Records.{Entry, placed}
+use Rattle.dkg_journal.specs.Records.{SectionEntry, placed}
 use Rattle.dkg_journal.proofs.Order.{Above, placed_above}
 use Rattle.dkg_types.specs.Blocks.{Block}
 use Rattle.dkg_types.specs.MessageCodes.{message_at}
@@ -142,7 +142,7 @@ module _ (given : Held) (asked : List Pair) where
   module _ (epoch : ℕ) (h : Held) where
     -- a log more
     module _ (dealer height : ℕ) (log : DealerLog) (is : IsEvent (log_event dealer height log)) where
-      abbrev log_entry : Entry
+      abbrev log_entry : SectionEntry
       log_entry = (epoch, event_spelling (log_event dealer height log))
 
       logged : recovered (placed (notes h) log_entry) h.secrets ≡ recovered_in h
@@ -156,7 +156,7 @@ module _ (given : Held) (asked : List Pair) where
 
     -- an acknowledgement more
     module _ (player : ℕ) (ack : List ℕ) (is : IsEvent (events.Ack player ack)) where
-      abbrev ack_entry : Entry
+      abbrev ack_entry : SectionEntry
       ack_entry = (epoch, event_spelling (events.Ack player ack))
 
       same : recovered (placed (notes h) ack_entry) h.secrets ≡ recovered_in h
@@ -170,7 +170,7 @@ module _ (given : Held) (asked : List Pair) where
 
     -- a dealing more
     module _ (dealer : ℕ) (public : List ℕ) (private : ℕ) (is : IsEvent (events.Dealing dealer public)) (r : Records) (a : Knows r h) where
-      abbrev dealing_entry : Entry
+      abbrev dealing_entry : SectionEntry
       dealing_entry = (epoch, event_spelling (events.Dealing dealer public))
 
       abbrev behind : Held

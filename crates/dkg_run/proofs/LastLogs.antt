@@ -12,7 +12,7 @@ use Rattle.dkg_ceremony.specs.declared.signed_log.SignedDealerLog.{SignedDealerL
 use Rattle.dkg_store.specs.Recorded.{at_epoch, bare_logs, is_reached, reached_logs}
 use Rattle.dkg_store.specs.declared.recorded_log.RecordedLog.{RecordedLog}
 use Rattle.dkg_store.proofs.Epochs.{rising}
-use Rattle.dkg_types.specs.Paths.{counts, logs_from}
+use Rattle.dkg_types.specs.Paths.{log_counts, logs_from}
 use Rattle.dkg_types.specs.declared.directory.Unit as directory
 use Rattle.dkg_script.specs.Blocks.{Block, chain}
 use Rattle.dkg_script.specs.History.{chain_from, chain_logs}
@@ -47,7 +47,7 @@ module _ (s : Setting) (epoch : ℕ) (round : Round) (placed : (height : ℕ) (b
 
   -- the logs that count of some at their heights, each with its dealer
   abbrev counting : List (ℕ × SignedDealerLog) → LogMap
-  counting ps = map (λ p. (p.1.dealer, p.1.log)) (filter (counts check_log_of middle ends round) ps)
+  counting ps = map (λ p. (p.1.dealer, p.1.log)) (filter (log_counts check_log_of middle ends round) ps)
 
   chain_brought : (height count : ℕ) → counting (filter_map log_at (chain_from s height count)) ≡ brought_from (brings_of s epoch round) height count
   chain_brought height zero = refl
@@ -62,9 +62,9 @@ module _ (s : Setting) (epoch : ℕ) (round : Round) (placed : (height : ℕ) (b
       by_signed : (b : Block) (o : Option SignedDealerLog) → b.log ≡ o → b.height ≡ height → counting (filter_map log_at upper) ≡ rest
           → counting (filter_map log_at (b ∷ upper)) ≡ option_to_list (counted_at s epoch round height o) ++ rest
       by_signed b None is at more = rw is more
-      by_signed b (Some signed) is at more = by_test (counts check_log_of middle ends round (height, signed)) refl
+      by_signed b (Some signed) is at more = by_test (log_counts check_log_of middle ends round (height, signed)) refl
         where
-          by_test : (t : Bool) → counts check_log_of middle ends round (height, signed) ≡ t → counting (filter_map log_at (b ∷ upper)) ≡ option_to_list (counted_at s epoch round height (Some signed)) ++ rest
+          by_test : (t : Bool) → log_counts check_log_of middle ends round (height, signed) ≡ t → counting (filter_map log_at (b ∷ upper)) ≡ option_to_list (counted_at s epoch round height (Some signed)) ++ rest
           by_test true counted = rw (is, at, counted) (ap (λ (l : LogMap). (signed.dealer, signed.log) ∷ l) more)
           by_test false counted = rw (is, at, counted) more
 

@@ -10,7 +10,7 @@ use Rattle.std.proofs.lemmas.Bool.Decides.{nat_tests}
 use Rattle.dkg_values.specs.declared.codec.CodecError.{CodecError}
 use Rattle.dkg_values.specs.declared.name.Name.TheVariants.{Flat}
 use Rattle.dkg_journal.specs.Names.{Files}
-use Rattle.dkg_journal.specs.Records.{Entry, bodies, entries, entries_with, from_section, placed}
+use Rattle.dkg_journal.specs.Records.{SectionEntry, bodies, entries, entries_with, from_section, placed}
 use Rattle.dkg_journal.proofs.Order.{Above}
 use Rattle.dkg_journal.proofs.Parted.{flat_above}
 use Rattle.dkg_journal.proofs.Sections.{low_all, rows_above}
@@ -20,7 +20,7 @@ use Rattle.dkg_secrets.proofs.Map.{exact_keys, keys_total}
 use Rattle.dkg_store.specs.Events.{IsEvent, event_at, event_spelling, no_limit}
 use Rattle.dkg_store.specs.declared.event.Event.{Event}
 use Rattle.dkg_store.specs.declared.event.Event.TheVariants as events
-use Rattle.dkg_store.specs.Pairs.{Dealing, Pairs, dealing_in, dealing_of, recovered, with_dealing, with_half}
+use Rattle.dkg_store.specs.Pairs.{Dealing, Pairs, dealing_in_event, recorded_dealing, recovered, with_dealing, with_half}
 use Rattle.dkg_store.specs.Recorded.{Pair, of_epoch}
 use Rattle.dkg_store.proofs.Halves.{recovered_at}
 use Rattle.dkg_store.proofs.Pairs.{dealing_of_event, get_at, get_here, get_other, put, same_key, step}
@@ -29,11 +29,11 @@ use Rattle.dkg_values.specs.Codec.{whole}
 
 -- SECTIONS that rise
 
-lower : (n m : ℕ) (es : List Entry) → n ≤ m → Above m es → Above n es
+lower : (n m : ℕ) (es : List SectionEntry) → n ≤ m → Above m es → Above n es
 lower n m [] low above = tt
 lower n m (e ∷ es) low above = (omega (arith, low, above.0), above.1)
 
-pub above_from : (min n : ℕ) (es : List Entry) → Above n es → Above n (from_section min es)
+pub above_from : (min n : ℕ) (es : List SectionEntry) → Above n es → Above n (from_section min es)
 above_from min n [] above = tt
 above_from min n (e ∷ es) above = elim (nat_le min e.0) as (λ (b : Bool). Above n (cond b (e ∷ from_section min es) (from_section min es))) [
   | true ↦ (above.0, above_from min e.0 es above.1)
@@ -56,7 +56,7 @@ some_is : {A : Type 0} {x y : A} → ◌≡◌ {A = Option A} (Some x) (Some y) 
 some_is e = cc
 
 -- its section is its epoch
-section_of : (epoch : ℕ) (r : Result Event CodecError) (d : Dealing) → dealing_in epoch r ≡ Some d → d.key.0 ≡ epoch
+section_of : (epoch : ℕ) (r : Result Event CodecError) (d : Dealing) → dealing_in_event epoch r ≡ Some d → d.key.0 ≡ epoch
 section_of epoch (Ok (events.Dealing dealer public)) d is = ap (λ (x : Dealing). x.key.0) (sym (some_is is))
 section_of epoch (Ok (events.Ack player ack)) d is = absurd (none_some is)
 section_of epoch (Ok (events.Log dealer log)) d is = absurd (none_some is)
@@ -76,9 +76,9 @@ module _ (s : Secrets) where
   one_at None k m n same = same
   one_at (Some d) k m n same = half_at d (get s.privates d.key) k m n same
 
-  all_at : (es : List Entry) (k : ℕ × ℕ) (m n : Pairs) → get m k ≡ get n k → get (fold (step s) m es) k ≡ get (fold (step s) n es) k
+  all_at : (es : List SectionEntry) (k : ℕ × ℕ) (m n : Pairs) → get m k ≡ get n k → get (fold (step s) m es) k ≡ get (fold (step s) n es) k
   all_at [] k m n same = same
-  all_at (e ∷ es) k m n same = all_at es k (step s m e) (step s n e) (one_at (dealing_of e) k m n same)
+  all_at (e ∷ es) k m n same = all_at es k (step s m e) (step s n e) (one_at (recorded_dealing e) k m n same)
 
   -- .. one of another key gives none of it
   half_else : (d : Dealing) (h : Option ℕ) (k : ℕ × ℕ) (m : Pairs) → k ≢ d.key → get (with_half m d h) k ≡ get m k
@@ -89,23 +89,23 @@ module _ (s : Secrets) where
   else_at k m None apart = refl
   else_at k m (Some d) apart = half_else d (get s.privates d.key) k m (apart d refl)
 
-  module _ (e : Entry) where
-    placed_else : (k : ℕ × ℕ) → ((d : Dealing) → dealing_of e ≡ Some d → k ≢ d.key) → (es : List Entry) (m : Pairs) → get (fold (step s) m (placed es e)) k ≡ get (fold (step s) m es) k
-    placed_else k apart [] m = else_at k m (dealing_of e) apart
+  module _ (e : SectionEntry) where
+    placed_else : (k : ℕ × ℕ) → ((d : Dealing) → recorded_dealing e ≡ Some d → k ≢ d.key) → (es : List SectionEntry) (m : Pairs) → get (fold (step s) m (placed es e)) k ≡ get (fold (step s) m es) k
+    placed_else k apart [] m = else_at k m (recorded_dealing e) apart
     placed_else k apart (x ∷ xs) m = elim (nat_lt e.0 x.0) as (λ (b : Bool). get (fold (step s) m (cond b (e ∷ x ∷ xs) (x ∷ placed xs e))) k ≡ get (fold (step s) m (x ∷ xs)) k) [
-      | true ↦ all_at (x ∷ xs) k (step s m e) m (else_at k m (dealing_of e) apart)
+      | true ↦ all_at (x ∷ xs) k (step s m e) m (else_at k m (recorded_dealing e) apart)
       | false ↦ placed_else k apart xs (step s m x)
     ]
 
     -- .. and so does one of a later section
-    later : (k : ℕ × ℕ) (n : ℕ) (es : List Entry) (m : Pairs) → Above n es → k.0 < n → get (fold (step s) m es) k ≡ get m k
+    later : (k : ℕ × ℕ) (n : ℕ) (es : List SectionEntry) (m : Pairs) → Above n es → k.0 < n → get (fold (step s) m es) k ≡ get m k
     later k n [] m above low = refl
-    later k n (x ∷ es) m above low = later k x.0 es (step s m x) above.1 (omega (arith, low, above.0)) ∙ else_at k m (dealing_of x) (λ d is same. past d is same)
+    later k n (x ∷ es) m above low = later k x.0 es (step s m x) above.1 (omega (arith, low, above.0)) ∙ else_at k m (recorded_dealing x) (λ d is same. past d is same)
       where
-        past : (d : Dealing) → dealing_of x ≡ Some d → k ≡ d.key → ⊥
+        past : (d : Dealing) → recorded_dealing x ≡ Some d → k ≡ d.key → ⊥
         past d is same = let at : k.0 ≡ x.0 = ap (λ (y : ℕ × ℕ). y.0) same ∙ section_of x.0 (whole (event_at no_limit x.1)) d is in omega (arith, at, low, above.0)
 
-    placed_here : (k : ℕ × ℕ) (v : List ℕ × ℕ) → k.0 ≡ e.0 → ((m : Pairs) → get (step s m e) k ≡ Some v) → (es : List Entry) (n : ℕ) (m : Pairs) → Above n es → get (fold (step s) m (placed es e)) k ≡ Some v
+    placed_here : (k : ℕ × ℕ) (v : List ℕ × ℕ) → k.0 ≡ e.0 → ((m : Pairs) → get (step s m e) k ≡ Some v) → (es : List SectionEntry) (n : ℕ) (m : Pairs) → Above n es → get (fold (step s) m (placed es e)) k ≡ Some v
     placed_here k v at puts [] n m above = puts m
     placed_here k v at puts (x ∷ xs) n m above = elim (nat_lt e.0 x.0) as (λ (b : Bool). nat_lt e.0 x.0 ≡ b → get (fold (step s) m (cond b (e ∷ x ∷ xs) (x ∷ placed xs e))) k ≡ Some v) [
       | true ↦ λ t. later k x.0 (x ∷ xs) (step s m e) (itself x.0, above.1) (under k.0 e.0 x.0 at t) ∙ puts m
@@ -120,7 +120,7 @@ module _ (s : Secrets) where
 
 -- A DEALING that is recorded, its private half before
 
-pub recorded_later : (epoch dealer private : ℕ) (public : List ℕ) → IsEvent (events.Dealing dealer public) → (held : Secrets) (es : List Entry) → Above 0 es
+pub recorded_later : (epoch dealer private : ℕ) (public : List ℕ) → IsEvent (events.Dealing dealer public) → (held : Secrets) (es : List SectionEntry) → Above 0 es
     → recovered (placed es (epoch, event_spelling (events.Dealing dealer public))) (put held (epoch, dealer) private) ≡ insert (recovered es held) (epoch, dealer) (public, private)
 recorded_later epoch dealer private public is_event held es above = same_map keys_total exact_keys _ _ (λ k. elim (same_key k (epoch, dealer)) [
   | inl is ↦ ap (get (recovered (placed es e) now)) is ∙ placed_here now e (epoch, dealer) (public, private) refl puts es 0 empty above ∙ sym (get_at (recovered es held) (epoch, dealer) k (public, private) is)
@@ -128,7 +128,7 @@ recorded_later epoch dealer private public is_event held es above = same_map key
       ∙ recovered_at held now k es (get_other held.privates (epoch, dealer) k private apart) ∙ sym (get_other (recovered es held) (epoch, dealer) k (public, private) apart)
 ])
   where
-    e : Entry
+    e : SectionEntry
     e = (epoch, event_spelling (events.Dealing dealer public))
 
     now : Secrets
@@ -137,7 +137,7 @@ recorded_later epoch dealer private public is_event held es above = same_map key
     d : Dealing
     d = record { key = (epoch, dealer); public = public }
 
-    its : dealing_of e ≡ Some d
+    its : recorded_dealing e ≡ Some d
     its = dealing_of_event epoch dealer public is_event
 
     puts : (m : Pairs) → get (step now m e) (epoch, dealer) ≡ Some (public, private)
@@ -150,7 +150,7 @@ cond_same : {A : Type 0} (t : Bool) (x y : Option A) → (t ≡ true → x ≡ y
 cond_same true x y same = same refl
 cond_same false x y same = refl
 
-pub pruned_later : (min : ℕ) (s t : Secrets) → ((k : ℕ × ℕ) → min ≤ k.0 → get t.privates k ≡ get s.privates k) → (es : List Entry) → recovered (from_section min es) t ≡ retain_keys (recovered es s) (λ k. nat_le min k.0)
+pub pruned_later : (min : ℕ) (s t : Secrets) → ((k : ℕ × ℕ) → min ≤ k.0 → get t.privates k ≡ get s.privates k) → (es : List SectionEntry) → recovered (from_section min es) t ≡ retain_keys (recovered es s) (λ k. nat_le min k.0)
 pruned_later min s t halves es =
     recovered_from min es t
     ∙ same_map keys_total exact_keys (retain_keys (recovered es t) kept) (retain_keys (recovered es s) kept) (λ k.

@@ -51,7 +51,7 @@ use Rattle.dkg_run.specs.Blamed.{per_epoch}
 use Rattle.dkg_run.specs.Ended.{by_node_stop}
 use Rattle.dkg_run.specs.Epochs.{IsChecked, IsLifeInForm, any_shares, awaited_by, epoch_by}
 use Rattle.dkg_run.specs.Given.{Lived, at_step, lived, step_of}
-use Rattle.dkg_run.specs.Leaves.{IsOldest, IsOpen, LeavesNone, LeavesSo, NeedsBlocks, Verifies}
+use Rattle.dkg_run.specs.Leaves.{IsOldest, IsOpenRequest, LeavesNone, LeavesSo, NeedsBlocks, Verifies}
 use Rattle.dkg_run.specs.Lives.{AnyFiles, EndsLife, LivesFrom, LivesSo, RunsAllSo, RunsSo, Steps, TakesAll, TellsEnd, fuse_for}
 use Rattle.dkg_run.specs.Ways.{ReadsSomething, Trace, by_lines}
 use Rattle.dkg_run.proofs.Accounting.{IsAnsweredIn, IsWaiting, none_in}
@@ -91,7 +91,7 @@ module _ (g : Lived) (here : IsLifeInForm g) (j : ℕ) (st : Live U) (said : Lis
   live : IsLiveThrough (at_step g j) any_shares st
   live = ((known.stood).at).live
 
-  module _ (takes : follows (alone g.script) g.number g.life e ≡ false) (late : midpoint (per_epoch g.script) e ≤ awaited_by g j) (request : ℕ) (its : IsOpen g.life j said request) where
+  module _ (takes : follows (alone g.script) g.number g.life e ≡ false) (late : midpoint (per_epoch g.script) e ≤ awaited_by g j) (request : ℕ) (its : IsOpenRequest g.life j said request) where
     apart : st.participation.stage ≡ Follows → ⊥
     apart follows = let no : ◌≡◌ {A = Bool} true false = sym (((known.stood).at).stands.blind follows) ∙ takes in cc
 
@@ -148,12 +148,12 @@ module _ (g : Lived) (here : IsLifeInForm g) (j : ℕ) (st : Live U) (said : Lis
             itself : (a b : ℕ) → a ≡ b → a ≤ b
             itself a b same = omega (arith, same)
 
-            earlier : (other : ℕ) (one_open : IsOpen g.life j said other) (x : Request U) → x.number ≡ other → IsAmong x (r ∷ rs) → order.0 ≤ one_open.at
+            earlier : (other : ℕ) (one_open : IsOpenRequest g.life j said other) (x : Request U) → x.number ≡ other → IsAmong x (r ∷ rs) → order.0 ≤ one_open.at
             earlier other one_open x same (inl is) =
                 itself (order.0) one_open.at (made_once g here one_open.at (order.0) other one_open.made (order.3 ∙ ap (λ (k : ℕ). Some (event.Info k)) (ap (λ (y : Request U). y.number) is ∙ same)))
             earlier other one_open x same (inr rest) = order_first g j (order.0) other one_open.at rs (λ k made. made_once g here one_open.at k other one_open.made made) (order.4) x rest same
 
-            by_waiting : (other : ℕ) (one_open : IsOpen g.life j said other) → IsWaiting other st.inclusion ⊎ IsAnsweredIn other said → one.at ≤ one_open.at
+            by_waiting : (other : ℕ) (one_open : IsOpenRequest g.life j said other) → IsWaiting other st.inclusion ⊎ IsAnsweredIn other said → one.at ≤ one_open.at
             by_waiting other one_open (inr (answer, among)) = absurd (one_open.unanswered answer among)
             by_waiting other one_open (inl (inr waits)) = absurd (none_some (sym none ∙ waits))
             by_waiting other one_open (inl (inl (x, among, same))) =
@@ -194,7 +194,7 @@ module _ (g : Lived) (here : IsLifeInForm g) (j : ℕ) (st : Live U) (said : Lis
         by_round (Some round) of = by_running round of st.inclusion.running refl waiting
 
   -- A LIFE THAT FOLLOWS answers at once.
-  module _ (follows_it : follows (alone g.script) g.number g.life e ≡ true) (request : ℕ) (its : IsOpen g.life j said request) where
+  module _ (follows_it : follows (alone g.script) g.number g.life e ≡ true) (request : ℕ) (its : IsOpenRequest g.life j said request) where
     none_waits : st.participation.stage ≡ Follows → IsWaiting request st.inclusion → ⊥
     none_waits stage (inl (x, among, same)) = subst (IsAmong x) (live.asked.has.none stage) among
     none_waits stage (inr waits) = none_some (sym (live.asked.has.waits (live.asked.has.early (λ includes. let no : ◌≡◌ {A = Stage} Follows Includes = sym stage ∙ includes in cc)).0) ∙ waits)

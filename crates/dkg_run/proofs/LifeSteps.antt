@@ -149,7 +149,7 @@ module _ (s : Setting) (ends : List (Option CutAt)) (l : ℕ) (life : Life) (see
       pub carries : CarriesAt (c i) (b i) (e i) l st h s p
       pub at : IsAt g i st
       pub of_round : HasRoundOf s st
-      pub few : HasFew st
+      pub in_bound : HasFew st
       pub plays : marks → PlaysWhere s st
       pub logs : marks → LogsKnown s (b i) p.recorded (logs_in (notes h))
 
@@ -195,14 +195,14 @@ module _ (s : Setting) (ends : List (Option CutAt)) (l : ℕ) (life : Life) (see
       taken = step_taken g its m.message m.brings (c (suc i)) st
 
       can : CanRecord (c (suc i)) st m.message
-      can = record { acks = meant.acks (suc i); dealing = own_fits g here (suc i) st live going.few; brings = meant.brings i its is m }
+      can = record { acks = meant.acks (suc i); dealing = own_fits g here (suc i) st live going.in_bound; brings = meant.brings i its is m }
 
       -- the life that it goes to
       pub record IsFollowed (end : Live U) : Type 0 where
         pub through : IsNodeThrough (c (suc i)) any_shares st m.message (Some w.held) end (Some new.held)
         pub at : IsAt g (suc i) end
         pub of_round : HasRoundOf s end
-        pub few : HasFew end
+        pub in_bound : HasFew end
 
       followed : IfWentTo ended IsFollowed
       followed = by_end ended run
@@ -214,7 +214,7 @@ module _ (s : Setting) (ends : List (Option CutAt)) (l : ℕ) (life : Life) (see
                 through = led;
                 at = record { live = led.live; active = led.active; stands = step_stands g here i its is reached m st live going.at.stands (Some w.held) end (Some new.held) led };
                 of_round = step_round s ends here.form meant.consistent l life seen files life_is i its is reached m st live (Some w.held) end (Some new.held) (form_at g here (suc i)) led going.of_round;
-                few = next_few g here (suc i) st end m.message (Some w.held) (Some new.held) live led going.few;
+                in_bound = next_few g here (suc i) st end m.message (Some w.held) (Some new.held) live led going.in_bound;
               }
           by_end (stopped stop) run = tt
           by_end (broken cause) run = tt
@@ -293,7 +293,7 @@ module _ (s : Setting) (ends : List (Option CutAt)) (l : ℕ) (life : Life) (see
               carries = so.0;
               at = its_end.at;
               of_round = its_end.of_round;
-              few = its_end.few;
+              in_bound = its_end.in_bound;
               plays = λ known. plays_then end same its_end q known.0 left.saved.gives (logs known.0 known.1);
               logs = λ known. logs known.0 known.1;
             },
@@ -608,7 +608,7 @@ module _ (s : Setting) (ends : List (Option CutAt)) (l : ℕ) (life : Life) (see
         pub begun_so : IsNodeBegun (c 0) read k end
         pub at : IsAt g 0 end
         pub of_round : HasRoundOf s end
-        pub few : HasFew end
+        pub in_bound : HasFew end
         pub agreed : AreAgreed end.records new.held
 
       opens_to : IfWentTo ended IsBegun
@@ -624,7 +624,7 @@ module _ (s : Setting) (ends : List (Option CutAt)) (l : ℕ) (life : Life) (see
                 begun_so = led;
                 at = record { live = lives.0; active = lives.1; stands = begun_stands g here ((c 0).seen (held_behind (c 0) w.held)) (held_behind (c 0) w.held) end led };
                 of_round = begun_round s ends here.form meant.consistent l life seen files life_is ((c 0).seen (held_behind (c 0) w.held)) (held_behind (c 0) w.held) end led;
-                few = begun_few g here ((c 0).seen (held_behind (c 0) w.held)) (held_behind (c 0) w.held) end led;
+                in_bound = begun_few g here ((c 0).seen (held_behind (c 0) w.held)) (held_behind (c 0) w.held) end led;
                 agreed = node_openings_agree (c 0) end w new reads rests.whole run;
               }
           by_end (stopped stop) run = tt
@@ -674,7 +674,7 @@ module _ (s : Setting) (ends : List (Option CutAt)) (l : ℕ) (life : Life) (see
             carries = carries;
             at = its.at;
             of_round = its.of_round;
-            few = its.few;
+            in_bound = its.in_bound;
             plays = λ known. begun_plays s l life seen files its.read its.k end its.begun_so new.held its.agreed q.recorded
                 (λ round there. holds 0 new.held q round.number (subst (λ (x : ℕ). b 0 < x + 2) (sym (number_is 0 end its.at its.of_round round there)) (is_current s reshares l life life_is cuts some never_back 0)) left.saved.gives
                 (logs_opened q left.grown known)) its.of_round;

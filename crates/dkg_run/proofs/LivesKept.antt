@@ -15,7 +15,7 @@ use Rattle.dkg_text.specs.declared.script.Cut as cut
 use Rattle.dkg_text.specs.declared.script.Event as script
 use Rattle.dkg_text.specs.declared.script.Life.{Life}
 use Rattle.dkg_store.specs.Acts.{Held, World, by_cut, Ended, went, broken, notes, says}
-use Rattle.dkg_journal.specs.Records.{Entry as Note}
+use Rattle.dkg_journal.specs.Records.{SectionEntry as Note}
 use Rattle.dkg_store.specs.Noted.{Notes, logs_in}
 use Rattle.dkg_store.specs.declared.recorded_log.RecordedLog.{RecordedLog}
 use Rattle.dkg_store.specs.Pairs.{IsWhole}
@@ -272,7 +272,7 @@ module _ (s : Setting) (ends : List (Option CutAt)) (l : ℕ) (life : Life) (see
       };
       at = going.at;
       of_round = going.of_round;
-      few = going.few;
+      in_bound = going.in_bound;
       plays = λ known. going.plays (before known);
       logs = λ known. subst (λ (pairs : List Restored). LogsKnown s (b i) pairs (logs_in (notes h))) (sym (step_recorded s l life cuts j q life_is lives step cuts_are)) (going.logs (before known));
     }

@@ -19,7 +19,7 @@ use Rattle.dkg_script.specs.Readings.{Limits, unit_payload}
 use Rattle.dkg_store.specs.Events.{no_limit}
 use Rattle.dkg_core.specs.Agreeing.{BringsRecords}
 use Rattle.dkg_core.specs.Live.{Finalized}
-use Rattle.dkg_reshare.specs.Carried.{CarriesWithin}
+use Rattle.dkg_reshare.specs.CarriedLogs.{CarriesWithin}
 use Rattle.dkg_run.specs.Given.{AreBytes, Lived, at_step, payload_in}
 use Rattle.dkg_run.proofs.Former.{IsMadeOf}
 use Rattle.dkg_run.proofs.Living.{holds_at}
@@ -33,8 +33,8 @@ none_some x e = cc
 -- a log within a limit is within none
 no_more : (most : ℕ) (log : DealerLog) → most ≤ 2 ^ 30 → LogFits most log → LogFits no_limit log
 no_more most log low fits = record {
-  one = record { some = fits.one.some; few = public (length log.public) fits.one.few; small = fits.one.small; elements = fits.one.elements };
-  other = record { few = public (length log.entries) fits.other.few; small = fits.other.small; each = fits.other.each };
+  one = record { some = fits.one.some; in_bound = public (length log.public) fits.one.in_bound; small = fits.one.small; elements = fits.one.elements };
+  other = record { in_bound = public (length log.entries) fits.other.in_bound; small = fits.other.small; each = fits.other.each };
 }
   where
     public : (n : ℕ) → n ≤ most → n ≤ no_limit

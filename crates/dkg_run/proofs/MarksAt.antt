@@ -10,7 +10,7 @@ use Rattle.dkg_ceremony.specs.Finishes.{has_public}
 use Rattle.dkg_ceremony.specs.ValidLogs.{bears_ack_of}
 use Rattle.dkg_ceremony.specs.declared.dealer_log.DealerLog.{DealerLog}
 use Rattle.dkg_ceremony.specs.declared.round.RoundParts.{RoundParts as Round}
-use Rattle.dkg_journal.specs.Records.{Entry, entries}
+use Rattle.dkg_journal.specs.Records.{SectionEntry, entries}
 use Rattle.dkg_secrets.specs.Keys.{key_cmp}
 use Rattle.dkg_store.specs.Noted.{Note, Notes, logs_in, noted_log, with_note}
 use Rattle.dkg_store.specs.Pairs.{Pairs}
@@ -32,7 +32,7 @@ use Rattle.dkg_run.proofs.Currently.{found_current}
 
 -- WHAT HOLDS OF EACH RECORD holds of each that is found
 
-module _ {V : Type 0} (note_of : Entry → Option (Note V)) (Q : ℕ × ℕ → V → Type 0) where
+module _ {V : Type 0} (note_of : SectionEntry → Option (Note V)) (Q : ℕ × ℕ → V → Type 0) where
   abbrev Found : Notes V → Type 0
   Found m = (key : ℕ × ℕ) (v : V) → get m key ≡ Some v → Q key v
 
@@ -46,7 +46,7 @@ module _ {V : Type 0} (note_of : Entry → Option (Note V)) (Q : ℕ × ℕ → 
     | inr apart ↦ before key v (sym (get_other m note.0 key note.1 apart) ∙ found)
   ]
 
-  all_found : (es : List Entry) (m : Notes V) → AllByRecursion (λ e. IfSome (note_of e) (λ note. Q note.0 note.1)) es → Found m → Found (fold (λ m e. with_note m (note_of e)) m es)
+  all_found : (es : List SectionEntry) (m : Notes V) → AllByRecursion (λ e. IfSome (note_of e) (λ note. Q note.0 note.1)) es → Found m → Found (fold (λ m e. with_note m (note_of e)) m es)
   all_found [] m all before = before
   all_found (e ∷ es) m all before = all_found es (with_note m (note_of e)) all.1 (with_one m (note_of e) all.0 before)
 

@@ -11,7 +11,7 @@ use Rattle.dkg_values.specs.Rising.{lookup}
 use Rattle.dkg_ceremony.specs.declared.ceremony.AckError.{AckError}
 use Rattle.dkg_ceremony.specs.declared.round.RoundParts.{RoundParts as Round}
 use Rattle.dkg_journal.specs.Operations.{Appends, Prunes, Journaled}
-use Rattle.dkg_journal.specs.Records.{Entry, placed, from_section}
+use Rattle.dkg_journal.specs.Records.{SectionEntry, placed, from_section}
 use Rattle.dkg_secrets.proofs.Map.{exact_keys, below_or}
 use Rattle.dkg_secrets.proofs.Tried.{all_done}
 use Rattle.dkg_secrets.specs.Keys.{key_cmp}
@@ -29,7 +29,7 @@ use Rattle.dkg_store.specs.Acts.{World, OnDisk, Changes, says, does, notes, Caus
 use Rattle.dkg_store.specs.Events.{event_spelling, IsEvent}
 use Rattle.dkg_store.specs.declared.event.Event.{Event}
 use Rattle.dkg_store.specs.declared.event.Event.TheVariants as events
-use Rattle.dkg_store.specs.Pairs.{Pairs, IsWhole, recovered, dealing_of, dealing_in}
+use Rattle.dkg_store.specs.Pairs.{Pairs, IsWhole, recovered, recorded_dealing, dealing_in_event}
 use Rattle.dkg_store.proofs.Halves.{recovered_at, prune_halves, share_halves, seed_halves}
 use Rattle.dkg_store.proofs.Pairs.{record_one, put_one, same_key, get_at, get_other}
 use Rattle.dkg_store.proofs.Pruned.{recovered_from}
@@ -68,7 +68,7 @@ inserted m at v key pair got = elim (same_key key at) [
 ]
 
 -- a prune takes away alone
-pub pruned_before : (min : ℕ) (es : List Entry) (t : Secrets) (key : ℕ × ℕ) (pair : List ℕ × ℕ) → get (recovered (from_section min es) t) key ≡ Some pair → (min ≤ key.0) × (get (recovered es t) key ≡ Some pair)
+pub pruned_before : (min : ℕ) (es : List SectionEntry) (t : Secrets) (key : ℕ × ℕ) (pair : List ℕ × ℕ) → get (recovered (from_section min es) t) key ≡ Some pair → (min ≤ key.0) × (get (recovered es t) key ≡ Some pair)
 pruned_before min es t key pair got = elim (below_or min key.0) [
   | inl below ↦ absurd (none_some pair (sym (at_key ∙ ap (λ (b : Bool). cond b (get (recovered es t) key) None) below.1) ∙ got))
   | inr above ↦ (above.0, sym (at_key ∙ ap (λ (b : Bool). cond b (get (recovered es t) key) None) above.1) ∙ got)
@@ -91,11 +91,11 @@ module _ (m0 : Pairs) (own : ℕ × ℕ → List ℕ × ℕ → Type 0) where
   abbrev Q : World → Type 0
   Q w = IsNoOther w
 
-  over : (w new : World) (es : List Entry) (t : Secrets) → notes new.held ≡ es → new.held.secrets ≡ t → IsWhole es t
+  over : (w new : World) (es : List SectionEntry) (t : Secrets) → notes new.held ≡ es → new.held.secrets ≡ t → IsWhole es t
       → ((key : ℕ × ℕ) (pair : List ℕ × ℕ) → get (recovered es t) key ≡ Some pair → (get (recovered_in w.held) key ≡ Some pair) ⊎ own key pair) → Q w → Q new
   over w new es t is_es is_t whole gives q = record {
-    whole = subst (λ (x : List Entry). IsWhole x new.held.secrets) (sym is_es) (subst (λ (x : Secrets). IsWhole es x) (sym is_t) whole);
-    gives = λ key pair got. elim (gives key pair (sym (ap (λ (x : List Entry). get (recovered x new.held.secrets) key) is_es ∙ ap (λ (x : Secrets). get (recovered es x) key) is_t) ∙ got)) [
+    whole = subst (λ (x : List SectionEntry). IsWhole x new.held.secrets) (sym is_es) (subst (λ (x : Secrets). IsWhole es x) (sym is_t) whole);
+    gives = λ key pair got. elim (gives key pair (sym (ap (λ (x : List SectionEntry). get (recovered x new.held.secrets) key) is_es ∙ ap (λ (x : Secrets). get (recovered es x) key) is_t) ∙ got)) [
       | inl was ↦ q.gives key pair was
       | inr its ↦ inr its
     ];
@@ -170,11 +170,11 @@ module _ (m0 : Pairs) (own : ℕ × ℕ → List ℕ × ℕ → Type 0) where
 
   -- A RECORD OF NO DEALING
 
-  module _ (epoch : ℕ) (event : Event) (is_event : IsEvent event) (silent : dealing_in epoch (Ok event) ≡ None) where
-    abbrev entry : Entry
+  module _ (epoch : ℕ) (event : Event) (is_event : IsEvent event) (silent : dealing_in_event epoch (Ok event) ≡ None) where
+    abbrev entry : SectionEntry
     entry = (epoch, event_spelling event)
 
-    of_none : dealing_of entry ≡ None
+    of_none : recorded_dealing entry ≡ None
     of_none = says_dealing epoch event is_event ∙ silent
 
     silent_over : (w new : World) → notes new.held ≡ placed (notes w.held) entry → new.held.secrets ≡ w.held.secrets → Q w → Q new
@@ -195,7 +195,7 @@ module _ (m0 : Pairs) (own : ℕ × ℕ → List ℕ × ℕ → Type 0) where
 
   module _ (epoch dealer : ℕ) (public : List ℕ) (private : ℕ) (is_event : IsEvent (events.Dealing dealer public)) (w : World) (fresh : get (recovered_in w.held) (epoch, dealer) ≡ None)
       (its_own : own (epoch, dealer) (public, private)) (q : Q w) where
-    abbrev its_entry : Entry
+    abbrev its_entry : SectionEntry
     its_entry = (epoch, event_spelling (events.Dealing dealer public))
 
     abbrev with_half : Secrets
@@ -347,7 +347,7 @@ module _ {Dir : Type 0} (c : Fixed Dir) (m0 : Pairs) (own : ℕ × ℕ → List 
   takes_end : (epoch : ℕ) (dealer : Dealer) (player : ℕ) (ack : List ℕ) (st : Live Dir) (w : World) → IsEvent (events.Ack player ack) → G w → AtEnd G (d.takes_ack epoch dealer player ack st) w
   takes_end epoch dealer player ack st w is t =
       let noted : Course Dir Fault (Live Dir) = d.appends epoch (events.Ack player ack) (Goes (d.counts dealer player ack (d.with_ack epoch player ack st))) in
-      let entry : Entry = (epoch, event_spelling (events.Ack player ack)) in
+      let entry : SectionEntry = (epoch, event_spelling (events.Ack player ack)) in
       end_if G w (is_some (lookup player dealer.acks)) (Goes st) (if is_some (recorded_at st.records.acks epoch player) then Goes (d.counts dealer player ack st) else noted) (λ e. t)
       (λ e. end_if G w (is_some (recorded_at st.records.acks epoch player)) (Goes (d.counts dealer player ack st)) noted (λ e. t)
       (λ e. tells_same m0 base w (does w (OnDisk (Appends entry))) refl
@@ -401,7 +401,7 @@ module _ {Dir : Type 0} (c : Fixed Dir) (m0 : Pairs) (own : ℕ × ℕ → List 
           end_if G w (bytes_eq pair.0 public) (d.own_ack c round public st) (Stops (LocalState (OwnDealing round.number pair.0 public))) (λ e. own_end round public st w t) (λ e. tt)
       itself_end private st None w none a t =
           let fresh = fresh_at st w a none in
-          let entry : Entry = (round.number, event_spelling (events.Dealing c.me public)) in
+          let entry : SectionEntry = (round.number, event_spelling (events.Dealing c.me public)) in
           let line : Line = Recorded round.number c.me public private in
           let behind : World = says (does (does w (Changes (PutDealing round.number c.me private))) (OnDisk (Appends entry))) line in
           let both = record_one round.number c.me private public is (recovered_in w.held) fresh w.held.secrets (notes w.held) a.whole refl in

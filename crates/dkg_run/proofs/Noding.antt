@@ -41,7 +41,7 @@ use Rattle.dkg_text.specs.declared.script.ScriptConfig.{ScriptConfig}
 use Rattle.dkg_script.specs.Players.{players_at}
 use Rattle.dkg_core.specs.Core.{no_inclusion, no_orchestrator, no_probe, step}
 use Rattle.dkg_core.specs.Courses.{Course, Goes, Say, bind, on_devices}
-use Rattle.dkg_core.specs.Entering.{acked_at, acked_late, asks_again, delivered, enters, is_ready}
+use Rattle.dkg_core.specs.Entering.{acked_at, acked_late, asks_again, takes_delivered, enters, is_ready}
 use Rattle.dkg_core.specs.Fixed.{Fixed, OneShot}
 use Rattle.dkg_core.specs.Live.{Inclusion, Live, Mail, Message, NodeStop, Orchestrator, Waiting, Peer, NextLog, ReleaseLog, EpochInfoOf, Feed, Over, Cancel, Work, Reshare, Sent, Delivers, Finalized}
 use Rattle.dkg_core.specs.Node.{node_step, unless_once}
@@ -54,7 +54,7 @@ use Rattle.dkg_core.proofs.Splitting.{came_to}
 use Rattle.dkg_core.proofs.StepThrough.{steps_come_through}
 use Rattle.dkg_dealing.specs.Ready.{IsReadyLife}
 use Rattle.dkg_reshare.specs.Actors.{AreTerms, BringsWithin, EndsAt, FailsStop, HasFailed, IfIncluding, IfLiving, IsLiving, lives, message_of}
-use Rattle.dkg_reshare.specs.Carried.{CarriesWithin}
+use Rattle.dkg_reshare.specs.CarriedLogs.{CarriesWithin}
 use Rattle.dkg_dealing.specs.Ends.{IsCaused, IsCausedBy, IsCausedInStep}
 use Rattle.dkg_dealing.specs.Given.{IsIn, IsOf, ReadsPlanless}
 use Rattle.dkg_inclusion.specs.InclusionOf.{IsSeen, IsSettledInclusion}
@@ -314,7 +314,7 @@ mail_within limit message.Work is = tt
 module _ (n : Node) (half_was : Half) (fence_was : Readiness) (c : Fixed directory.Unit) (beside : Beside directory.Unit) (has : HasBeside half_was beside) (reshare_is : c.oneshot ≡ None)
     (b : Block directory.Unit) (st : Live directory.Unit) where
   abbrev answered : Live directory.Unit → Course directory.Unit NodeStop (Live directory.Unit)
-  answered st = bind (delivered c b st) (λ half. acked_at b.height half.answer half.live)
+  answered st = bind (takes_delivered c b st) (λ half. acked_at b.height half.answer half.live)
 
   abbrev next_behind : Live directory.Unit → Course directory.Unit NodeStop (Live directory.Unit)
   next_behind st = unless_once c (answered st) (Say (Acked b.height) (Goes st))
@@ -676,7 +676,7 @@ module _ (before n : Node) (g : Lived) (number : ℕ) (st : Live directory.Unit)
 
     abbrev pub Speaking : Result (Unit {0}) Stop → (mid now : List Line) → Type 0
     Speaking result mid now = (end : Live directory.Unit) → HasHalf before.half end → end.orchestrator.fence ≡ fence → MayGo end
-        → Speaks (bind (delivered given_at b end) (λ half. acked_at b.height half.answer half.live)) (ends_node (with_half n.half n.fence end) result) mid now
+        → Speaks (bind (takes_delivered given_at b end) (λ half. acked_at b.height half.answer half.live)) (ends_node (with_half n.half n.fence end) result) mid now
 
     leads_on : (end : Live directory.Unit) → end.orchestrator.fence ≡ fence → (out now : List Line) → Said (on_devices (step given_at (Finalized b) st)) (went end) out now → MayGo end
     leads_on end is out now said = may_go_on b end out now said fence is

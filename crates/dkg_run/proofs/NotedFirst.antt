@@ -12,7 +12,7 @@ use Rattle.dkg_ceremony.specs.declared.signed_log.SignedDealerLog.{SignedDealerL
 use Rattle.dkg_journal.specs.Records.{entries}
 use Rattle.dkg_store.specs.Noted.{Notes, logs_in}
 use Rattle.dkg_store.specs.declared.recorded_log.RecordedLog.{RecordedLog}
-use Rattle.dkg_types.specs.Paths.{counts}
+use Rattle.dkg_types.specs.Paths.{log_counts}
 use Rattle.dkg_text.specs.declared.script.Life.{Life}
 use Rattle.dkg_script.specs.Blocks.{Block, chain, round_at}
 use Rattle.dkg_script.specs.History.{AreChainLogs, CountsAt, StandsAtIts}
@@ -48,9 +48,9 @@ module _ (s : Setting) (epoch : ℕ) (round : Round) where
     where
       by_signed : (b : Block) → chain s height ≡ Some b → (o : Option SignedDealerLog) → b.log ≡ o → counted_at s epoch round height o ≡ Some (dealer, log) → CountsAt s epoch round height dealer log
       by_signed b there None carried is = absurd (none_some is)
-      by_signed b there (Some signed) carried is = by_test (counts check_log_of middle ends round (height, signed)) refl is
+      by_signed b there (Some signed) carried is = by_test (log_counts check_log_of middle ends round (height, signed)) refl is
         where
-          by_test : (t : Bool) → counts check_log_of middle ends round (height, signed) ≡ t → ◌≡◌ {A = Option (ℕ × DealerLog)} (if t then Some (signed.dealer, signed.log) else None) (Some (dealer, log))
+          by_test : (t : Bool) → log_counts check_log_of middle ends round (height, signed) ≡ t → ◌≡◌ {A = Option (ℕ × DealerLog)} (if t then Some (signed.dealer, signed.log) else None) (Some (dealer, log))
               → CountsAt s epoch round height dealer log
           by_test true counted is =
               let same : ◌≡◌ {A = ℕ × DealerLog} (signed.dealer, signed.log) (dealer, log) = some_is is in

@@ -11,7 +11,7 @@ use Rattle.dkg_ceremony.specs.declared.signed_log.SignedDealerLog.{SignedDealerL
 use Rattle.dkg_journal.specs.Names.{Files}
 use Rattle.dkg_store.specs.Acts.{Held}
 use Rattle.dkg_types.specs.Blocks as made
-use Rattle.dkg_types.specs.Paths.{counts}
+use Rattle.dkg_types.specs.Paths.{log_counts}
 use Rattle.dkg_types.specs.PayloadCodes.{its_log}
 use Rattle.dkg_types.specs.Units.{unit_spelling}
 use Rattle.dkg_types.specs.declared.directory.Unit as directory
@@ -58,7 +58,7 @@ module _ (s : Setting) (l : ℕ) (life : Life) (seen : Held → Seen) (files : F
     brings_here = ap (option_and_then (λ (x : Block). counted_at s epoch round b.height x.log)) on_chain
 
     -- a log counts where it is accepted
-    accepted_counts : (log : SignedDealerLog) → is_accepted c round log ≡ true → counts check_log_of (midpoint (blocks_per_epoch s) epoch) (last (blocks_per_epoch s) epoch) round (b.height, log) ≡ true
+    accepted_counts : (log : SignedDealerLog) → is_accepted c round log ≡ true → log_counts check_log_of (midpoint (blocks_per_epoch s) epoch) (last (blocks_per_epoch s) epoch) round (b.height, log) ≡ true
     unfolding at_step
     accepted_counts log accepted =
         all_four (nat_le (midpoint (blocks_per_epoch s) epoch) b.height) (nat_lt b.height (last (blocks_per_epoch s) epoch)) (is_some (place_of log.dealer round.dealers)) (check_log_of round log)
@@ -70,7 +70,7 @@ module _ (s : Setting) (l : ℕ) (life : Life) (seen : Held → Seen) (files : F
         is_lt : (x y : ℕ) → x < y → nat_lt x y ≡ true
         is_lt x y low = grind (arith, nat_tests)
 
-    counts_accepted : (log : SignedDealerLog) → counts check_log_of (midpoint (blocks_per_epoch s) epoch) (last (blocks_per_epoch s) epoch) round (b.height, log) ≡ true → is_accepted c round log ≡ true
+    counts_accepted : (log : SignedDealerLog) → log_counts check_log_of (midpoint (blocks_per_epoch s) epoch) (last (blocks_per_epoch s) epoch) round (b.height, log) ≡ true → is_accepted c round log ≡ true
     unfolding at_step
     counts_accepted log counted =
         two_last (nat_le (midpoint (blocks_per_epoch s) epoch) b.height) (nat_lt b.height (last (blocks_per_epoch s) epoch)) (is_some (place_of log.dealer round.dealers)) (check_log_of round log) counted
@@ -94,9 +94,9 @@ module _ (s : Setting) (l : ℕ) (life : Life) (seen : Held → Seen) (files : F
           by_log : (o : Option SignedDealerLog) → carried ≡ o → counted_at s epoch round b.height o ≡ Some (dealer, log)
               → recorded_at end.records.logs epoch dealer ≡ Some (first_of_both (recorded_at st.records.logs epoch dealer) (recorded_log b.height log))
           by_log None there none = absurd (none_some none)
-          by_log (Some signed) there found = by_test (counts check_log_of (midpoint (blocks_per_epoch s) epoch) (last (blocks_per_epoch s) epoch) round (b.height, signed)) refl found
+          by_log (Some signed) there found = by_test (log_counts check_log_of (midpoint (blocks_per_epoch s) epoch) (last (blocks_per_epoch s) epoch) round (b.height, signed)) refl found
             where
-              by_test : (t : Bool) → counts check_log_of (midpoint (blocks_per_epoch s) epoch) (last (blocks_per_epoch s) epoch) round (b.height, signed) ≡ t
+              by_test : (t : Bool) → log_counts check_log_of (midpoint (blocks_per_epoch s) epoch) (last (blocks_per_epoch s) epoch) round (b.height, signed) ≡ t
                   → ◌≡◌ {A = Option (ℕ × DealerLog)} (if t then Some (signed.dealer, signed.log) else None) (Some (dealer, log))
                   → recorded_at end.records.logs epoch dealer ≡ Some (first_of_both (recorded_at st.records.logs epoch dealer) (recorded_log b.height log))
               by_test true counted found =

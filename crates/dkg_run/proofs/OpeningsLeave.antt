@@ -10,7 +10,7 @@ use Rattle.dkg_values.specs.Rising.{lookup}
 use Rattle.dkg_ceremony.specs.Schedule.{epoch_of}
 use Rattle.dkg_journal.specs.Operations as of_journal
 use Rattle.dkg_journal.specs.Operations.{Bars, Opens, Prunes, Journaled, InPart}
-use Rattle.dkg_journal.specs.Records.{Entry, from_section}
+use Rattle.dkg_journal.specs.Records.{SectionEntry, from_section}
 use Rattle.dkg_secrets.proofs.Map.{exact_keys}
 use Rattle.dkg_secrets.specs.declared.secrets.SecretOp.TheVariants.{PutShare}
 use Rattle.dkg_store.specs.Noted.{Notes, logs_in}
@@ -31,7 +31,7 @@ use Rattle.dkg_core.specs.Live.{Live, NodeStop, awaited_height}
 use Rattle.dkg_core.specs.Sources.{startup}
 use Rattle.dkg_core.specs.Setup as s
 use Rattle.dkg_core.specs.Plans as p
-use Rattle.dkg_core.specs.Core.{opening, opens_in, begun}
+use Rattle.dkg_core.specs.Core.{opening, opens_in, begun_life}
 use Rattle.dkg_core.specs.Node.{node_opening}
 use Rattle.dkg_core.specs.Behind.{RunsBehind}
 use Rattle.dkg_core.specs.Heard.{recovered_in, KeepsFrom}
@@ -77,7 +77,7 @@ module _ {Dir : Type 0} (c : Fixed Dir) (form : IsForm c) (P : World → Type 0)
       (subst (λ (found : Option (List ℕ)). Throughout P (p.reads_plan c found (next st)) w) (sym (form.unplanned w.held)) (goes st w q)))
 
   abbrev restores : Course Dir Fault (Live Dir)
-  restores = s.looks c (λ seen. Say (Opened c.life (map restored_of seen.dealings)) (opens_in c c.oneshot (begun seen)))
+  restores = s.looks c (λ seen. Say (Opened c.life (map restored_of seen.dealings)) (opens_in c c.oneshot (begun_life seen)))
 
   pub opening_walks : (w : World) → P w → Throughout P (opening c) w
   opening_walks w q =
@@ -85,7 +85,7 @@ module _ {Dir : Type 0} (c : Fixed Dir) (form : IsForm c) (P : World → Type 0)
       behind (Opens c.opening_calls) (λ j. refl) (λ j new part. part.0) restores (does w (OnDisk Bars)) q (λ q.
       let at : World = does (does w (OnDisk Bars)) (OnDisk (Opens c.opening_calls)) in
       let line : Line = Opened c.life (map restored_of (c.seen at.held).dealings) in
-      (q, opens (begun (c.seen at.held)) (says at line) (said at line q))))
+      (q, opens (begun_life (c.seen at.held)) (says at line) (said at line q))))
 
 module _ {Dir : Type 0} (c : Fixed Dir) (form : IsForm c) (w : World) where
   abbrev m0 : Pairs
@@ -134,8 +134,8 @@ module _ {Dir : Type 0} (c : Fixed Dir) (form : IsForm c) (w : World) where
 
   same_logs : (x new : World) → notes new.held ≡ notes x.held → L x → L new
   same_logs x new is_es q key = elim (q key) [
-    | inl is ↦ inl (ap (λ (es : List Entry). get (logs_in es) key) is_es ∙ is)
-    | inr none ↦ inr (none.0, ap (λ (es : List Entry). get (logs_in es) key) is_es ∙ none.1)
+    | inl is ↦ inl (ap (λ (es : List SectionEntry). get (logs_in es) key) is_es ∙ is)
+    | inr none ↦ inr (none.0, ap (λ (es : List SectionEntry). get (logs_in es) key) is_es ∙ none.1)
   ]
 
   from_logs : (min : ℕ) → min ≤ most → (x new : World) → notes new.held ≡ from_section min (notes x.held) → L x → L new
@@ -145,7 +145,7 @@ module _ {Dir : Type 0} (c : Fixed Dir) (form : IsForm c) (w : World) where
       under a b e = grind (arith, nat_tests)
 
       at_key : get (logs_in (notes new.held)) key ≡ cond (nat_le min key.0) (get (logs_in (notes x.held)) key) None
-      at_key = ap (λ (es : List Entry). get (logs_in es) key) is_es ∙ ap (λ (m : Notes RecordedLog). get m key) (logs_from min (notes x.held))
+      at_key = ap (λ (es : List SectionEntry). get (logs_in es) key) is_es ∙ ap (λ (m : Notes RecordedLog). get m key) (logs_from min (notes x.held))
           ∙ get-retain_keys (logs_in (notes x.held)) (λ (x : ℕ × ℕ). nat_le min x.0) key (λ x tied. ap (λ (y : ℕ × ℕ). nat_le min y.0) (sym (exact_keys key x tied)))
 
       by_test : (t : Bool) → nat_le min key.0 ≡ t → IsLogLeft new key
@@ -202,9 +202,9 @@ module _ {Dir : Type 0} (c : Fixed Dir) (form : IsForm c) (w : World) where
   abbrev first_line : Line
   first_line = Opened c.life (map restored_of seen.dealings)
 
-  said_more : (half : Ended Fault (Live Dir)) (new : World) → EndsSo (opens_in c c.oneshot (begun seen)) half (says opened first_line) new → new.out ≡ w.out → ⊥
+  said_more : (half : Ended Fault (Live Dir)) (new : World) → EndsSo (opens_in c c.oneshot (begun_life seen)) half (says opened first_line) new → new.out ≡ w.out → ⊥
   said_more half new run silent =
-      let adds : AddsDeeds (opens_in c c.oneshot (begun seen)) half (says opened first_line) new = runs_add_deeds (opens_in c c.oneshot (begun seen)) half (says opened first_line) new run in
+      let adds : AddsDeeds (opens_in c c.oneshot (begun_life seen)) half (says opened first_line) new = runs_add_deeds (opens_in c c.oneshot (begun_life seen)) half (says opened first_line) new run in
       longer first_line w.out adds.added (sym silent ∙ adds.out) refl
 
   unsaid : (half : Ended Fault (Live Dir)) (new : World) → EndsSo (opening c) half w new → new.out ≡ w.out → recovered_in new.held ≡ recovered_in w.held

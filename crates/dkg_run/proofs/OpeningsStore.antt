@@ -26,7 +26,7 @@ use Rattle.dkg_store.specs.Recorded.{restored_of}
 use Rattle.dkg_store.proofs.Acts.{along_runs}
 use Rattle.dkg_core.specs.Behind.{IsAside, RunsBehind}
 use Rattle.dkg_core.specs.Courses.{Course, Say, Do, Stops, Throughout, EndsSo, on_devices}
-use Rattle.dkg_core.specs.Core.{opening, opens_in, begun}
+use Rattle.dkg_core.specs.Core.{opening, opens_in, begun_life}
 use Rattle.dkg_core.specs.Fixed.{Fixed, Material, OneShot, start}
 use Rattle.dkg_core.specs.Forms.{IsForm}
 use Rattle.dkg_core.specs.Live.{Live, NodeStop}
@@ -215,7 +215,7 @@ module _ {Dir : Type 0} (c : Fixed Dir) (reads : ReadsSecrets c.seen) (most : �
         (subst (λ (found : Option (List ℕ)). Throughout IsUpkept (p.reads_plan c found (next st)) w) (sym (form.unplanned w.held)) (goes st w q)))
 
     abbrev restores : Course Dir Fault (Live Dir)
-    restores = s.looks c (λ seen. Say (Opened c.life (map restored_of seen.dealings)) (opens_in c c.oneshot (begun seen)))
+    restores = s.looks c (λ seen. Say (Opened c.life (map restored_of seen.dealings)) (opens_in c c.oneshot (begun_life seen)))
 
     opening_walks : Throughout IsUpkept (opening c) from
     opening_walks =
@@ -223,7 +223,7 @@ module _ {Dir : Type 0} (c : Fixed Dir) (reads : ReadsSecrets c.seen) (most : �
         behind (Opens c.opening_calls) restores (does from (OnDisk Bars)) q (λ q.
         let at : World = does (does from (OnDisk Bars)) (OnDisk (Opens c.opening_calls)) in
         let line : Line = Opened c.life (map restored_of (c.seen at.held).dealings) in
-        (q, opens (begun (c.seen at.held)) (says at line) (says_so at line tt q))))
+        (q, opens (begun_life (c.seen at.held)) (says at line) (says_so at line tt q))))
 
     -- A NODE'S OPENING, wherever it ends
     pub openings_upkeep : (ended : Ended NodeStop (Live Dir)) (new : World) → EndsSo (node_opening c) ended from new → IsUpkept new

@@ -14,7 +14,7 @@ use Rattle.dkg_ceremony.specs.declared.output.Output.{Output}
 use Rattle.dkg_ceremony.specs.declared.round.RoundParts.{RoundParts as Round}
 use Rattle.dkg_ceremony.specs.declared.round.RoundError.{RoundError}
 use Rattle.dkg_journal.specs.Operations.{Journaled, Prunes}
-use Rattle.dkg_journal.specs.Records.{Entry as JournalEntry, from_section}
+use Rattle.dkg_journal.specs.Records.{SectionEntry as JournalEntry, from_section}
 use Rattle.dkg_secrets.specs.Secrets.{Secrets, after}
 use Rattle.dkg_secrets.specs.declared.secrets.SecretOp.TheVariants.{Prune, PutSeed, PutShare}
 use Rattle.dkg_secrets.proofs.Map.{get_here, get_other, same_key}

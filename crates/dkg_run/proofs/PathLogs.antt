@@ -10,7 +10,7 @@ use Rattle.dkg_ceremony.specs.declared.dealer_log.DealerLog.{DealerLog}
 use Rattle.dkg_ceremony.specs.declared.round.RoundParts.{RoundParts as Round}
 use Rattle.dkg_ceremony.specs.declared.signed_log.SignedDealerLog.{SignedDealerLog}
 use Rattle.dkg_types.specs.Blocks.{Block}
-use Rattle.dkg_types.specs.Paths.{counts, log_of_block, logs_from, logs_of_path}
+use Rattle.dkg_types.specs.Paths.{log_counts, log_of_block, logs_from, logs_of_path}
 use Rattle.dkg_core.specs.Logs.{filled_by}
 
 -- WHAT IS FOUND IN LISTS
@@ -48,14 +48,14 @@ map_append {A} {B} f (x ∷ xs) ys = ap (λ (l : List B). f x ∷ l) (map_append
 module _ {Dir : Type 0} (check_log_of : Round → SignedDealerLog → Bool) (midpoint last : ℕ) (round : Round) where
   -- the logs that count, each with its dealer, as the blocks bring them
   abbrev pub brought : List (Block Dir) → LogMap
-  brought path = map (λ p. (p.1.dealer, p.1.log)) (filter (counts check_log_of midpoint last round) (filter_map log_of_block path))
+  brought path = map (λ p. (p.1.dealer, p.1.log)) (filter (log_counts check_log_of midpoint last round) (filter_map log_of_block path))
 
   pub brought_append : (lower upper : List (Block Dir)) → brought (lower ++ upper) ≡ brought lower ++ brought upper
   brought_append lower upper =
-      ap (λ (ps : List (ℕ × SignedDealerLog)). map (λ (p : ℕ × SignedDealerLog). (p.1.dealer, p.1.log)) (filter (counts check_log_of midpoint last round) ps)) (filter_map-append log_of_block lower upper)
-      ∙ ap (map (λ (p : ℕ × SignedDealerLog). (p.1.dealer, p.1.log))) (filter_append (counts check_log_of midpoint last round) (filter_map log_of_block lower) (filter_map log_of_block upper))
-      ∙ map_append (λ (p : ℕ × SignedDealerLog). (p.1.dealer, p.1.log)) (filter (counts check_log_of midpoint last round) (filter_map log_of_block lower))
-      (filter (counts check_log_of midpoint last round) (filter_map log_of_block upper))
+      ap (λ (ps : List (ℕ × SignedDealerLog)). map (λ (p : ℕ × SignedDealerLog). (p.1.dealer, p.1.log)) (filter (log_counts check_log_of midpoint last round) ps)) (filter_map-append log_of_block lower upper)
+      ∙ ap (map (λ (p : ℕ × SignedDealerLog). (p.1.dealer, p.1.log))) (filter_append (log_counts check_log_of midpoint last round) (filter_map log_of_block lower) (filter_map log_of_block upper))
+      ∙ map_append (λ (p : ℕ × SignedDealerLog). (p.1.dealer, p.1.log)) (filter (log_counts check_log_of midpoint last round) (filter_map log_of_block lower))
+      (filter (log_counts check_log_of midpoint last round) (filter_map log_of_block upper))
 
   -- Where what is recorded are the first logs of the dealers in the lower blocks, the logs that are filled in make those of the whole path.
   pub path_filled : (recorded : LogMap) (lower upper : List (Block Dir)) → ((k : ℕ) → lookup k recorded ≡ lookup k (brought lower))

@@ -32,7 +32,7 @@ use Rattle.dkg_run.specs.Lives.{AnyFiles, RunsSo, TellsEnd}
 use Rattle.dkg_run.specs.Over.{Over}
 use Rattle.dkg_run.specs.Promised.{DoesRun, Promised}
 use Rattle.dkg_run.specs.Refusals.{BlamesOnlySkips}
-use Rattle.dkg_run.specs.SharesStand.{CommitsExactly, CommitsFit, Fits}
+use Rattle.dkg_run.specs.SharesStand.{CommitsExactly, CommitsFit, FitsCarried}
 use Rattle.dkg_run.specs.Ways.{by_lines, trace}
 use Rattle.dkg_run.proofs.Begun.{begun_answers, begun_commits, begun_exactly, begun_keeps, begun_offers, begun_paths, begun_plans, begun_valid, begun_valid_uncut, begun_whole, cut_form, cut_runs, cut_script}
 use Rattle.dkg_run.proofs.Blaming.{run_answers, run_blames}
@@ -156,7 +156,7 @@ module _ (script : Script) (form : IsFormOfInclusion script) (o : Over) (disk_of
         requests = none_answered script o answered old new added is none;
         leaves = none_left script o answered old new added is none;
         paths = λ told here form history devices. none_paths script o answered old new added is none (setting_as_cut script o.before.files o.before.held added);
-        shares = λ told here form consistent fit. none_commits script o answered old new added is none (Fits (setting_as_cut script o.before.files o.before.held added));
+        shares = λ told here form consistent fit. none_commits script o answered old new added is none (FitsCarried (setting_as_cut script o.before.files o.before.held added));
         exactly = λ told here form history devices fit before after epoch share parts ends_it. absurd (none_committed script o answered old new added is none before after (epoch + 1) share parts);
         complete = none_completes script o answered old new added is none;
         gives_back = λ told. record {

@@ -154,7 +154,7 @@ module _ (s : Setting) (ends : List (Option CutAt)) (whole : IsWholeHistory s en
       live = live_at g i (suc i) st going.at.live
 
       can : CanRecord C st m.message
-      can = record { acks = meant.acks (suc i); dealing = own_fits g here (suc i) st live going.few; brings = meant.brings i its is m }
+      can = record { acks = meant.acks (suc i); dealing = own_fits g here (suc i) st live going.in_bound; brings = meant.brings i its is m }
 
       agreed : AreAgreed st.records w.held
       agreed = going.carries.half.agreed

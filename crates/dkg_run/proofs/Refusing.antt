@@ -24,7 +24,7 @@ use Rattle.dkg_types.specs.declared.fault.ParticipantsCause.TheVariants.{Provide
 use Rattle.dkg_types.specs.declared.participants.ParticipantsError.{ParticipantsError}
 use Rattle.dkg_store.specs.Acts.{Held, World, after, does, says, stopped}
 use Rattle.dkg_core.specs.Blocks as b
-use Rattle.dkg_core.specs.Core.{begun, opening, opens_in}
+use Rattle.dkg_core.specs.Core.{begun_life, opening, opens_in}
 use Rattle.dkg_core.specs.Courses.{Ask, Call, Course, Do, EndsSo, Goes, Say, Stops, bind}
 use Rattle.dkg_ceremony.specs.Schedule.{epoch_of}
 use Rattle.dkg_core.specs.Fixed.{Fixed, Material, OneShot, has, start}
@@ -161,7 +161,7 @@ module _ (X : Held → Type 0) where
         fresh = started c (c.seen k)
 
         abbrev start_of_life : Live Dir
-        start_of_life = begun (c.seen k)
+        start_of_life = begun_life (c.seen k)
 
         from_boundary : Halts (s.from_boundary c (first_block c) fresh) k
         from_boundary = subst (λ (o : Option (Block Dir)). Halts (s.from_boundary c o fresh) k) (sym there)

@@ -19,7 +19,7 @@ use Rattle.dkg_run.specs.Epochs.{refused_config}
 use Rattle.dkg_run.specs.Outside.{TookAll, TookMore}
 use Rattle.dkg_run.specs.Over.{Over}
 use Rattle.dkg_run.specs.Promised.{DoesRun, Promised, RunsLives, SaysRun}
-use Rattle.dkg_run.specs.Reports.{Blamed, Ran, RanNothing, WasRead, RanByStatus, fault_status, last_of}
+use Rattle.dkg_run.specs.Reports.{Blamed, RanScript, RanNothing, WasRead, RanByStatus, fault_status, last_of}
 use Rattle.dkg_run.specs.declared.command.Status.{Status}
 use Rattle.dkg_run.specs.declared.command.Status.TheVariants as status
 use Rattle.dkg_run.proofs.Checked.{refused_so}
@@ -59,10 +59,10 @@ ended_so script its entries disk_rose secrets_rose ends = by_config (refused_con
     by_config (Some why) refused (inr wants) = inr (inl (same_fault wants.0))
     by_config (Some why) refused (inl told) = inl (refused_so script why refused (λ (x : Fault). its ≡ x → (cause : ConfigCause) × (its ≡ InvalidConfig cause)) (λ cause is. (cause, is)) (same_fault told.0))
 
-pub runs_faulted : (Gave : List ℕ → Type 0) (o : Over) (out entries : List Entry) (its : Fault) → Ran Gave o out (Err its) entries → RanByStatus Gave o out (fault_status its) entries
+pub runs_faulted : (Gave : List ℕ → Type 0) (o : Over) (out entries : List Entry) (its : Fault) → RanScript Gave o out (Err its) entries → RanByStatus Gave o out (fault_status its) entries
 runs_faulted Gave o out entries its ran = by_its its ran (ended_so ran.script its entries o.disk_rose o.secrets_rose ran.lives.promise.ends)
   where
-    by_its : (its : Fault) → Ran Gave o out (Err its) entries → EndedSo its entries o.disk_rose o.secrets_rose → RanByStatus Gave o out (fault_status its) entries
+    by_its : (its : Fault) → RanScript Gave o out (Err its) entries → EndedSo its entries o.disk_rose o.secrets_rose → RanByStatus Gave o out (fault_status its) entries
     by_its NoMemory ran ended = inr ran
     by_its Disk ran ended = inl ran
     by_its Secrets ran ended = inr ran
@@ -86,7 +86,7 @@ gives bytes Gave gave o out ended entries runs = by_status ended runs
     given : (its : List ℕ) → its ≡ bytes → Gave its
     given its is = subst (λ (x : List ℕ). Gave x) (sym is) gave
 
-    ran : (result : Result (Unit {0}) Fault) → Ran (λ its. its ≡ bytes) o out result entries → Ran Gave o out result entries
+    ran : (result : Result (Unit {0}) Fault) → RanScript (λ its. its ≡ bytes) o out result entries → RanScript Gave o out result entries
     ran result its = record {
       bytes = its.bytes;
       gave = given its.bytes its.gave;
@@ -143,7 +143,7 @@ is_silent Gave o out entries ended result text Tells old new (inr is) told runs 
 pub device_rose : (Gave : List ℕ → Type 0) (o : Over) (out entries : List Entry) (ended : Status) → ended ≡ status.Device → RanByStatus Gave o out ended entries → o.disk_rose ⊎ o.secrets_rose
 device_rose Gave o out entries ended is runs = rose (subst (λ (x : Status). RanByStatus Gave o out x entries) is runs)
   where
-    rose : Ran Gave o out (Err Disk) entries ⊎ Ran Gave o out (Err Secrets) entries → o.disk_rose ⊎ o.secrets_rose
+    rose : RanScript Gave o out (Err Disk) entries ⊎ RanScript Gave o out (Err Secrets) entries → o.disk_rose ⊎ o.secrets_rose
     rose (inl ran) = inl (by_disk (ended_so ran.script Disk entries o.disk_rose o.secrets_rose ran.lives.promise.ends))
       where
         by_disk : EndedSo Disk entries o.disk_rose o.secrets_rose → o.disk_rose
@@ -196,7 +196,7 @@ no_place addressed bytes script place is = by_reading (reading_of addressed byte
 
 module _ (Gave : List ℕ → Type 0) (o : Over) (out entries : List Entry) (script : Script) (spells : (bytes : List ℕ) → Gave bytes → script_of false bytes ≡ Some script) (built : is_built script ≡ true)
     (sound : IsSoundRun o (IsValidAnyhow script)) where
-  only_memory : (its : Fault) → Ran Gave o out (Err its) entries → its ≡ NoMemory
+  only_memory : (its : Fault) → RanScript Gave o out (Err its) entries → its ≡ NoMemory
   only_memory its ran =
       let valid : IsValidAnyhow ran.script o.before =
       subst (λ (x : Script). IsValidAnyhow x o.before) (some_same script ran.script (script_of false ran.bytes) (spells ran.bytes ran.gave) ran.spells) sound.valid in
@@ -221,7 +221,7 @@ module _ (Gave : List ℕ → Type 0) (o : Over) (out entries : List Entry) (scr
   by_status (status.Fault its) runs not_failed not_long = absurd (subst (λ (x : Fault). IsNodeFault x) (only_memory its runs.1) runs.0)
   by_status status.Device runs not_failed not_long = absurd (by_device runs)
     where
-      by_device : Ran Gave o out (Err Disk) entries ⊎ Ran Gave o out (Err Secrets) entries → ⊥
+      by_device : RanScript Gave o out (Err Disk) entries ⊎ RanScript Gave o out (Err Secrets) entries → ⊥
       by_device (inl ran) = let wrong : Disk ≡ NoMemory = only_memory Disk ran in cc
       by_device (inr ran) = let wrong : Secrets ≡ NoMemory = only_memory Secrets ran in cc
 

@@ -36,7 +36,7 @@ use Rattle.dkg_core.specs.Stepping.{dealt_behind, given_itself}
 use Rattle.dkg_core.specs.Through.{IsAppliedThrough, IsBlockThrough, IsEndThrough, IsFollowedThrough, IsIncludedThrough, IsLiveThrough, IsReadFrom, asked_by, finished, included, observed, observed_log, waits_for}
 use Rattle.dkg_core.proofs.Heights.{epoch_is}
 use Rattle.dkg_core.proofs.StepDealing as dealing
-use Rattle.dkg_run.specs.Asks.{Standing, Unmade, Open, Closed, Cancelled, IsUncancelled, WereAsked, bounds_in, fed_in, scan_tip, standing_of, turns}
+use Rattle.dkg_run.specs.Asks.{RequestStanding, Unmade, Open, Closed, Cancelled, IsUncancelled, WereAsked, bounds_in, fed_in, scan_tip, standing_of, turns}
 use Rattle.dkg_run.specs.Blamed.{per_epoch, tip_in}
 use Rattle.dkg_run.specs.Epochs.{IsLifeInForm, StandsInScript, any_shares, epoch_by}
 use Rattle.dkg_run.specs.Given.{Lived, at_step, blocks_in, numbered}
@@ -59,7 +59,7 @@ less_one n = omega arith
 -- STANDINGS
 
 -- an open request, or one whose ancestry has ended
-abbrev pub stands_as : (ended : Bool) → Standing
+abbrev pub stands_as : (ended : Bool) → RequestStanding
 stands_as ended = if ended then Closed else Open
 
 uncancelled : (ended : Bool) → IsUncancelled (stands_as ended)
@@ -320,10 +320,10 @@ module _ (g : Lived) (here : IsLifeInForm g) (i : ℕ) (its : Event) (is : slice
     before = more held.at held.before;
     made = held.made;
     same = held.same;
-    stands = stands_more r.number g.life i its is ∙ ap (λ (s : Standing). turns r.number s its) held.stands ∙ (spares r.ended).0;
+    stands = stands_more r.number g.life i its is ∙ ap (λ (s : RequestStanding). turns r.number s its) held.stands ∙ (spares r.ended).0;
     fed = held.fed ∙ sym (
         fed_more r.number g.life i its is g.script
-        ∙ ap (λ (s : Standing). fed_in g.script g.life r.number i ++ numbered (blocks_in g.script) (adds r.number s its)) held.stands
+        ∙ ap (λ (s : RequestStanding). fed_in g.script g.life r.number i ++ numbered (blocks_in g.script) (adds r.number s its)) held.stands
         ∙ ap (λ (ns : List ℕ). fed_in g.script g.life r.number i ++ numbered (blocks_in g.script) ns) (spares r.ended).1
         ∙ append-nil (fed_in g.script g.life r.number i)
         );
@@ -344,10 +344,10 @@ module _ (g : Lived) (here : IsLifeInForm g) (i : ℕ) (its : Event) (is : slice
         before = more held.at held.before;
         made = held.made;
         same = held.same;
-        stands = stands_more r.number g.life i its is ∙ ap (λ (s : Standing). turns r.number s its) (held.stands ∙ ap stands_as ended) ∙ ap (turns r.number Closed) of ∙ sym (ap stands_as ended);
+        stands = stands_more r.number g.life i its is ∙ ap (λ (s : RequestStanding). turns r.number s its) (held.stands ∙ ap stands_as ended) ∙ ap (turns r.number Closed) of ∙ sym (ap stands_as ended);
         fed = held.fed ∙ sym (
             fed_more r.number g.life i its is g.script
-            ∙ ap (λ (s : Standing). fed_in g.script g.life r.number i ++ numbered (blocks_in g.script) (adds r.number s its)) (held.stands ∙ ap stands_as ended)
+            ∙ ap (λ (s : RequestStanding). fed_in g.script g.life r.number i ++ numbered (blocks_in g.script) (adds r.number s its)) (held.stands ∙ ap stands_as ended)
             ∙ ap (λ (x : Event). fed_in g.script g.life r.number i ++ numbered (blocks_in g.script) (adds r.number Closed x)) of
             ∙ append-nil (fed_in g.script g.life r.number i)
             );
@@ -359,10 +359,10 @@ module _ (g : Lived) (here : IsLifeInForm g) (i : ℕ) (its : Event) (is : slice
         before = more held.at held.before;
         made = held.made;
         same = held.same;
-        stands = stands_more r.number g.life i its is ∙ ap (λ (s : Standing). turns r.number s its) (held.stands ∙ ap stands_as ended) ∙ ap (turns r.number Open) of ∙ sym (ap stands_as ended);
+        stands = stands_more r.number g.life i its is ∙ ap (λ (s : RequestStanding). turns r.number s its) (held.stands ∙ ap stands_as ended) ∙ ap (turns r.number Open) of ∙ sym (ap stands_as ended);
         fed = ap (λ (bs : List (Block U)). bs ++ b ∷ []) held.fed ∙ sym (
             fed_more r.number g.life i its is g.script
-            ∙ ap (λ (s : Standing). fed_in g.script g.life r.number i ++ numbered (blocks_in g.script) (adds r.number s its)) (held.stands ∙ ap stands_as ended)
+            ∙ ap (λ (s : RequestStanding). fed_in g.script g.life r.number i ++ numbered (blocks_in g.script) (adds r.number s its)) (held.stands ∙ ap stands_as ended)
             ∙ ap (λ (x : Event). fed_in g.script g.life r.number i ++ numbered (blocks_in g.script) (adds r.number Open x)) of
             ∙ ap (λ (bs : List (Block U)). fed_in g.script g.life r.number i ++ bs) (adds_block r.number (blocks_in g.script) number b there)
             );
@@ -379,10 +379,10 @@ module _ (g : Lived) (here : IsLifeInForm g) (i : ℕ) (its : Event) (is : slice
     before = more held.at held.before;
     made = held.made;
     same = held.same;
-    stands = stands_more r.number g.life i its is ∙ ap (λ (s : Standing). turns r.number s its) held.stands ∙ ap (turns r.number (stands_as r.ended)) of ∙ over r.ended;
+    stands = stands_more r.number g.life i its is ∙ ap (λ (s : RequestStanding). turns r.number s its) held.stands ∙ ap (turns r.number (stands_as r.ended)) of ∙ over r.ended;
     fed = held.fed ∙ sym (
         fed_more r.number g.life i its is g.script
-        ∙ ap (λ (s : Standing). fed_in g.script g.life r.number i ++ numbered (blocks_in g.script) (adds r.number s its)) held.stands
+        ∙ ap (λ (s : RequestStanding). fed_in g.script g.life r.number i ++ numbered (blocks_in g.script) (adds r.number s its)) held.stands
         ∙ ap (λ (x : Event). fed_in g.script g.life r.number i ++ numbered (blocks_in g.script) (adds r.number (stands_as r.ended) x)) of
         ∙ ap (λ (ns : List ℕ). fed_in g.script g.life r.number i ++ numbered (blocks_in g.script) ns) (adds_none r.ended)
         ∙ append-nil (fed_in g.script g.life r.number i)
@@ -411,7 +411,7 @@ module _ (g : Lived) (here : IsLifeInForm g) (i : ℕ) (its : Event) (is : slice
       itself a = omega arith
 
   -- the one whose verification runs, where the event doesn't cancel it
-  awaited_on : {Known : Knows} (running : Option Job) (round : Option Round) (number : ℕ) → ((s : Standing) → IsUncancelled s → IsUncancelled (turns number s its)) → IsAwaited g Known e i running round number → IsAwaited g Known e (suc i) running round number
+  awaited_on : {Known : Knows} (running : Option Job) (round : Option Round) (number : ℕ) → ((s : RequestStanding) → IsUncancelled s → IsUncancelled (turns number s its)) → IsAwaited g Known e i running round number → IsAwaited g Known e (suc i) running round number
   awaited_on {Known} running round number spares was = record {
     at = was.at;
     before = more was.at was.before;
@@ -433,53 +433,53 @@ module _ (g : Lived) (here : IsLifeInForm g) (i : ℕ) (its : Event) (is : slice
       later : (a : ℕ) → a ≤ i → a ≤ suc i
       later a low = omega (arith, low)
 
-  waiter_on : (Known : Knows) (running : Option Job) (round : Option Round) (o : Option ℕ) → ((number : ℕ) (s : Standing) → IsUncancelled s → IsUncancelled (turns number s its)) → IfSome o (IsAwaited g Known e i running round)
+  waiter_on : (Known : Knows) (running : Option Job) (round : Option Round) (o : Option ℕ) → ((number : ℕ) (s : RequestStanding) → IsUncancelled s → IsUncancelled (turns number s its)) → IfSome o (IsAwaited g Known e i running round)
       → IfSome o (IsAwaited g Known e (suc i) running round)
   waiter_on Known running round None spares was = tt
   waiter_on Known running round (Some number) spares was = awaited_on running round number (spares number) was
 
 -- WHICH EVENTS CANCEL no request of a number
 module _ (number : ℕ) where
-  keeps_plain : (x : Event) → ((s : Standing) → IsUncancelled s → turns number s x ≡ s) → (s : Standing) → IsUncancelled s → IsUncancelled (turns number s x)
+  keeps_plain : (x : Event) → ((s : RequestStanding) → IsUncancelled s → turns number s x ≡ s) → (s : RequestStanding) → IsUncancelled s → IsUncancelled (turns number s x)
   keeps_plain x same s is = subst IsUncancelled (sym (same s is)) is
 
-  pub keeps_peer : (from : ℕ) (bytes : List ℕ) (s : Standing) → IsUncancelled s → IsUncancelled (turns number s (event.Peer from bytes))
+  pub keeps_peer : (from : ℕ) (bytes : List ℕ) (s : RequestStanding) → IsUncancelled s → IsUncancelled (turns number s (event.Peer from bytes))
   keeps_peer from bytes Unmade is = is
   keeps_peer from bytes Open is = is
   keeps_peer from bytes Closed is = is
   keeps_peer from bytes Cancelled is = is
 
-  pub keeps_final : (block : ℕ) (s : Standing) → IsUncancelled s → IsUncancelled (turns number s (event.Final block))
+  pub keeps_final : (block : ℕ) (s : RequestStanding) → IsUncancelled s → IsUncancelled (turns number s (event.Final block))
   keeps_final block Unmade is = is
   keeps_final block Open is = is
   keeps_final block Closed is = is
   keeps_final block Cancelled is = is
 
-  pub keeps_next : (request height : ℕ) (s : Standing) → IsUncancelled s → IsUncancelled (turns number s (event.Next request height))
+  pub keeps_next : (request height : ℕ) (s : RequestStanding) → IsUncancelled s → IsUncancelled (turns number s (event.Next request height))
   keeps_next request height Unmade is = is
   keeps_next request height Open is = is
   keeps_next request height Closed is = is
   keeps_next request height Cancelled is = is
 
-  pub keeps_release : (height : ℕ) (s : Standing) → IsUncancelled s → IsUncancelled (turns number s (event.Release height))
+  pub keeps_release : (height : ℕ) (s : RequestStanding) → IsUncancelled s → IsUncancelled (turns number s (event.Release height))
   keeps_release height Unmade is = is
   keeps_release height Open is = is
   keeps_release height Closed is = is
   keeps_release height Cancelled is = is
 
-  pub keeps_info : (request : ℕ) (s : Standing) → IsUncancelled s → IsUncancelled (turns number s (event.Info request))
+  pub keeps_info : (request : ℕ) (s : RequestStanding) → IsUncancelled s → IsUncancelled (turns number s (event.Info request))
   keeps_info request Unmade is = absurd is
   keeps_info request Open is = is
   keeps_info request Closed is = is
   keeps_info request Cancelled is = is
 
-  pub keeps_feed : (request block : ℕ) (s : Standing) → IsUncancelled s → IsUncancelled (turns number s (event.Feed request block))
+  pub keeps_feed : (request block : ℕ) (s : RequestStanding) → IsUncancelled s → IsUncancelled (turns number s (event.Feed request block))
   keeps_feed request block Unmade is = is
   keeps_feed request block Open is = is
   keeps_feed request block Closed is = is
   keeps_feed request block Cancelled is = is
 
-  pub keeps_over : (request : ℕ) (s : Standing) → IsUncancelled s → IsUncancelled (turns number s (event.Over request))
+  pub keeps_over : (request : ℕ) (s : RequestStanding) → IsUncancelled s → IsUncancelled (turns number s (event.Over request))
   keeps_over request Unmade is = absurd is
   keeps_over request Open is = by_test (request == number)
     where
@@ -489,13 +489,13 @@ module _ (number : ℕ) where
   keeps_over request Closed is = is
   keeps_over request Cancelled is = is
 
-  pub keeps_cancel : (request : ℕ) → (request == number) ≡ false → (s : Standing) → IsUncancelled s → IsUncancelled (turns number s (event.Cancel request))
+  pub keeps_cancel : (request : ℕ) → (request == number) ≡ false → (s : RequestStanding) → IsUncancelled s → IsUncancelled (turns number s (event.Cancel request))
   keeps_cancel request other Unmade is = absurd is
   keeps_cancel request other Open is = subst IsUncancelled (sym (ap (λ (t : Bool). if t then Cancelled else Open) other)) tt
   keeps_cancel request other Closed is = subst IsUncancelled (sym (ap (λ (t : Bool). if t then Cancelled else Closed) other)) tt
   keeps_cancel request other Cancelled is = is
 
-  pub keeps_work : (s : Standing) → IsUncancelled s → IsUncancelled (turns number s event.Work)
+  pub keeps_work : (s : RequestStanding) → IsUncancelled s → IsUncancelled (turns number s event.Work)
   keeps_work Unmade is = is
   keeps_work Open is = is
   keeps_work Closed is = is
@@ -517,7 +517,7 @@ module _ {Known : Knows} (g : Lived) (here : IsLifeInForm g) (i : ℕ) (its : Ev
   was = held.ready
 
   -- nothing
-  unsaid : (x : Inclusion U) → x.queue ≡ st.inclusion.queue → x.waiter ≡ st.inclusion.waiter → x.running ≡ st.inclusion.running → ((number : ℕ) → Spares its number) → ((number : ℕ) (s : Standing) → IsUncancelled s → IsUncancelled (turns number s its))
+  unsaid : (x : Inclusion U) → x.queue ≡ st.inclusion.queue → x.waiter ≡ st.inclusion.waiter → x.running ≡ st.inclusion.running → ((number : ℕ) → Spares its number) → ((number : ℕ) (s : RequestStanding) → IsUncancelled s → IsUncancelled (turns number s its))
       → Ready x
   unsaid x queue waiter running spares keeps = record {
     queue = subst (AllByRecursion (IsHeld g now (suc i))) (sym queue) (all_on g here i its is st.inclusion.queue spares was.queue);
@@ -525,7 +525,7 @@ module _ {Known : Knows} (g : Lived) (here : IsLifeInForm g) (i : ℕ) (its : Ev
         (subst (λ (o : Option Job). IfSome st.inclusion.waiter (IsAwaited g Known now (suc i) o its_round)) (sym running) (waiter_on g here i its is Known st.inclusion.running its_round st.inclusion.waiter keeps was.waiter));
   }
 
-  pub said_none : (x : Event) → its ≡ x → ((number : ℕ) → Spares x number) → ((number : ℕ) (s : Standing) → IsUncancelled s → IsUncancelled (turns number s x)) → (y : Inclusion U)
+  pub said_none : (x : Event) → its ≡ x → ((number : ℕ) → Spares x number) → ((number : ℕ) (s : RequestStanding) → IsUncancelled s → IsUncancelled (turns number s x)) → (y : Inclusion U)
       → y.queue ≡ st.inclusion.queue → y.waiter ≡ st.inclusion.waiter → y.running ≡ st.inclusion.running → Ready y
   said_none x of spares keeps y queue waiter running =
       unsaid y queue waiter running (λ number. subst (λ (z : Event). Spares z number) (sym of) (spares number)) (λ number s is. subst (λ (z : Event). IsUncancelled (turns number s z)) (sym of) (keeps number s is))

@@ -40,11 +40,11 @@ use Rattle.dkg_secrets.specs.declared.secrets.SecretOp.TheVariants.{Prune, PutDe
 use Rattle.dkg_store.specs.Acts.{Changes, Held, OnDisk, Operation}
 use Rattle.dkg_core.specs.Behind.{IsAside, IsSameBeside, OnlySays, event_of}
 use Rattle.dkg_core.specs.Blocks as b
-use Rattle.dkg_core.specs.Core.{begun, opening, opens_in, step}
+use Rattle.dkg_core.specs.Core.{begun_life, opening, opens_in, step}
 use Rattle.dkg_core.specs.Courses.{Ask, Call, Course, Do, Goes, Say, Stops, bind, under}
 use Rattle.dkg_core.specs.Dealing as d
 use Rattle.dkg_core.specs.Endings.{validity}
-use Rattle.dkg_core.specs.Entering.{acked_at, asks_again, delivered}
+use Rattle.dkg_core.specs.Entering.{acked_at, asks_again, takes_delivered}
 use Rattle.dkg_core.specs.Fixed.{Fixed, Material, OneShot, has, start}
 use Rattle.dkg_core.specs.Forms.{Applied, IsForm, Judged, Passed, judged_block}
 use Rattle.dkg_core.specs.Idle.{IsAskedLine}
@@ -514,7 +514,7 @@ module _ {Dir : Type 0} (c : Fixed Dir) where
       begins = option_map_or (λ t. t.height + 1) (startup c.source.anchor None) 0
 
       opening_so : At None → epoch_of c.blocks_per_epoch begins - 1 ≤ most → Served begins → (x : Telling) → x.untold ≡ None → Leads IsSetUpBy x (opening c)
-      opening_so at low into x none = (tt, (tt, λ h. (tt, opens (begun (c.seen h)) (record { last = None; untold = x.untold }) none at)))
+      opening_so at low into x none = (tt, (tt, λ h. (tt, opens (begun_life (c.seen h)) (record { last = None; untold = x.untold }) none at)))
         where
           opens : (now : Live Dir) (y : Telling) → y.untold ≡ None → At y.last → Leads IsSetUpBy y (opens_in c c.oneshot now)
           opens now y none its = subst (λ (o : Option (OneShot Dir)). Leads IsSetUpBy y (opens_in c o now)) (sym form.reshare)
@@ -656,7 +656,7 @@ module _ {Dir : Type 0} (c : Fixed Dir) where
         (λ y st so. behind_half y st (behind st) (halves.behind_block c IsPlain (λ epoch. tt) tt (λ height. tt) block st) (block_aside c block st) so)
       where
         behind : Live Dir → Course Dir NodeStop (Live Dir)
-        behind now = unless_once c (bind (delivered c block now) (λ left. acked_at block.height left.answer left.live)) (Say (Acked block.height) (Goes now))
+        behind now = unless_once c (bind (takes_delivered c block now) (λ left. acked_at block.height left.answer left.live)) (Say (Acked block.height) (Goes now))
 
         never_ends : (st.participation.stage ≡ Follows) ⊎ ((st.participation.stage ≡ Includes) × ((round : Round) × (st.participation.round ≡ Some round))) → st.participation.stage ≡ Ends → ⊥
         never_ends (inl follows) is = let wrong : ◌≡◌ {A = Stage} Ends Follows = sym is ∙ follows in cc
@@ -691,10 +691,10 @@ module _ {Dir : Type 0} (c : Fixed Dir) where
   pub block_quiet : (block : Block Dir) (st : Live Dir) → (judged_block c block st ≡ Applied → is_last_height c block.height ≡ true → (st.participation.stage ≡ Deals) ⊎ (st.participation.stage ≡ Ends))
       → IsQuiet (node_step c (event_of (Finalized block)) st)
   block_quiet block st other =
-      quiet_behind (under Faulted (step c (Finalized block) st)) (λ now. unless_once c (bind (delivered c block now) (λ left. acked_at block.height left.answer left.live)) (Say (Acked block.height) (Goes now)))
+      quiet_behind (under Faulted (step c (Finalized block) st)) (λ now. unless_once c (bind (takes_delivered c block now) (λ left. acked_at block.height left.answer left.live)) (Say (Acked block.height) (Goes now)))
       (quiet_under Faulted (step c (Finalized block) st)
       (judged_is c block st (λ course. IsQuiet course) (λ t one other when unless. quiet_if t one other when unless) (λ fault is. tt) (λ is. tt) (λ is. applied_quiet block st st.participation.stage (other is)) (λ is. tt)))
-      (λ now. halves_quiet now (unless_once c (bind (delivered c block now) (λ left. acked_at block.height left.answer left.live)) (Say (Acked block.height) (Goes now)))
+      (λ now. halves_quiet now (unless_once c (bind (takes_delivered c block now) (λ left. acked_at block.height left.answer left.live)) (Say (Acked block.height) (Goes now)))
       (halves.behind_block c IsPlain (λ epoch. tt) tt (λ height. tt) block now) (block_aside c block now))
 
   pub peer_quiet : (from : ℕ) (bytes : List ℕ) (st : Live Dir) → IsQuiet (node_step c (event_of (Sent (Peer from bytes))) st)

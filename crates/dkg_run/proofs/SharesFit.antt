@@ -29,7 +29,7 @@ use Rattle.dkg_core.specs.Core.{opening, step}
 use Rattle.dkg_core.specs.Courses.{Course, EndsSo, Goes, Stops, Throughout, bind, on_devices}
 use Rattle.dkg_core.specs.Dealing as d
 use Rattle.dkg_core.specs.Fixed.{Fixed}
-use Rattle.dkg_core.specs.Asked.{OfShares, Reads}
+use Rattle.dkg_core.specs.Asked.{OfShares, ReadsShare}
 use Rattle.dkg_core.specs.Forms.{IsForm}
 use Rattle.dkg_core.specs.SharesMoved.{IsSuchShare}
 use Rattle.dkg_core.specs.Through.{IsFormThrough, IsLiveThrough}
@@ -250,7 +250,7 @@ module _ (Such : (epoch share : ℕ) → Type 0) where
 
       -- A block of a life that includes puts the artifact's share alone.
       module _ (stored : OfShares) (form : IsFormThrough c) (st : Live Dir) (live : IsLiveThrough c stored st)
-          (such : (epoch share : ℕ) → IsSuchShare c stored block st epoch share → Such epoch share) (w : World) (reads : Reads c stored (Some w.held)) (q : A w) where
+          (such : (epoch share : ℕ) → IsSuchShare c stored block st epoch share → Such epoch share) (w : World) (reads : ReadsShare c stored (Some w.held)) (q : A w) where
         pub block_such : (ended : Ended NodeStop (Live Dir)) (new : World) → EndsSo (node_step c (event_of (Finalized block)) st) ended w new → A new
         block_such ended new run = by_stage st.participation.stage refl
           where

@@ -2,7 +2,7 @@
 use Rattle.std.proofs.Common.{◌≡◌, ◌⊎◌, inl, inr, ℕ, ◌++◌, Bool, true, false, List, [], ◌∷◌, Option, Some, None, Err, refl, sym, ◌∙◌, ap, subst}
 use Rattle.dkg_journal.specs.Names.{Files}
 use Rattle.dkg_journal.specs.Opening.{broken}
-use Rattle.dkg_journal.specs.Records.{Entry, entries}
+use Rattle.dkg_journal.specs.Records.{SectionEntry, entries}
 use Rattle.dkg_journal.specs.Steps.{Keeps}
 use Rattle.dkg_values.specs.declared.name.Name.{Name}
 use Rattle.dkg_types.specs.declared.directory.Unit as directory
@@ -45,7 +45,7 @@ grammar_as limit most same files its = subst (λ (n : ℕ). IsInGrammar n files)
 
 -- WHETHER A JOURNAL is in its grammar
 
-events_or : (limit : ℕ) (es : List Entry) → AreEvents limit es ⊎ (AreEvents limit es → ⊥)
+events_or : (limit : ℕ) (es : List SectionEntry) → AreEvents limit es ⊎ (AreEvents limit es → ⊥)
 events_or limit [] = inl tt
 events_or limit (e ∷ es) = by_first (is_event limit e.1) refl (events_or limit es)
   where

@@ -12,7 +12,7 @@ use Rattle.dkg_text.specs.declared.script.Life.{Life}
 use Rattle.dkg_script.specs.Inclusion.{IsEventIn}
 use Rattle.dkg_store.specs.Acts.{went}
 use Rattle.dkg_core.specs.Live.{Live, NodeStop}
-use Rattle.dkg_reshare.specs.Carried.{CarriesWithin}
+use Rattle.dkg_reshare.specs.CarriedLogs.{CarriesWithin}
 use Rattle.dkg_dealing.specs.Planless.{seen_planless}
 use Rattle.dkg_dealing.specs.declared.stop.Stop.{Stop}
 use Rattle.dkg_run.specs.Epochs.{IsAt, IsLifeInForm, MayStep}
@@ -82,7 +82,7 @@ module _ (g : Lived) (here : IsLifeInForm g) (i : ℕ) (its : Event) (life : Lif
         by_event (event.Final number) form =
             let made = made_of g.script number form in
             of_number number (CarriesWithin limit) made
-            (subst (λ (n : ℕ). CarriesWithin n made.block) (sym (limit_at g (i + 1)) ∙ limit_is) (block_within g bytes here.form.placed here.form.few i number made))
+            (subst (λ (n : ℕ). CarriesWithin n made.block) (sym (limit_at g (i + 1)) ∙ limit_is) (block_within g bytes here.form.placed here.form.in_bound i number made))
         by_event (event.Next request height) form = tt
         by_event (event.Release height) form = tt
         by_event (event.Info request) form = tt

@@ -124,12 +124,12 @@ module _ {Dir : Type 0} (c : Fixed Dir) where
       (if nat_lt b.height (last c.blocks_per_epoch epoch) then half.leaves st.orchestrator Acknowledges st else half.enters_at c b (epoch + 1) (Some b.height) st) tt
       (no_if (nat_lt b.height (last c.blocks_per_epoch epoch)) (half.leaves st.orchestrator Acknowledges st) (half.enters_at c b (epoch + 1) (Some b.height) st) tt (enters_at b (epoch + 1) (Some b.height) st))
 
-  delivered : (b : Block Dir) (st : Live Dir) → NoLocal (half.delivered c b st)
+  delivered : (b : Block Dir) (st : Live Dir) → NoLocal (half.takes_delivered c b st)
   delivered b st = no_bind (half.asks_again c st) (λ now. half.delivered_in c b now (half.active now.orchestrator)) (asks st) (λ now. by_epoch b now (half.active now.orchestrator))
 
   pub block_stopped : (b : Block Dir) (st : Live Dir) (cause : LocalCause) (w new : World) → EndsSo (node_step c (Delivers b) st) (stopped (Faulted (LocalState cause))) w new
       → EndsSo (step c (Finalized b) st) (stopped (LocalState cause)) w new
   block_stopped b st cause w new run =
-      stopped_half (step c (Finalized b) st) (λ now. unless_once c (bind (half.delivered c b now) (λ its. half.acked_at b.height its.answer its.live)) (Say (Acked b.height) (Goes now))) cause w new
-      (λ now. no_if (is_some c.oneshot) (Say (Acked b.height) (Goes now)) (bind (half.delivered c b now) (λ its. half.acked_at b.height its.answer its.live)) tt
-      (no_bind (half.delivered c b now) (λ its. half.acked_at b.height its.answer its.live) (delivered b now) (λ its. acked b.height its.answer its.live))) run
+      stopped_half (step c (Finalized b) st) (λ now. unless_once c (bind (half.takes_delivered c b now) (λ its. half.acked_at b.height its.answer its.live)) (Say (Acked b.height) (Goes now))) cause w new
+      (λ now. no_if (is_some c.oneshot) (Say (Acked b.height) (Goes now)) (bind (half.takes_delivered c b now) (λ its. half.acked_at b.height its.answer its.live)) tt
+      (no_bind (half.takes_delivered c b now) (λ its. half.acked_at b.height its.answer its.live) (delivered b now) (λ its. acked b.height its.answer its.live))) run

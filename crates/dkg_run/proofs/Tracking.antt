@@ -39,11 +39,11 @@ use Rattle.dkg_core.proofs.NodeSaying.{node_steps_say_through}
 use Rattle.dkg_core.proofs.Splitting.{came_to}
 use Rattle.dkg_core.proofs.StepDealing as dealing
 use Rattle.dkg_run.specs.Answers.{IsAnsweredSo, IsAskedFor}
-use Rattle.dkg_run.specs.Asks.{Standing, Unmade, Open, Closed, Cancelled, IsUncancelled, WereAsked, standing_of, turns}
+use Rattle.dkg_run.specs.Asks.{RequestStanding, Unmade, Open, Closed, Cancelled, IsUncancelled, WereAsked, standing_of, turns}
 use Rattle.dkg_run.specs.Blamed.{tip_in}
 use Rattle.dkg_run.specs.Epochs.{IsLifeInForm, StandsInScript, any_shares, epoch_by}
 use Rattle.dkg_run.specs.Given.{Lived, at_step}
-use Rattle.dkg_run.specs.Leaves.{IsOldest, IsOpen, IsSaidBy, IsVerified, Verifies}
+use Rattle.dkg_run.specs.Leaves.{IsOldest, IsOpenRequest, IsSaidBy, IsVerified, Verifies}
 use Rattle.dkg_run.proofs.Accounting.{Before, IsAnsweredIn, IsKept, IsWaiting, among_both, among_last, among_left, at_first, cancelled_apart, kept_as, last_kept, none_in, step_kept}
 use Rattle.dkg_run.proofs.Answered.{IsSaidAt, answered_so}
 use Rattle.dkg_run.proofs.Apart.{IsApart, IsNewOne, LacksNumber, Reads, idle_work, queued_apart}
@@ -190,11 +190,11 @@ module _ (g : Lived) where
     pub runs : (job : Job) → st.inclusion.running ≡ Some job → IsRun (epoch_by g j) j said st.inclusion
 
 -- .. and so it is known from then on
-abbrev IsMade : Standing → Type 0
+abbrev IsMade : RequestStanding → Type 0
 IsMade Unmade = ⊥
 IsMade s = Unit {0}
 
-turn_made : (n : ℕ) (s : Standing) (x : Event) → IsMade s → IsMade (turns n s x)
+turn_made : (n : ℕ) (s : RequestStanding) (x : Event) → IsMade s → IsMade (turns n s x)
 turn_made n Unmade x made = absurd made
 turn_made n Open (event.Over number) made = by_test (number == n)
   where
@@ -215,11 +215,11 @@ turn_made n Closed (event.Cancel number) made = by_test (number == n)
 turn_made n Closed x made = tt
 turn_made n Cancelled x made = tt
 
-stays_made : (n : ℕ) (s : Standing) (es : List Event) → IsMade s → IsMade (fold (turns n) s es)
+stays_made : (n : ℕ) (s : RequestStanding) (es : List Event) → IsMade s → IsMade (fold (turns n) s es)
 stays_made n s [] made = made
 stays_made n s (x ∷ es) made = stays_made n (turns n s x) es (turn_made n s x made)
 
-info_made : (n : ℕ) (s : Standing) → IsMade (turns n s (event.Info n))
+info_made : (n : ℕ) (s : RequestStanding) → IsMade (turns n s (event.Info n))
 info_made n Unmade = subst IsMade (sym (ap (λ (t : Bool). if t then Open else Unmade) (itself n))) tt
   where
     itself : (a : ℕ) → (a == a) ≡ true
@@ -228,7 +228,7 @@ info_made n Open = tt
 info_made n Closed = tt
 info_made n Cancelled = tt
 
-stands_made : (n : ℕ) (s : Standing) (events : List Event) (at i : ℕ) → at < i → slice_get events at ≡ Some (event.Info n) → IsMade (fold (turns n) s (take i events))
+stands_made : (n : ℕ) (s : RequestStanding) (events : List Event) (at i : ℕ) → at < i → slice_get events at ≡ Some (event.Info n) → IsMade (fold (turns n) s (take i events))
 stands_made n s [] at i low there = absurd (let wrong : ◌≡◌ {A = Option Event} None (Some (event.Info n)) = there in cc)
 stands_made n s (x ∷ events) at zero low there = absurd (omega (arith, low))
 stands_made n s (x ∷ events) zero (suc i) low there = stays_made n (turns n s x) (take i events) (subst (λ (y : Event). IsMade (turns n s y)) (sym (the_same there)) (info_made n s))
@@ -376,7 +376,7 @@ module _ (g : Lived) (here : IsLifeInForm g) (i : ℕ) (its : Event) (is : slice
         other : (request == n) ≡ true → ⊥
         other same = uncut (standing_of g.life n i) (subst (λ (x : Event). IsUncancelled (turns n (standing_of g.life n i) x)) of (subst IsUncancelled (stands_more n g.life i its is) left_open)) same
           where
-            uncut : (s : Standing) → IsUncancelled (turns n s (event.Cancel request)) → (request == n) ≡ true → ⊥
+            uncut : (s : RequestStanding) → IsUncancelled (turns n s (event.Cancel request)) → (request == n) ≡ true → ⊥
             uncut Unmade its_open same = its_open
             uncut Open its_open same = subst IsUncancelled (ap (λ (t : Bool). if t then Cancelled else Open) same) its_open
             uncut Closed its_open same = subst IsUncancelled (ap (λ (t : Bool). if t then Cancelled else Closed) same) its_open
@@ -571,7 +571,7 @@ module _ (g : Lived) (here : IsLifeInForm g) (i : ℕ) (its : Event) (is : slice
       was_open : at < i → IsUncancelled (standing_of g.life n i)
       was_open low = before_turn (standing_of g.life n i) (stands_made n Unmade g.life.events at i low made) (subst IsUncancelled (stands_more n g.life i its is) left_open)
         where
-          before_turn : (s : Standing) → IsMade s → IsUncancelled (turns n s its) → IsUncancelled s
+          before_turn : (s : RequestStanding) → IsMade s → IsUncancelled (turns n s its) → IsUncancelled s
           before_turn Unmade made_so its_open = absurd made_so
           before_turn Open made_so its_open = tt
           before_turn Closed made_so its_open = tt
@@ -1016,7 +1016,7 @@ module _ (g : Lived) (here : IsLifeInForm g) (i : ℕ) (its : Event) (is : slice
             itself : (a b : ℕ) → b ≡ a → b ≤ a
             itself a b same = omega (arith, same)
 
-            by_waiting : (other : ℕ) (its_open : IsOpen g.life (suc i) said_now other) → IsWaiting other end.inclusion ⊎ IsAnsweredIn other said_now → its_held.at ≤ its_open.at
+            by_waiting : (other : ℕ) (its_open : IsOpenRequest g.life (suc i) said_now other) → IsWaiting other end.inclusion ⊎ IsAnsweredIn other said_now → its_held.at ≤ its_open.at
             by_waiting other its_open (inr (answer, among)) = absurd (its_open.unanswered answer among)
             by_waiting other its_open (inl (inl (y, among, same))) =
                 order_first g (suc i) its_held.at other its_open.at end.inclusion.queue (λ k made. made_once g here its_open.at k other its_open.made made) order_behind_it y among same

@@ -27,11 +27,11 @@ use Rattle.dkg_journal.specs.Operations.{ClearsPlan, PutsPlan}
 use Rattle.dkg_store.specs.Acts.{Ended, OnDisk}
 use Rattle.dkg_core.specs.Behind.{event_of}
 use Rattle.dkg_core.specs.Blocks as b
-use Rattle.dkg_core.specs.Core.{begun, opening, opens_in, step}
+use Rattle.dkg_core.specs.Core.{begun_life, opening, opens_in, step}
 use Rattle.dkg_core.specs.Courses.{Course, Say, Do, Call, Ask, Certified, Genesis, Goes, Stops, bind, on_devices, under}
 use Rattle.dkg_core.specs.Endings.{validity}
 use Rattle.dkg_core.specs.Entering as half
-use Rattle.dkg_core.specs.Entering.{Half, HalfAnswer, Acknowledges, Withholds, active, delivered}
+use Rattle.dkg_core.specs.Entering.{Half, HalfAnswer, Acknowledges, Withholds, active, takes_delivered}
 use Rattle.dkg_core.specs.Fixed.{Fixed, Material, OneShot, has}
 use Rattle.dkg_core.specs.Forms.{Applied, judged_block, share_read}
 use Rattle.dkg_core.specs.Live.{Dealer, Faulted, Finalized, Live, NodeStop, Orchestrator, Waiting, Watches, awaited_height, of_epoch, phase_of}
@@ -141,10 +141,10 @@ module _ {Dir : Type 0} (c : Fixed Dir) (P : Line → Type 0) (tells : (line : L
       (λ e. so_if P (nat_lt block.height (last c.blocks_per_epoch epoch)) (half.leaves st.orchestrator Acknowledges st) (half.enters_at c block (epoch + 1) (Some block.height) st) (λ e. tt)
       (λ e. enters_at block (epoch + 1) (Some block.height) st))
 
-  pub behind_block : (block : Block Dir) (st : Live Dir) → SaysSo P (unless_once c (bind (delivered c block st) (λ left. half.acked_at block.height left.answer left.live)) (Say (Acked block.height) (Goes st)))
+  pub behind_block : (block : Block Dir) (st : Live Dir) → SaysSo P (unless_once c (bind (takes_delivered c block st) (λ left. half.acked_at block.height left.answer left.live)) (Say (Acked block.height) (Goes st)))
   behind_block block st =
-      so_if P (is_some c.oneshot) (Say (Acked block.height) (Goes st)) (bind (delivered c block st) (λ left. half.acked_at block.height left.answer left.live)) (λ e. (tells (Acked block.height) tt, tt))
-      (λ e. so_behind P (delivered c block st) (λ left. half.acked_at block.height left.answer left.live)
+      so_if P (is_some c.oneshot) (Say (Acked block.height) (Goes st)) (bind (takes_delivered c block st) (λ left. half.acked_at block.height left.answer left.live)) (λ e. (tells (Acked block.height) tt, tt))
+      (λ e. so_behind P (takes_delivered c block st) (λ left. half.acked_at block.height left.answer left.live)
       (so_behind P (half.asks_again c st) (λ now. half.delivered_in c block now (active now.orchestrator)) (again st) (λ now. delivers_in block now (active now.orchestrator)))
       (λ left. acked block.height left.answer left.live))
 
@@ -154,7 +154,7 @@ pub block_lines : {Dir : Type 0} (c : Fixed Dir) (block : Block Dir) (st : Live 
 block_lines {Dir} c block st ended old new said =
     said_so P (node_step c (event_of (Finalized block)) st) ended old new
     (so_behind P (under Faulted (step c (Finalized block) st))
-    (λ now. unless_once c (bind (delivered c block now) (λ left. half.acked_at block.height left.answer left.live)) (Say (Acked block.height) (Goes now)))
+    (λ now. unless_once c (bind (takes_delivered c block now) (λ left. half.acked_at block.height left.answer left.live)) (Say (Acked block.height) (Goes now)))
     (so_under P Faulted (step c (Finalized block) st)
     (judged_is c block st (λ course. SaysSo P course) (λ t x y one other. so_if P t x y one other) (λ fault is. tt) (λ is. tt) (λ is. so_any {Dir = Dir} {F = Fault} {S = Live Dir} P (λ line. inl is) (b.applies c block st)) (λ is. tt)))
     (λ now. behind_block c P (λ line is. inr is) block now)) said
@@ -270,7 +270,7 @@ module _ {Dir : Type 0} (c : Fixed Dir) (reshare : c.oneshot ≡ None) where
         (so_if No (is_ok (whole (plans.material_at c (plans.material_bytes c m)))) (Do (OnDisk (PutsPlan (plans.material_bytes c m))) (next (Some m))) (Stops StateSyncMaterial) (λ e. next_so (Some m)) (λ e. tt))
 
   opening_so : Quiet (opening c)
-  opening_so = λ h. (tt, subst (λ (o : Option (OneShot Dir)). Quiet (opens_in c o (begun (c.seen h)))) (sym reshare) (finds (begun (c.seen h)) c.material))
+  opening_so = λ h. (tt, subst (λ (o : Option (OneShot Dir)). Quiet (opens_in c o (begun_life (c.seen h)))) (sym reshare) (finds (begun_life (c.seen h)) c.material))
 
   half_line : (line : Line) → IsHalfLine line → No line
   half_line (Answer number answer) is = absurd is

@@ -13,7 +13,7 @@ use Rattle.dkg_types.specs.Units.{unit_spelling}
 use Rattle.dkg_types.specs.declared.directory.Unit as directory
 use Rattle.dkg_types.specs.declared.entry.Why.{Why}
 use Rattle.dkg_types.specs.declared.info.EpochInfo.{EpochInfo}
-use Rattle.dkg_artifact.specs.Ancestries.{Completes, IsLinked, IsUnderWay, Refuses}
+use Rattle.dkg_artifact.specs.Ancestries.{CompletesPath, IsLinked, IsUnderWay, Refuses}
 use Rattle.dkg_artifact.specs.Scans.{above}
 use Rattle.dkg_artifact.specs.declared.scan.Tip as scan
 use Rattle.dkg_text.specs.declared.script.Event.{Event}
@@ -29,13 +29,13 @@ abbrev U : Type 0
 U = directory.Unit
 
 -- HOW A REQUEST STANDS behind some events: it wasn't made, its ancestry goes on or has ended, or it was cancelled
-pub data Standing : Type 0 where
-  Unmade : Standing
-  Open : Standing
-  Closed : Standing
-  Cancelled : Standing
+pub data RequestStanding : Type 0 where
+  Unmade : RequestStanding
+  Open : RequestStanding
+  Closed : RequestStanding
+  Cancelled : RequestStanding
 
-abbrev pub turns : (request : ℕ) → Standing → Event → Standing
+abbrev pub turns : (request : ℕ) → RequestStanding → Event → RequestStanding
 turns request Unmade (Info number) = if number == request then Open else Unmade
 turns request Open (Over number) = if number == request then Closed else Open
 turns request Open (Cancel number) = if number == request then Cancelled else Open
@@ -43,11 +43,11 @@ turns request Closed (Cancel number) = if number == request then Cancelled else 
 turns request standing _ = standing
 
 -- .. behind the first j events of a life
-abbrev pub standing_of : Life → (request j : ℕ) → Standing
+abbrev pub standing_of : Life → (request j : ℕ) → RequestStanding
 standing_of life request j = fold (turns request) Unmade (take j life.events)
 
 -- It was made, and wasn't cancelled.
-abbrev pub IsUncancelled : Standing → Type 0
+abbrev pub IsUncancelled : RequestStanding → Type 0
 IsUncancelled Unmade = ⊥
 IsUncancelled Open = Unit {0}
 IsUncancelled Closed = Unit {0}
@@ -76,7 +76,7 @@ pub record IsReadAt (script : Script) (life : Life) (epoch request j : ℕ) (rou
   pub lowest : Block U
   pub rest : List (Block U)
   pub fed : fed_in script life request j ≡ reverse (lowest ∷ path) ++ rest
-  pub completes : Completes (bounds_in script epoch) (scan_tip script life j) path lowest
+  pub completes : CompletesPath (bounds_in script epoch) (scan_tip script life j) path lowest
   pub logs : found ≡ logs_of_path check_log_of (midpoint (per_epoch script) epoch) (last (per_epoch script) epoch) round (above (scan_tip script life j) (lowest ∷ path))
 
 -- .. and these logs were asked for: recorded ones at or below the tip, and those found for the other dealers

@@ -10,7 +10,7 @@ use Rattle.dkg_script.specs.Consistent.{MayEndSo}
 use Rattle.dkg_script.specs.Promise.{AreHonestStores, IsBuilt, cuts_in}
 use Rattle.dkg_script.specs.Setting.{CutAt, Setting, setting_of}
 use Rattle.dkg_run.specs.Epochs.{IsChecked}
-use Rattle.dkg_run.specs.Over.{Over, Standing}
+use Rattle.dkg_run.specs.Over.{Over, DevicesStanding}
 use Rattle.dkg_script.specs.Valid.{AgreesWith, IsValidScript}
 
 -- The devices handed in are whole, with nothing loose. Their records are events within the script's limit, and what they hold agrees with the script.
@@ -27,16 +27,16 @@ pub record IsValidRun (s : Setting) (image : Files → Type 0) (ends : List (Opt
   pub devices : AreValidDevices s image
 
 -- .. of a script as it was cut, by these entries
-abbrev pub IsValidAsCut : Script → List Entry → Standing → Type 0
+abbrev pub IsValidAsCut : Script → List Entry → DevicesStanding → Type 0
 IsValidAsCut script entries before = let s = setting_as_cut script before.files before.held entries in IsValidRun s before.image (cuts_in s entries)
 
 -- .. and of a script as it is cut, however that may be
-abbrev pub IsValidAnyhow : Script → Standing → Type 0
+abbrev pub IsValidAnyhow : Script → DevicesStanding → Type 0
 IsValidAnyhow script before =
     (ends : List (Option CutAt)) → MayEndSo script.lives ends → IsValidRun (setting_of (as_cut ends script) before.files before.held) before.image ends
 
 -- It is valid in this sense, the devices tell, and no count of theirs rose.
-pub record IsSoundRun (o : Over) (Valid : Standing → Type 0) : Type 0 where
+pub record IsSoundRun (o : Over) (Valid : DevicesStanding → Type 0) : Type 0 where
   pub tells : o.tells
   pub valid : Valid o.before
   pub no_disk_rose : o.disk_rose → ⊥

@@ -23,7 +23,7 @@ use Rattle.dkg_script.specs.Consistent.{IsConsistentScript}
 use Rattle.dkg_script.specs.Promise.{cuts_in}
 use Rattle.dkg_script.specs.Readings.{Info}
 use Rattle.dkg_script.specs.Setting.{CutAt, Setting, me, recovered_from, setting_of}
-use Rattle.dkg_run.specs.Over.{Standing}
+use Rattle.dkg_run.specs.Over.{DevicesStanding}
 
 -- a fault that names no corrupt record
 abbrev pub NamesNoRecord : Fault → Type 0
@@ -58,10 +58,10 @@ pub record HoldsValid (s : Setting) (files : Files) (held : Secrets) : Type 0 wh
   pub shares : SharesFitInfos s held
 
 -- .. where it holds of what a read gives before, it does of whatever a crash leaves now
-abbrev pub StaysValid : Setting → (before now : Standing) → Type 0
+abbrev pub StaysValid : Setting → (before now : DevicesStanding) → Type 0
 StaysValid s before now = Lands before.files before.image → HoldsValid s before.files before.held → (c : Files) → now.image c → HoldsValid s c now.held
 
-pub record GivesBack (script : Script) (result : Result (Unit {0}) Fault) (before now : Standing) (added : List Entry) : Type 0 where
+pub record GivesBack (script : Script) (result : Result (Unit {0}) Fault) (before now : DevicesStanding) (added : List Entry) : Type 0 where
   -- each record that a crash leaves is whole and an event within the limit, and then no fault names a corrupt one
   pub fit : AreFit (limit_in script) before.image → AreFit (limit_in script) now.image
   pub unblamed : IfErr result (λ fault. AreFit (limit_in script) before.image → NamesNoRecord fault)

@@ -30,7 +30,7 @@ abbrev pub LacksAnswer : List Entry → (request : ℕ) → Type 0
 LacksAnswer said request = (answer : AnswerLine) → IsAmong (Answer request answer) said → ⊥
 
 -- Behind the first j events of a life the request is open: one of them made it, none has cancelled it, and these entries don't answer it.
-pub record IsOpen (life : Life) (j : ℕ) (said : List Entry) (request : ℕ) : Type 0 where
+pub record IsOpenRequest (life : Life) (j : ℕ) (said : List Entry) (request : ℕ) : Type 0 where
   pub at : ℕ
   pub before : at < j
   pub made : slice_get life.events at ≡ Some (Info request)
@@ -39,9 +39,9 @@ pub record IsOpen (life : Life) (j : ℕ) (said : List Entry) (request : ℕ) : 
 
 -- .. and it is the oldest that is, made while the epoch was awaited that is awaited then
 pub record IsOldest (script : Script) (l : ℕ) (life : Life) (j : ℕ) (said : List Entry) (request : ℕ) : Type 0 where
-  pub its : IsOpen life j said request
+  pub its : IsOpenRequest life j said request
   pub of_epoch : awaited_epoch (alone script) l life its.at ≡ awaited_epoch (alone script) l life j
-  pub first : (other : ℕ) (one : IsOpen life j said other) → its.at ≤ one.at
+  pub first : (other : ℕ) (one : IsOpenRequest life j said other) → its.at ≤ one.at
 
 -- A request needs blocks: its ancestry goes on, and what it was fed is a path that isn't read to the last needed height.
 pub record NeedsBlocks (script : Script) (life : Life) (epoch j request : ℕ) : Type 0 where
@@ -82,13 +82,13 @@ pub record Verifies (script : Script) (l : ℕ) (life : Life) (epoch j : ℕ) (s
 abbrev pub LeavesFew : Script → (l : ℕ) → Life → (j : ℕ) → List Entry → Type 0
 LeavesFew script l life j said =
     follows (alone script) l life (awaited_epoch (alone script) l life j) ≡ false → midpoint (per_epoch script) (awaited_epoch (alone script) l life j) ≤ awaited_height (alone script) l life j
-    → (request : ℕ) → IsOpen life j said request → Verifies script l life (awaited_epoch (alone script) l life j) j said
+    → (request : ℕ) → IsOpenRequest life j said request → Verifies script l life (awaited_epoch (alone script) l life j) j said
     ⊎ ((oldest : ℕ) × IsOldest script l life j said oldest × NeedsBlocks script life (awaited_epoch (alone script) l life j) j oldest)
 
 -- .. and in one that it follows
 abbrev pub LeavesNone : Script → (l : ℕ) → Life → (j : ℕ) → List Entry → Type 0
 LeavesNone script l life j said =
-    LeavesFew script l life j said × (follows (alone script) l life (awaited_epoch (alone script) l life j) ≡ true → (request : ℕ) → IsOpen life j said request → ⊥)
+    LeavesFew script l life j said × (follows (alone script) l life (awaited_epoch (alone script) l life j) ≡ true → (request : ℕ) → IsOpenRequest life j said request → ⊥)
 
 -- each completed step of each life, by what the life has written since it opened
 abbrev pub LeavesSo : Script → List Entry → Type 0

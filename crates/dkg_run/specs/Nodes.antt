@@ -27,9 +27,9 @@ use Rattle.dkg_reshare.specs.declared.message.Message.{Message}
 use Rattle.dkg_reshare.specs.declared.message.Message.TheVariants as message
 use Rattle.dkg_core.specs.Sources.{Source}
 use Rattle.dkg_core.specs.Endings.{OnInfo, first_epoch}
-use Rattle.dkg_reshare.specs.Actors.{IfIncluding, IfLiving, IsAt, IsLiving, message_of}
+use Rattle.dkg_reshare.specs.Actors.{IfIncluding, IfLiving, IsOpenedOn, IsLiving, message_of}
 use Rattle.dkg_dealing.specs.Given.{IsOf}
-use Rattle.dkg_reshare.specs.Carried.{CarriesWithin}
+use Rattle.dkg_reshare.specs.CarriedLogs.{CarriesWithin}
 use Rattle.dkg_inclusion.specs.InclusionOf.{IsSeen, IsSettledInclusion}
 use Rattle.dkg_dealing.specs.LiveOf.{Beside, live_of}
 use Rattle.dkg_dealing.specs.declared.life.Life as reshare
@@ -111,7 +111,7 @@ pub record IsView (node : Node) (st : Live directory.Unit) : Type 0 where
 
 -- It goes on over these devices.
 pub record IsReadyNode {D X : Type 0} (tells : Bool) (files : D → Files) (image : D → Files → Type 0) (node : Node) (devices : Devices D X) : Type 0 where
-  pub at : IsAt tells files image ack_of deal_of check_ack_of node.actor.terms node.actor.state devices
+  pub at : IsOpenedOn tells files image ack_of deal_of check_ack_of node.actor.terms node.actor.state devices
   pub living : IsLiving node.actor.state
   pub including : IfIncluding node.actor.state (IsSettledInclusion check_log_of dealing_of finish_of (non_zero_u64_get node.actor.terms.blocks_per_epoch))
   pub blocks_are : node.blocks_per_epoch ≡ node.actor.terms.blocks_per_epoch

@@ -2,7 +2,7 @@
 use Rattle.std.specs.Prelude.{◌≡◌, ◌<◌, ◌≤◌, ◌++◌, ℕ, List, [], length, take}
 
 -- these bytes were taken from the front of what was left
-pub record Took (bytes old new : List ℕ) : Type 0 where
+pub record TookFront (bytes old new : List ℕ) : Type 0 where
   pub parts : old ≡ bytes ++ new
 
 -- The n bytes that now stand in front of the piece were taken. None, for a piece that has room, is the end.
@@ -32,7 +32,7 @@ pub record HoldsFront (bytes old new : List ℕ) : Type 0 where
 pub record TookFew (most : ℕ) (old new : List ℕ) : Type 0 where
   pub bytes : List ℕ
   pub parts : old ≡ bytes ++ new
-  pub few : length bytes ≤ most
+  pub in_bound : length bytes ≤ most
 
 -- a front of these bytes stands behind what was held, and the others are the rest
 pub record Rest (bytes rest old new : List ℕ) : Type 0 where

@@ -9,12 +9,12 @@ use Rattle.dkg_secrets.specs.declared.secrets.SecretOp.{SecretOp}
 use Rattle.dkg_run.specs.Stopped.{Stopped}
 
 -- How both devices stand: what a read of the disk gives, what a crash may leave of it, and what the secret store holds.
-pub record Standing : Type 1 where
+pub record DevicesStanding : Type 1 where
   pub files : Files
   pub image : Files → Type 0
   pub held : Secrets
 
-abbrev pub standing : Files → (image : Files → Type 0) → (held : Secrets) → Standing
+abbrev pub standing : Files → (image : Files → Type 0) → (held : Secrets) → DevicesStanding
 standing files image held = record { files = files; image = image; held = held }
 
 -- How both devices stood before a call and stand now, and what is told of what came between.
@@ -22,8 +22,8 @@ pub record Over : Type 1 where
   -- the disk tells what it holds, and both devices do
   pub disk_tells : Type 0
   pub tells : Type 0
-  pub before : Standing
-  pub now : Standing
+  pub before : DevicesStanding
+  pub now : DevicesStanding
   -- the device failed: its count rose
   pub disk_rose : Type 0
   pub secrets_rose : Type 0

@@ -7,7 +7,7 @@ use Rattle.dkg_types.specs.Blocks.{Block as Made}
 use Rattle.dkg_types.specs.declared.directory.Unit as directory
 use Rattle.dkg_text.specs.declared.script.Event.TheVariants.{Final}
 use Rattle.dkg_text.specs.declared.script.Life.{Life}
-use Rattle.dkg_script.specs.Epochs.{ComesTo}
+use Rattle.dkg_script.specs.Epochs.{IsUncutBefore}
 use Rattle.dkg_script.specs.Position.{awaited_height, event_of_step}
 use Rattle.dkg_script.specs.Promise.{IsBuilt, IsHonestRun}
 use Rattle.dkg_script.specs.Setting.{Setting, CutAt, life_at}
@@ -40,7 +40,7 @@ pub record SkipsIn (s : Setting) (l : ℕ) (life : Life) (fault : Fault) : Type 
   pub number : ℕ
   pub block : Made directory.Unit
   pub event_is : event_of_step life (suc taken) ≡ Some (Final number)
-  pub reached : ComesTo life.cut (suc taken)
+  pub reached : IsUncutBefore life.cut (suc taken)
   pub block_is : slice_get (blocks_in s.script) number ≡ Some block
   pub so : Skips s l life taken block fault ⊎ IsNoFirst s l life taken block fault
 

@@ -29,17 +29,17 @@ fault_status fault.Secrets = status.Device
 fault_status other = status.Fault other
 
 -- the number of a status, which is the program's exit status
-abbrev pub number_of : Status → ℕ
-number_of status.Done = 0
-number_of status.Usage = 2
-number_of (status.BadScript place) = 3
-number_of (status.Fault fault) = 4
-number_of status.Device = 5
-number_of status.NoMemory = 6
-number_of status.ReadFault = 7
-number_of status.WriteFault = 8
-number_of status.TooLong = 9
-number_of status.Unsupported = 10
+abbrev pub exit_status_of : Status → ℕ
+exit_status_of status.Done = 0
+exit_status_of status.Usage = 2
+exit_status_of (status.BadScript place) = 3
+exit_status_of (status.Fault fault) = 4
+exit_status_of status.Device = 5
+exit_status_of status.NoMemory = 6
+exit_status_of status.ReadFault = 7
+exit_status_of status.WriteFault = 8
+exit_status_of status.TooLong = 9
+exit_status_of status.Unsupported = 10
 
 -- the last line that is written for a status, where it has one
 abbrev pub last_of : Status → List ℕ
@@ -59,7 +59,7 @@ pub record WasRead (Tells : Type 0) (old new : List ℕ) (HasBack : List ℕ →
 
 -- A script was read, of a form that is run, and its lives were run, which answered this and kept all that it promises. (`Gave` says that the source gave
 -- these bytes to its end; `out` is the transcript before.)
-pub record Ran (Gave : List ℕ → Type 0) (o : Over) (out : List Entry) (result : Result (Unit {0}) Fault) (entries : List Entry) : Type 0 where
+pub record RanScript (Gave : List ℕ → Type 0) (o : Over) (out : List Entry) (result : Result (Unit {0}) Fault) (entries : List Entry) : Type 0 where
   pub bytes : List ℕ
   pub gave : Gave bytes
   pub script : Script
@@ -91,10 +91,10 @@ pub record NotBuilt (Gave : List ℕ → Type 0) (o : Over) (entries : List Entr
 
 -- by the status
 abbrev pub RanByStatus : (Gave : List ℕ → Type 0) → Over → (out : List Entry) → Status → (entries : List Entry) → Type 0
-RanByStatus Gave o out status.Done entries = Ran Gave o out (Ok tt) entries
-RanByStatus Gave o out (status.Fault its) entries = IsNodeFault its × Ran Gave o out (Err its) entries
-RanByStatus Gave o out status.Device entries = Ran Gave o out (Err fault.Disk) entries ⊎ Ran Gave o out (Err fault.Secrets) entries
-RanByStatus Gave o out status.NoMemory entries = RanNothing o entries ⊎ Ran Gave o out (Err fault.NoMemory) entries
+RanByStatus Gave o out status.Done entries = RanScript Gave o out (Ok tt) entries
+RanByStatus Gave o out (status.Fault its) entries = IsNodeFault its × RanScript Gave o out (Err its) entries
+RanByStatus Gave o out status.Device entries = RanScript Gave o out (Err fault.Disk) entries ⊎ RanScript Gave o out (Err fault.Secrets) entries
+RanByStatus Gave o out status.NoMemory entries = RanNothing o entries ⊎ RanScript Gave o out (Err fault.NoMemory) entries
 RanByStatus Gave o out (status.BadScript place) entries = NoScript Gave o place entries
 RanByStatus Gave o out status.Unsupported entries = NotBuilt Gave o entries
 RanByStatus Gave o out status.ReadFault entries = RanNothing o entries

@@ -35,13 +35,13 @@ use Rattle.dkg_run.specs.GivesBack.{SharesFitInfos}
 -- IT FITS
 
 -- the script has the epoch's info, and this is the node's share of the output that this carries on
-abbrev pub Fits : Setting → (epoch share : ℕ) → Type 0
-Fits s epoch share = IsSomeAnd (known_info s epoch) (λ info. partial_public_of info.output (me s) ≡ Some (share_public_of share))
+abbrev pub FitsCarried : Setting → (epoch share : ℕ) → Type 0
+FitsCarried s epoch share = IsSomeAnd (known_info s epoch) (λ info. partial_public_of info.output (me s) ≡ Some (share_public_of share))
 
 -- THE CLAUSE `shares` of the promise: over devices whose shares fit, of a consistent script (judged as it was cut)
 abbrev pub CommitsFit : Script → Files → Secrets → List Entry → Type 0
 CommitsFit script files held out = let s = setting_as_cut script files held out in
-    IsFormOfInclusion s.script → IsConsistentScript s (progress s out).cuts → SharesFitInfos s s.secrets → (epoch share : ℕ) → Contains out (Committed epoch (Some share)) → Fits s epoch share
+    IsFormOfInclusion s.script → IsConsistentScript s (progress s out).cuts → SharesFitInfos s s.secrets → (epoch share : ℕ) → Contains out (Committed epoch (Some share)) → FitsCarried s epoch share
 
 -- IT STANDS EXACTLY, where a life behind an epoch that it takes part in commits the next
 

@@ -16,7 +16,7 @@ ghost use Rattle.dkg_run.specs.Command.{IsMake, IsRun, IsRunOfMade, IsTold};
 ghost use Rattle.dkg_run.specs.Complete.{IsSoundRun, IsValidAnyhow};
 ghost use Rattle.dkg_run.specs.Outside.{TookFew, TookMore};
 ghost use Rattle.dkg_run.specs.Over.{over};
-ghost use Rattle.dkg_run.specs.Reports.{Blamed, IsMade, WasRead, Reported, RanByStatus, Summed, fault_status, last_fault as last_fault_of, last_of, number_of, summary_by};
+ghost use Rattle.dkg_run.specs.Reports.{Blamed, IsMade, WasRead, Reported, RanByStatus, Summed, fault_status, last_fault as last_fault_of, last_of, exit_status_of, summary_by};
 
 use crate::lives::run_lives;
 use crate::sink::Sink;
@@ -61,7 +61,7 @@ pub enum Status {
 impl Status {
     /// The number of the status.
     pub fn number(&self) -> u8
-        ensures { result ≡ number_of self.now }
+        ensures { result ≡ exit_status_of self.now }
     {
         match self {
             Status::Done => 0,
@@ -200,7 +200,7 @@ fn run<S: Source, D: Disk, X: SecretStore>(
 ) -> Status
     ensures read_fault { result ≡ Status.ReadFault → Rose (S.faults source.old) (S.faults source.new) }
     ensures too_long { result ≡ Status.TooLong → IsTrue S.tells → TookMore 16777216 (S.left source.old) (S.left source.new) }
-    ensures few { IsTrue S.tells → TookFew 16777217 (S.left source.old) (S.left source.new) }
+    ensures in_bound { IsTrue S.tells → TookFew 16777217 (S.left source.old) (S.left source.new) }
     ensures ends { Adds out.old.entries out.new.entries (RanByStatus (WasRead (IsTrue S.tells) (S.left source.old) (S.left source.new) (S.has_back source.new))
         (over D.tells D.files D.image D.faults D.made X.tells X.held X.faults X.made (disk.old, secrets.old) (disk.new, secrets.new))
         out.old.entries result) }
@@ -405,7 +405,7 @@ pub fn run_command<S: Source, K: Sink, D: Disk, X: SecretStore>(
         (over D.tells D.files D.image D.faults D.made X.tells X.held X.faults X.made (disk.old, secrets.old) (disk.new, secrets.new))
         (Rose (S.faults source.old) (S.faults source.new)) (Rose (K.faults sink.old) (K.faults sink.new))
         (IsTrue S.tells → TookMore 16777216 (S.left source.old) (S.left source.new)) result }
-    ensures few { IsTrue S.tells → TookFew 16777217 (S.left source.old) (S.left source.new) }
+    ensures in_bound { IsTrue S.tells → TookFew 16777217 (S.left source.old) (S.left source.new) }
     // Where the source holds the text of a script of a form that is run, which is valid however it is cut, the devices are valid, and no count rises, every
     // life is run, unless memory runs out.
     ensures complete { IsRun (map string_bytes words.now) → IsTrue S.tells → (script : Script)

@@ -12,7 +12,7 @@ ghost use Rattle.dkg_types.specs.Blocks as blocks;
 ghost use Rattle.dkg_types.specs.declared.directory.Unit as directory;
 ghost use Rattle.dkg_types.specs.declared.entry.Entry.TheVariants as entry;
 ghost use Rattle.dkg_core.specs.Courses.{bind};
-ghost use Rattle.dkg_core.specs.Entering.{acked_at, delivered, delivered_in, is_ready};
+ghost use Rattle.dkg_core.specs.Entering.{acked_at, takes_delivered, delivered_in, is_ready};
 ghost use Rattle.dkg_core.specs.Fixed.{Fixed};
 ghost use Rattle.dkg_core.specs.Live.{Live};
 ghost use Rattle.dkg_core.specs.Node.{kept_material};
@@ -182,7 +182,7 @@ impl Half {
     }
 
     /// Takes a finalized block, and acknowledges it, where this half is active: an epoch's last one once the next epoch was entered
-    /// (`delivered`, `acked_at`).
+    /// (`takes_delivered`, `acked_at`).
     pub fn deliver(
         &mut self,
         blocks_per_epoch: NonZeroU64,
@@ -194,7 +194,7 @@ impl Half {
         ensures speaks { (c : Fixed directory.Unit) (st : Live directory.Unit) → c.blocks_per_epoch ≡ non_zero_u64_get blocks_per_epoch → HasHalf self.old st
             → st.orchestrator.fence ≡ fence.old
             → ((epoch : ℕ) → self.old.halted ≡ false → self.old.entered ≡ Some epoch → MayGoOn c fence.old block.now epoch st)
-            → Speaks (bind (delivered c block.now st) (λ half. acked_at block.now.height half.answer half.live))
+            → Speaks (bind (takes_delivered c block.now st) (λ half. acked_at block.now.height half.answer half.live))
             (ends_node (with_half self.new fence.new st) result) out.old.entries out.new.entries }
         ensures settled { OnOk result (IsSettled (non_zero_u64_get blocks_per_epoch) self.new) }
         ensures causes { IfErr result (λ stop. IsCaused stop ⊥ ⊥ ⊥) }

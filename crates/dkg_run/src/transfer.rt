@@ -64,7 +64,7 @@ fn read_up_to<S: Source>(
     ensures short { IfOk result (λ bytes. length bytes.items ≤ most) }
     ensures too_long { IsErrOf result ReadError.TooLong → IsTrue S.tells → TookMore most (S.left source.old) (S.left source.new) }
     // Whatever it answers, it has taken one byte more than that at most.
-    ensures few { IsTrue S.tells → TookFew (most + 1) (S.left source.old) (S.left source.new) }
+    ensures in_bound { IsTrue S.tells → TookFew (most + 1) (S.left source.old) (S.left source.new) }
     ensures failed { IsErrOf result ReadError.Failed → Rose (S.faults source.old) (S.faults source.new) }
     ensures later { S.faults source.old ≤ S.faults source.new }
 {
@@ -88,7 +88,7 @@ pub fn read_all<S: Source>(alloc: Global, source: &mut S) -> Result<Vec<u8>, Rea
     ensures whole { IfOk result (λ bytes. IsTrue S.tells → TookAll bytes.items (S.left source.old) (S.left source.new)) }
     ensures short { IfOk result (λ bytes. length bytes.items ≤ 16777216) }
     ensures too_long { IsErrOf result ReadError.TooLong → IsTrue S.tells → TookMore 16777216 (S.left source.old) (S.left source.new) }
-    ensures few { IsTrue S.tells → TookFew 16777217 (S.left source.old) (S.left source.new) }
+    ensures in_bound { IsTrue S.tells → TookFew 16777217 (S.left source.old) (S.left source.new) }
     ensures failed { IsErrOf result ReadError.Failed → Rose (S.faults source.old) (S.faults source.new) }
     ensures later { S.faults source.old ≤ S.faults source.new }
 {

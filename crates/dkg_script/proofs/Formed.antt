@@ -115,7 +115,7 @@ pub record HasPassed (script : Script) : Type 0 where
   pub plain : script.addressed ≡ false
   pub reshares : script.config.oneshot ≡ None
   pub own : script.config.me < 2 ^ 32
-  pub few : non_zero_u32_get script.config.limit ≤ 2 ^ 30
+  pub in_bound : non_zero_u32_get script.config.limit ≤ 2 ^ 30
   pub lives : are_lives (length script.blocks) script.lives ≡ true
 
 pub has_passed : (script : Script) → is_built script ≡ true → HasPassed script
@@ -132,7 +132,7 @@ has_passed script e =
       plain = unaddressed script.addressed inner.0;
       reshares = none_of config.oneshot shot.0;
       own = ltb-true config.me (2 ^ 32) keyed.1;
-      few = leb-true (non_zero_u32_get config.limit) (2 ^ 30) limited.1;
+      in_bound = leb-true (non_zero_u32_get config.limit) (2 ^ 30) limited.1;
       lives = outer.1;
     }
 
@@ -144,7 +144,7 @@ form_if_built script e short of_text =
       plain = passed.plain;
       reshares = passed.reshares;
       own = passed.own;
-      few = passed.few;
+      in_bound = passed.in_bound;
       short = short;
       rising = of_text.rising;
       blocks = of_text.blocks;
@@ -167,7 +167,7 @@ built_if_form script form nothing =
     let alone_is : is_alone config ≡ true =
     both (not (is_some config.oneshot) && (length config.addresses == 0)) (not (is_some config.probe))
     (both (not (is_some config.oneshot)) (length config.addresses == 0) (is_none_of config.oneshot form.reshares) no_address) (is_none_of config.probe nothing.1) in
-    let limited : is_limit config ≡ true = le-leb (non_zero_u32_get config.limit) (2 ^ 30) form.few in
+    let limited : is_limit config ≡ true = le-leb (non_zero_u32_get config.limit) (2 ^ 30) form.in_bound in
     let keyed : is_key config.me ≡ true = lt-ltb config.me (2 ^ 32) form.own in
     let plain : is_plain config ≡ true = both (is_alone config && is_limit config) (is_key config.me) (both (is_alone config) (is_limit config) alone_is limited) keyed in
     let tested = holds_all (IsTested script.blocks) script.lives (λ l life is. let its = form.lives l life is in record { no_sync = its.no_sync; events = its.events }) in

@@ -16,7 +16,7 @@ use Rattle.dkg_ceremony.specs.ValidLogs.{bears_ack_of}
 use Rattle.dkg_ceremony.specs.declared.dealer_log.DealerLog.{DealerLog}
 use Rattle.dkg_ceremony.specs.declared.log_entry.LogEntry.TheVariants.{Ack, Reveal}
 use Rattle.dkg_ceremony.specs.declared.round.RoundParts.{RoundParts as Round}
-use Rattle.dkg_journal.specs.Records.{Entry}
+use Rattle.dkg_journal.specs.Records.{SectionEntry}
 use Rattle.dkg_secrets.specs.Keys.{key_cmp}
 use Rattle.dkg_secrets.proofs.Map.{keys_total}
 use Rattle.dkg_store.specs.Noted.{Notes, logs_in}
@@ -146,7 +146,7 @@ one_digest one other a b first second same = only_one (blocks (setting two)) one
 
 no_records : AreChainLogs (setting two)
 no_records epoch dealer noted round l j life there comes known is =
-    absurd (none_noted (epoch, dealer) noted (sym (ap (λ (es : List Entry). get (logs_in es) (epoch, dealer)) nothing_there) ∙ is))
+    absurd (none_noted (epoch, dealer) noted (sym (ap (λ (es : List SectionEntry). get (logs_in es) (epoch, dealer)) nothing_there) ∙ is))
 
 starts_at_zero : (life : Life) → awaited_height (setting two) 0 first_life 0 ≡ 0
 unfolding awaited_height

@@ -9,7 +9,7 @@ use Rattle.dkg_values.specs.Uint.{groups_at}
 use Rattle.dkg_values.specs.declared.name.Name.TheVariants.{Plan}
 use Rattle.dkg_ceremony.specs.Modes.{mode_at}
 use Rattle.dkg_journal.specs.Names.{name_cmp}
-use Rattle.dkg_journal.specs.Records.{Entry}
+use Rattle.dkg_journal.specs.Records.{SectionEntry}
 use Rattle.dkg_types.specs.InfoCodes.{held_at, parts_at}
 use Rattle.dkg_types.specs.OutcomeCodes.{outcome_after}
 use Rattle.dkg_types.specs.PayloadCodes.{carried_at, payload_after}
@@ -45,7 +45,7 @@ two_is_early = record {
   plain = refl;
   reshares = refl;
   own = lit< tt;
-  few = lit≤ tt;
+  in_bound = lit≤ tt;
   long = lit≤ tt;
   short = lit< tt;
   supported = refl;
@@ -74,7 +74,7 @@ consistent_in plans ends history = record {
 
 empty_stores : (script : Script) → AreHonestStores (setting script) (OnlyThese (files_of None))
 empty_stores script = record {
-  whole = subst (λ (es : List Entry). IsWhole es (secrets_of [])) (sym nothing_there) tt;
+  whole = subst (λ (es : List SectionEntry). IsWhole es (secrets_of [])) (sym nothing_there) tt;
   nothing_loose = record { only = λ c is. is };
 }
 
@@ -90,7 +90,7 @@ install_is_early = record {
   plain = refl;
   reshares = refl;
   own = lit< tt;
-  few = lit≤ tt;
+  in_bound = lit≤ tt;
   long = lit≤ tt;
   short = lit< tt;
   supported = refl;
@@ -123,7 +123,7 @@ gate_is_early = record {
   plain = refl;
   reshares = refl;
   own = lit< tt;
-  few = lit≤ tt;
+  in_bound = lit≤ tt;
   long = lit≤ tt;
   short = lit< tt;
   supported = refl;

@@ -22,7 +22,7 @@ use Rattle.dkg_text.specs.declared.script.PlayerLine.{PlayerLine}
 use Rattle.dkg_text.specs.declared.script.Script.{Script}
 use Rattle.dkg_text.specs.Allowed.{IsAnchor, IsBlockLine, IsEventAfter, IsLife, IsPlayerLine, IsScript}
 use Rattle.dkg_text.specs.Asked.{is_asked}
-use Rattle.dkg_text.specs.Carried.{carried, kind_of, unit_kind}
+use Rattle.dkg_text.specs.PayloadKinds.{payload_kind, kind_of, unit_kind}
 use Rattle.dkg_text.specs.Grammar.{absent_from, is_above, is_event, is_payload, limit_of, reading_of, script_of, script_or_place, with_place}
 use Rattle.dkg_text.specs.Rows.{◌>>=◌}
 use Rattle.dkg_text.specs.Spells.{FitAfter}
@@ -48,7 +48,7 @@ some_before f (Some x) is = refl
 
 payload_read : (limit version : ℕ) (payload : Option (List ℕ)) → is_payload false limit version payload ≡ true
     → IfSome payload (λ bytes. IsSome (unit_payload (record { most = limit; version = version; addressed = false }) bytes))
-unfolding carried unit_kind
+unfolding payload_kind unit_kind
 payload_read limit version None is = tt
 payload_read limit version (Some bytes) is = some_before kind_of (result_ok (whole (payload_at (λ _. unit_at) (λ _ _. true) limit version bytes))) is
 

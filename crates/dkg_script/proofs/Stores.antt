@@ -8,7 +8,7 @@ use Rattle.dkg_values.specs.Uint.{groups_at}
 use Rattle.dkg_journal.specs.Names.{Files}
 use Rattle.dkg_journal.specs.Records.{entries, read32, read64}
 use Rattle.dkg_store.specs.Events.{event_after}
-use Rattle.dkg_store.specs.Pairs.{IsWhole, dealing_of}
+use Rattle.dkg_store.specs.Pairs.{IsWhole, recorded_dealing}
 use Rattle.dkg_secrets.specs.Secrets.{Secrets}
 use Rattle.dkg_secrets.proofs.Map.{keys_total}
 use Rattle.dkg_store.proofs.Pairs.{get_here}
@@ -27,7 +27,7 @@ pair_in epoch middle private = record { epoch = epoch; dealer = 2; public = 15 �
 pub record Stored (files : Files) (secrets : Secrets) (pair : Restored) : Type 0 where
   pub body : List ℕ
   pub entry : entries files ≡ (pair.epoch, body) ∷ []
-  pub dealing : dealing_of (pair.epoch, body) ≡ Some (record { key = (pair.epoch, pair.dealer); public = pair.public })
+  pub dealing : recorded_dealing (pair.epoch, body) ≡ Some (record { key = (pair.epoch, pair.dealer); public = pair.public })
   pub half : get secrets.privates (pair.epoch, pair.dealer) ≡ Some pair.private
 
 module _ (files : Files) (secrets : Secrets) (pair : Restored) (h : Stored files secrets pair) where

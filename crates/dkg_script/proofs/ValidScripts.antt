@@ -154,7 +154,7 @@ module _ (plans : List (Option Material)) where
     plain = refl;
     reshares = refl;
     own = lit< tt;
-    few = lit≤ tt;
+    in_bound = lit≤ tt;
     long = lit≤ tt;
     short = lit< tt;
     supported = refl;

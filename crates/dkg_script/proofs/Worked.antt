@@ -7,7 +7,7 @@ use Rattle.dkg_values.specs.declared.name.Name.{Name}
 use Rattle.dkg_values.specs.declared.name.Name.TheVariants.{Flat}
 use Rattle.dkg_ceremony.specs.declared.mode.Mode.TheVariants.{NonZeroCounter}
 use Rattle.dkg_journal.specs.Names.{Files, name_cmp}
-use Rattle.dkg_journal.specs.Records.{Entry, entries, entries_with, segment_entries}
+use Rattle.dkg_journal.specs.Records.{SectionEntry, entries, entries_with, segment_entries}
 use Rattle.dkg_journal.proofs.Steps.{names_total}
 use Rattle.dkg_secrets.specs.Keys.{key_cmp}
 use Rattle.dkg_store.specs.Pairs.{recovered}
@@ -133,7 +133,7 @@ pub nothing_there : entries (files_of None) ≡ []
 nothing_there = ap (λ o. entries_with o (files_of None)) (get-empty name_cmp Flat) ∙ ap (λ (xs : List (Name × List ℕ)). flat_map segment_entries xs) (no_pairs name_cmp)
 
 pub nothing_recovered : (secrets : Secrets) → recovered_from (files_of None) secrets ≡ empty
-nothing_recovered secrets = ap (λ (es : List Entry). recovered es secrets) nothing_there
+nothing_recovered secrets = ap (λ (es : List SectionEntry). recovered es secrets) nothing_there
 
 pub nothing_listed : (secrets : Secrets) → listed (recovered_from (files_of None) secrets) ≡ []
 nothing_listed secrets = ap listed (nothing_recovered secrets) ∙ ap (λ (xs : List ((ℕ × ℕ) × (List ℕ × ℕ))). map (λ p. record { epoch = p.0.0; dealer = p.0.1; public = p.1.0; private = p.1.1 }) xs) (no_pairs key_cmp)

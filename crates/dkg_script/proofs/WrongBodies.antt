@@ -97,7 +97,7 @@ gives_back out image secrets kept = subst (λ p. IsDurable (setting two) p image
 
 none_given : (c : Files) (secrets : Secrets) → entries c ≡ [] → Gives (recovered_from c secrets) pair → ⊥
 none_given c secrets none given =
-    none_not_some (15 ∷ 7 ∷ 1 ∷ [], 23) (sym (get-empty key_cmp (0, 2)) ∙ ap (λ (es : List journal.Entry). get (recovered es secrets) (0, 2)) (sym none) ∙ given)
+    none_not_some (15 ∷ 7 ∷ 1 ∷ [], 23) (sym (get-empty key_cmp (0, 2)) ∙ ap (λ (es : List journal.SectionEntry). get (recovered es secrets) (0, 2)) (sym none) ∙ given)
 
 closed : entries (files_of (Some (flat 0 0 7))) ≡ []
 unfolding read32 read64
@@ -117,7 +117,7 @@ opened_file = entries_are (flat 1 0 7)
 no_half : IsWhole (entries (files_of (Some (flat 1 0 7)))) (secrets_of []) → ⊥
 unfolding many_at groups_at byte_at event_after
 no_half whole =
-    let half : is_some (get (secrets_of []).privates (0, 2)) ≡ true = (subst (λ (es : List journal.Entry). IsWhole es (secrets_of [])) opened_file whole).0 in
+    let half : is_some (get (secrets_of []).privates (0, 2)) ≡ true = (subst (λ (es : List journal.SectionEntry). IsWhole es (secrets_of [])) opened_file whole).0 in
     false_not_true (ap is_some (sym (get-from_entries keys_total [] (0, 2))) ∙ half)
 
 pub public_first_is_not_kept : (out : List Entry) → Kept (setting two) out (OnlyThese (files_of (Some (flat 1 0 7)))) (secrets_of []) → ⊥
@@ -222,7 +222,7 @@ due_with (Some m ∷ plans) history = absurd (not_found (history.first ∙ nothi
 no_log : OwnMarks (setting two) (Opened 0 [] ∷ opening)
 no_log = record {
   delivered = from_start two (IsKnownAt (setting two)) (Opened 0 [] ∷ opening) (tt, (tt, (tt, (tt, (tt, (tt, tt))))));
-  handed_in = subst (λ (es : List journal.Entry). AllByRecursion (IsKnownInEntry (setting two) (listed (recovered_from (files_of None) (secrets_of [])))) es) (sym nothing_there) tt;
+  handed_in = subst (λ (es : List journal.SectionEntry). AllByRecursion (IsKnownInEntry (setting two) (listed (recovered_from (files_of None) (secrets_of [])))) es) (sym nothing_there) tt;
 }
 
 pub silent_is_not_complete : IsComplete (setting two) silent → ⊥

@@ -34,13 +34,13 @@ IsAnchorIn blocks (Processed number) = IsSome (slice_get blocks number)
 IsAnchorIn blocks (Absent number) = IsSomeAnd (slice_get blocks number) (λ block. 0 < block.height)
 
 -- the life is not cut before the step
-abbrev pub ComesTo : Option Cut → (step : ℕ) → Type 0
-ComesTo cut step = IfSome cut (λ its. its.call ≡ 0 → step < its.step)
+abbrev pub IsUncutBefore : Option Cut → (step : ℕ) → Type 0
+IsUncutBefore cut step = IfSome cut (λ its. its.call ≡ 0 → step < its.step)
 
 -- From its epoch's midpoint on, a block that comes while that epoch is awaited is one that the life follows.
 abbrev pub TakesEarly : Setting → (l : ℕ) → Life → Type 0
 TakesEarly s l life =
-    (j number : ℕ) (b : Block) → event_of_step life (suc j) ≡ Some (Final number) → ComesTo life.cut (suc j) → block_at s number ≡ Some b
+    (j number : ℕ) (b : Block) → event_of_step life (suc j) ≡ Some (Final number) → IsUncutBefore life.cut (suc j) → block_at s number ≡ Some b
     → midpoint (blocks_per_epoch s) (epoch_of (blocks_per_epoch s) b.height) ≤ b.height → epoch_of (blocks_per_epoch s) b.height ≡ awaited_epoch s l life j
     → follows s l life (epoch_of (blocks_per_epoch s) b.height) ≡ true
 
@@ -62,7 +62,7 @@ pub record IsFormOfEpochs (script : Script) : Type 0 where
   pub plain : script.addressed ≡ false
   pub reshares : script.config.oneshot ≡ None
   pub own : script.config.me < 2 ^ 32
-  pub few : non_zero_u32_get script.config.limit ≤ 2 ^ 30
+  pub in_bound : non_zero_u32_get script.config.limit ≤ 2 ^ 30
   pub short : non_zero_u64_get script.config.blocks_per_epoch < 2 ^ 64
   pub blocks : AllByRecursion (IsBlockIn script) script.blocks
   pub placed : AllByRecursion (λ block. block.height < 2 ^ 64) script.blocks

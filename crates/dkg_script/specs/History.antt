@@ -11,7 +11,7 @@ use Rattle.dkg_journal.specs.Records.{entries}
 use Rattle.dkg_store.specs.Noted.{logs_in}
 use Rattle.dkg_store.specs.declared.recorded_log.RecordedLog.{RecordedLog}
 use Rattle.dkg_types.specs.NextInfos.{Provided, next_info}
-use Rattle.dkg_types.specs.Paths.{counts, logs_from}
+use Rattle.dkg_types.specs.Paths.{log_counts, logs_from}
 use Rattle.dkg_text.specs.declared.script.Event.TheVariants.{Final}
 use Rattle.dkg_text.specs.declared.script.Life.{Life}
 use Rattle.dkg_script.specs.Blocks.{Block, block_at, chain, known_info, round_at}
@@ -48,7 +48,7 @@ pub record CountsAt (s : Setting) (epoch : ℕ) (round : Round) (height dealer :
   pub carried : block.log ≡ Some signed
   pub dealer_is : signed.dealer ≡ dealer
   pub log_is : signed.log ≡ log
-  pub counted : counts check_log_of (midpoint (blocks_per_epoch s) epoch) (last (blocks_per_epoch s) epoch) round (height, signed) ≡ true
+  pub counted : log_counts check_log_of (midpoint (blocks_per_epoch s) epoch) (last (blocks_per_epoch s) epoch) round (height, signed) ≡ true
 
 -- .. and below it no block of the chain carries one of the dealer that counts.
 abbrev pub IsFirstAt : Setting → (epoch : ℕ) → Round → (height dealer : ℕ) → Type 0

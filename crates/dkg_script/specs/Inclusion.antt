@@ -38,7 +38,7 @@ pub record IsFormOfInclusion (script : Script) : Type 0 where
   pub plain : script.addressed ≡ false
   pub reshares : script.config.oneshot ≡ None
   pub own : script.config.me < 2 ^ 32
-  pub few : non_zero_u32_get script.config.limit ≤ 2 ^ 30
+  pub in_bound : non_zero_u32_get script.config.limit ≤ 2 ^ 30
   pub short : non_zero_u64_get script.config.blocks_per_epoch < 2 ^ 64
   pub rising : rises (epochs_of script.config.players) ≡ true
   pub blocks : AllByRecursion (IsBlockIn script) script.blocks

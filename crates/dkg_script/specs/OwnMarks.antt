@@ -40,7 +40,7 @@ IsKnownAt s p (Cut step call) = 0 < call → IsKnownInStep s p
 IsKnownAt s p _ = Unit {0}
 
 -- an entry of the journal that records a log
-abbrev pub IsKnownInEntry : Setting → List Restored → journal.Entry → Type 0
+abbrev pub IsKnownInEntry : Setting → List Restored → journal.SectionEntry → Type 0
 IsKnownInEntry s pairs entry = IfSome (noted_log entry) (λ note. IsOwnMarkKnown s pairs note.0.0 note.0.1 note.1.log)
 
 -- each log that the devices handed in record

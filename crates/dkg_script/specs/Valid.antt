@@ -16,7 +16,7 @@ use Rattle.dkg_text.specs.declared.script.Event.TheVariants.{Final}
 use Rattle.dkg_text.specs.declared.script.Life.{Life}
 use Rattle.dkg_script.specs.Blocks.{Block, block_at, known_info, reshare_round, round_at, used}
 use Rattle.dkg_script.specs.Consistent.{IsConsistentScript}
-use Rattle.dkg_script.specs.Epochs.{ComesTo}
+use Rattle.dkg_script.specs.Epochs.{IsUncutBefore}
 use Rattle.dkg_script.specs.Players.{players_at}
 use Rattle.dkg_script.specs.Position.{awaited_epoch, awaited_height, event_of_step, follows}
 use Rattle.dkg_script.specs.Promise.{InEachCase}
@@ -27,7 +27,7 @@ use Rattle.dkg_script.specs.Setting.{Setting, CutAt, blocks_per_epoch, life_at, 
 -- DELIVERIES: each block that a life is brought stands at the height that is awaited, or at or below the position; a life that follows without a position takes any first block.
 abbrev pub ComesInTurn : Setting → (l : ℕ) → Life → Type 0
 ComesInTurn s l life =
-    (j number : ℕ) (b : Block) → event_of_step life (suc j) ≡ Some (Final number) → ComesTo life.cut (suc j) → block_at s number ≡ Some b
+    (j number : ℕ) (b : Block) → event_of_step life (suc j) ≡ Some (Final number) → IsUncutBefore life.cut (suc j) → block_at s number ≡ Some b
     → (b.height ≤ awaited_height s l life j) ⊎ ((awaited_height s l life j ≡ 0) × (follows s l life 0 ≡ true))
 
 -- PROVIDER: where an epoch that a life takes part in ends, or the info that will end it is asked for, there are players for the epoch two above, and no more than the limit.
@@ -43,7 +43,7 @@ EndsEpoch s epoch _ = ⊥
 
 abbrev pub ProvidesNext : Setting → (l : ℕ) → Life → Type 0
 ProvidesNext s l life =
-    (j : ℕ) (event : Event) → event_of_step life (suc j) ≡ Some event → ComesTo life.cut (suc j) → EndsEpoch s (awaited_epoch s l life j) event
+    (j : ℕ) (event : Event) → event_of_step life (suc j) ≡ Some event → IsUncutBefore life.cut (suc j) → EndsEpoch s (awaited_epoch s l life j) event
     → follows s l life (awaited_epoch s l life j) ≡ false → HasPlayers s (awaited_epoch s l life j + 2)
 
 -- RANGE: the heights of the epoch of this one are numbers of 64 bits.

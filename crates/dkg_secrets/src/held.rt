@@ -16,13 +16,13 @@ use std::marker::Model;
 
 /// Shares and seeds by epoch, private halves by epoch and dealer.
 #[derive(Drop)]
-pub(crate) struct Held {
+pub(crate) struct SecretMaps {
     shares: NumberMap<Share>,
     seeds: NumberMap<Seed>,
     privates: PairMap<Private>,
 }
 
-impl Model for Held {
+impl Model for SecretMaps {
     ghost use Rattle.dkg_secrets.specs.Secrets.{Secrets, coded_secrets};
 
     ghost Value = { Secrets };
@@ -32,11 +32,11 @@ impl Model for Held {
     ghost view = { λ h. record { shares = h.shares; seeds = h.seeds; privates = h.privates } };
 }
 
-impl Held {
-    pub(crate) fn new(alloc: Global) -> Held
+impl SecretMaps {
+    pub(crate) fn new(alloc: Global) -> SecretMaps
         ensures { result ≡ record { shares = map.empty; seeds = map.empty; privates = map.empty } }
     {
-        Held {
+        SecretMaps {
             shares: NumberMap::new(alloc),
             seeds: NumberMap::new(alloc),
             privates: PairMap::new(alloc),

@@ -10,7 +10,7 @@ ghost use Rattle.dkg_journal.specs.DeviceCall.{Makes, CutIn, Crashes};
 ghost use Rattle.dkg_secrets.specs.Made.{Made};
 ghost use Rattle.dkg_secrets.specs.Secrets.{HasCause, HasWant, Tries, after};
 
-use crate::held::Held;
+use crate::held::SecretMaps;
 use crate::secrets::{SecretError, SecretOp, SecretStore};
 use dkg_ceremony::{Private, Share};
 use dkg_values::{Epoch, Key, Mem, NoMemory, Seed};
@@ -19,7 +19,7 @@ use std::alloc::Global;
 /// A secret store in memory, of which calls may be told to fail. A failed call changes nothing.
 #[derive(Drop)]
 pub struct MemorySecrets {
-    held: Held,
+    held: SecretMaps,
     /// The numbers, from 1, of the calls that fail.
     failing: Vec<u64>,
     /// How many calls were made that may fail: all but `cut` and `crash`.
@@ -46,7 +46,7 @@ impl MemorySecrets {
         ensures faults { result.faults ≡ 0 }
     {
         MemorySecrets {
-            held: Held::new(alloc),
+            held: SecretMaps::new(alloc),
             failing: calls,
             calls: 0,
             faults: 0,
@@ -62,7 +62,7 @@ impl MemorySecrets {
         // Exactly the calls of these numbers fail.
         ensures number { FailsByNumber SecretError.Failed self.old.failing.items self.old.calls self.new.calls result }
         ensures cause { HasCause self.old.faults self.new.faults result }
-        ensures kinds { IsErrOf result SecretError.NoMemory → ⊥ }
+        ensures error_kinds { IsErrOf result SecretError.NoMemory → ⊥ }
     {
         self.calls = self.calls.saturating_add(1);
         if self.failing.contains(&self.calls) {

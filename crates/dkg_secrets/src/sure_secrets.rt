@@ -5,7 +5,7 @@ ghost use Rattle.dkg_journal.specs.DeviceCall.{Makes};
 ghost use Rattle.dkg_secrets.specs.Made.{Made};
 ghost use Rattle.dkg_secrets.specs.Secrets.{HasWant, Tries, after};
 
-use crate::held::Held;
+use crate::held::SecretMaps;
 use crate::secrets::{SecretError, SecretOp, SecretStore};
 use dkg_ceremony::{Private, Share};
 use dkg_values::{Epoch, Key, Mem, NoMemory, Seed};
@@ -14,7 +14,7 @@ use std::alloc::Global;
 /// A secret store in memory that never fails: it may want memory.
 #[derive(Drop)]
 pub struct SureSecrets {
-    held: Held,
+    held: SecretMaps,
     wants: u64,
 }
 
@@ -24,7 +24,7 @@ impl SureSecrets {
         ensures { result.held ≡ record { shares = map.empty; seeds = map.empty; privates = map.empty } }
     {
         SureSecrets {
-            held: Held::new(alloc),
+            held: SecretMaps::new(alloc),
             wants: 0,
         }
     }

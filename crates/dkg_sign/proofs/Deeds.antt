@@ -11,9 +11,9 @@ use Rattle.dkg_journal.proofs.Fuses.{fused_none}
 use Rattle.dkg_types.specs.declared.scheme.SchemeInfo.{SchemeInfo}
 use Rattle.dkg_sign.specs.Desks.{Desk, held_at, material_of, replaced_by}
 use Rattle.dkg_sign.specs.Materials.{is_own}
-use Rattle.dkg_sign.specs.Registers.{Judges, Verdict, is_below}
-use Rattle.dkg_sign.specs.Lives.{Deed, Registered, Signed, NoneAbove, NoneRegistered, NeverBack, Covers, RecordCovers, Keeps, KeptWith, with_registered}
-use Rattle.dkg_sign.specs.Recorded.{recorded, Stands}
+use Rattle.dkg_sign.specs.Registers.{JudgesRegistration, Verdict, is_below}
+use Rattle.dkg_sign.specs.Lives.{Deed, Registered, Signed, NoneAbove, NoneRegistered, NeverBack, Covers, RecordCovers, KeepsPromise, KeptWith, with_registered}
+use Rattle.dkg_sign.specs.Recorded.{recorded, IsAsLeft}
 use Rattle.dkg_sign.specs.declared.error.DeskError.{DeskError}
 use Rattle.dkg_sign.specs.declared.error.DeskError.TheVariants.{Conflict, Cut, NoMemory}
 
@@ -46,22 +46,22 @@ pub covers_at : (reading : Result (Option ℕ) DeskError) (current : Option ℕ)
 covers_at reading current deeds is covers = subst (λ (r : Result (Option ℕ) DeskError). RecordCovers r deeds) (sym is) covers
 
 -- a desk that its disk stands beside covers what is kept
-pub stands_covers : (desk : Desk) (files : Files) (image : Files → Type 0) (deeds : List Deed) → image files → Stands desk files image → Keeps deeds image → Covers desk.current deeds
+pub stands_covers : (desk : Desk) (files : Files) (image : Files → Type 0) (deeds : List Deed) → image files → IsAsLeft desk files image → KeepsPromise deeds image → Covers desk.current deeds
 stands_covers desk files image deeds reads stands keeps = covered_by (recorded files) desk.current deeds stands.says (keeps.recorded files reads)
 
 -- fewer images
-pub keeps_fewer : (deeds : List Deed) (old new : Files → Type 0) → ((c : Files) → new c → old c) → Keeps deeds old → Keeps deeds new
+pub keeps_fewer : (deeds : List Deed) (old new : Files → Type 0) → ((c : Files) → new c → old c) → KeepsPromise deeds old → KeepsPromise deeds new
 keeps_fewer deeds old new fewer keeps = record { never_back = keeps.never_back; recorded = λ c now. keeps.recorded c (fewer c now) }
 
 -- a registration of an epoch that is recorded in each image
-pub keeps_registered : (epoch : ℕ) (deeds : List Deed) (image old : Files → Type 0) → NoneAbove epoch deeds → ((c : Files) → image c → recorded c ≡ Ok (Some epoch)) → Keeps deeds old → Keeps (Registered epoch ∷ deeds) image
+pub keeps_registered : (epoch : ℕ) (deeds : List Deed) (image old : Files → Type 0) → NoneAbove epoch deeds → ((c : Files) → image c → recorded c ≡ Ok (Some epoch)) → KeepsPromise deeds old → KeepsPromise (Registered epoch ∷ deeds) image
 keeps_registered epoch deeds image old none says keeps = record {
   never_back = keeps.never_back;
   recorded = λ c now. covers_at (recorded c) (Some epoch) (Registered epoch ∷ deeds) (says c now) (omega arith, none);
 }
 
 -- a put of an epoch that did not end
-pub keeps_tried : (epoch : ℕ) (deeds : List Deed) (files : Files) (old new : Files → Type 0) → NoneAbove epoch deeds → old files → ((c : Files) → new c → (recorded c ≡ recorded files) ⊎ (recorded c ≡ Ok (Some epoch))) → Keeps deeds old → Keeps deeds new
+pub keeps_tried : (epoch : ℕ) (deeds : List Deed) (files : Files) (old new : Files → Type 0) → NoneAbove epoch deeds → old files → ((c : Files) → new c → (recorded c ≡ recorded files) ⊎ (recorded c ≡ Ok (Some epoch))) → KeepsPromise deeds old → KeepsPromise deeds new
 keeps_tried epoch deeds files old new none reads tried keeps = record {
   never_back = keeps.never_back;
   recorded = λ c now. ⊎_elim
@@ -71,7 +71,7 @@ keeps_tried epoch deeds files old new none reads tried keeps = record {
 }
 
 -- one deed more
-pub keeps_with : (deed : Deed) (deeds : List Deed) (current : Option ℕ) (image : Files → Type 0) → Keeps deeds image → KeptWith deed current deeds → Keeps (deed ∷ deeds) image
+pub keeps_with : (deed : Deed) (deeds : List Deed) (current : Option ℕ) (image : Files → Type 0) → KeepsPromise deeds image → KeptWith deed current deeds → KeepsPromise (deed ∷ deeds) image
 keeps_with deed deeds current image keeps more = record { never_back = more.never_back; recorded = λ c now. more.recorded c (keeps.recorded c now) }
 
 -- ---- a registration
@@ -123,7 +123,7 @@ never_cut None true None epoch info e tests cut = absurd cc
 never_cut None true (Some other) epoch info e tests cut = ⊎_elim (λ (t : (Err e ≡ Ok false) × (other ≡ info)). absurd (ok_not_err false e (sym t.0))) (λ (t : (Err e ≡ Err (Conflict epoch)) × (other ≡ info → ⊥)). let same : ◌≡◌ {A = Result Bool DeskError} (Err e) (Err (Conflict epoch)) = t.0 in absurd cc) tests
 
 -- a refusal spends no fuse
-pub refusal_fused : {T : Type 0} (desk : Desk) (epoch : ℕ) (info : SchemeInfo) (e : DeskError) (r : Result T DeskError) (f : Burn) → Judges desk epoch info (Err e) → IsErrAnd r (λ d. d ≡ e) → Fused Cut NoMemory r f f
+pub refusal_fused : {T : Type 0} (desk : Desk) (epoch : ℕ) (info : SchemeInfo) (e : DeskError) (r : Result T DeskError) (f : Burn) → JudgesRegistration desk epoch info (Err e) → IsErrAnd r (λ d. d ≡ e) → Fused Cut NoMemory r f f
 refusal_fused {T} desk epoch info e r f judged is =
     let q = err_from_is_err_and r is in
     fused_none Cut NoMemory r f (λ cut.
@@ -132,47 +132,47 @@ refusal_fused {T} desk epoch info e r f judged is =
     never_cut (replaced_by desk.current epoch) (is_own desk.me info) (material_of desk epoch) epoch info e judged (sym q.2 ∙ one))
 
 -- all images say what the files say
-each_says : (desk : Desk) (files : Files) (image : Files → Type 0) (epoch : ℕ) → desk.current ≡ Some epoch → Stands desk files image → (c : Files) → image c → recorded c ≡ Ok (Some epoch)
+each_says : (desk : Desk) (files : Files) (image : Files → Type 0) (epoch : ℕ) → desk.current ≡ Some epoch → IsAsLeft desk files image → (c : Files) → image c → recorded c ≡ Ok (Some epoch)
 each_says desk files image epoch at stands c now = ap recorded (stands.settled.only c now) ∙ stands.says ∙ ap (λ (o : Option ℕ). Ok o) at
 
 -- what is promised over lives behind a registration that was answered Ok
 abbrev pub RegisteredIn : Option ℕ → (epoch : ℕ) → List Deed → (Files → Type 0) → Type 0
-RegisteredIn current epoch deeds image = Keeps (Registered epoch ∷ deeds) image × Covers current (Registered epoch ∷ deeds)
+RegisteredIn current epoch deeds image = KeepsPromise (Registered epoch ∷ deeds) image × Covers current (Registered epoch ∷ deeds)
 
 covers_now : (current : Option ℕ) (epoch : ℕ) (deeds : List Deed) → current ≡ Some epoch → NoneAbove epoch deeds → Covers current (Registered epoch ∷ deeds)
 covers_now current epoch deeds at none = subst (λ (o : Option ℕ). Covers o (Registered epoch ∷ deeds)) (sym at) (omega arith, none)
 
 -- .. of an epoch that the record has already
-recorded_lives : (desk : Desk) (epoch : ℕ) (files : Files) (image : Files → Type 0) (deeds : List Deed) → desk.current ≡ Some epoch → image files → Stands desk files image → Keeps deeds image → Keeps (Registered epoch ∷ deeds) image × NoneAbove epoch deeds
+recorded_lives : (desk : Desk) (epoch : ℕ) (files : Files) (image : Files → Type 0) (deeds : List Deed) → desk.current ≡ Some epoch → image files → IsAsLeft desk files image → KeepsPromise deeds image → KeepsPromise (Registered epoch ∷ deeds) image × NoneAbove epoch deeds
 recorded_lives desk epoch files image deeds at reads stands keeps =
     let covers : Covers (Some epoch) deeds = subst (λ (o : Option ℕ). Covers o deeds) at (stands_covers desk files image deeds reads stands keeps) in
     (keeps_registered epoch deeds image image covers (each_says desk files image epoch at stands) keeps, covers)
 
 -- the same material again
-pub again_lives : (desk : Desk) (epoch : ℕ) (info : SchemeInfo) (files : Files) (image : Files → Type 0) (deeds : List Deed) (b : Bool) → Judges desk epoch info (Ok b) → b ≡ false → image files → Stands desk files image → Keeps deeds image → RegisteredIn desk.current epoch deeds image
+pub again_lives : (desk : Desk) (epoch : ℕ) (info : SchemeInfo) (files : Files) (image : Files → Type 0) (deeds : List Deed) (b : Bool) → JudgesRegistration desk epoch info (Ok b) → b ≡ false → image files → IsAsLeft desk files image → KeepsPromise deeds image → RegisteredIn desk.current epoch deeds image
 again_lives desk epoch info files image deeds b judged is reads stands keeps =
-    let other = known_from (replaced_by desk.current epoch) (is_own desk.me info) (material_of desk epoch) epoch info (subst (λ (v : Bool). Judges desk epoch info (Ok v)) is judged) in
+    let other = known_from (replaced_by desk.current epoch) (is_own desk.me info) (material_of desk epoch) epoch info (subst (λ (v : Bool). JudgesRegistration desk epoch info (Ok v)) is judged) in
     let at = held_current desk.current desk.held epoch other.0 other.1 in
     let r = recorded_lives desk epoch files image deeds at reads stands keeps in
     (r.0, covers_now desk.current epoch deeds at r.1)
 
 -- material of an epoch that is in the record
-pub taken_lives : (desk : Desk) (epoch : ℕ) (info : SchemeInfo) (files : Files) (image : Files → Type 0) (deeds : List Deed) (b : Bool) → Judges desk epoch info (Ok b) → b ≡ true → is_below desk.current epoch ≡ false → image files → Stands desk files image → Keeps deeds image → RegisteredIn (Some epoch) epoch deeds image
+pub taken_lives : (desk : Desk) (epoch : ℕ) (info : SchemeInfo) (files : Files) (image : Files → Type 0) (deeds : List Deed) (b : Bool) → JudgesRegistration desk epoch info (Ok b) → b ≡ true → is_below desk.current epoch ≡ false → image files → IsAsLeft desk files image → KeepsPromise deeds image → RegisteredIn (Some epoch) epoch deeds image
 taken_lives desk epoch info files image deeds b judged is below reads stands keeps =
-    let none = taken_from (replaced_by desk.current epoch) (is_own desk.me info) (material_of desk epoch) epoch info (subst (λ (v : Bool). Judges desk epoch info (Ok v)) is judged) in
+    let none = taken_from (replaced_by desk.current epoch) (is_own desk.me info) (material_of desk epoch) epoch info (subst (λ (v : Bool). JudgesRegistration desk epoch info (Ok v)) is judged) in
     let r = recorded_lives desk epoch files image deeds (from_unreplaced desk.current epoch none below) reads stands keeps in
     (r.0, (omega arith, r.1))
 
 -- .. that was put into it
-pub put_lives : (desk : Desk) (epoch : ℕ) (files files' : Files) (image image' : Files → Type 0) (deeds : List Deed) → is_below desk.current epoch ≡ true → image files → Stands desk files image → Keeps deeds image
+pub put_lives : (desk : Desk) (epoch : ℕ) (files files' : Files) (image image' : Files → Type 0) (deeds : List Deed) → is_below desk.current epoch ≡ true → image files → IsAsLeft desk files image → KeepsPromise deeds image
     → (number : ℕ) → number ≡ epoch → (recorded files' ≡ Ok (Some number)) × Lands files' image' → RegisteredIn (Some epoch) epoch deeds image'
 put_lives desk epoch files files' image image' deeds below reads stands keeps number same done =
     let none = covered desk.current epoch deeds (from_below desk.current epoch below) (stands_covers desk files image deeds reads stands keeps) in
     (keeps_registered epoch deeds image' image none (λ c now. ap recorded (done.1.only c now) ∙ done.0 ∙ ap (λ (n : ℕ). Ok (Some n)) same) keeps, (omega arith, none))
 
 -- a put that did not end
-pub failed_lives : (desk : Desk) (epoch : ℕ) (files : Files) (image image' : Files → Type 0) (deeds : List Deed) → is_below desk.current epoch ≡ true → image files → Stands desk files image → Keeps deeds image
-    → (number : ℕ) → number ≡ epoch → ((c : Files) → image' c → (recorded c ≡ recorded files) ⊎ (recorded c ≡ Ok (Some number))) → Keeps deeds image' × Covers desk.current deeds
+pub failed_lives : (desk : Desk) (epoch : ℕ) (files : Files) (image image' : Files → Type 0) (deeds : List Deed) → is_below desk.current epoch ≡ true → image files → IsAsLeft desk files image → KeepsPromise deeds image
+    → (number : ℕ) → number ≡ epoch → ((c : Files) → image' c → (recorded c ≡ recorded files) ⊎ (recorded c ≡ Ok (Some number))) → KeepsPromise deeds image' × Covers desk.current deeds
 failed_lives desk epoch files image image' deeds below reads stands keeps number same tried =
     let covers = stands_covers desk files image deeds reads stands keeps in
     let none = covered desk.current epoch deeds (from_below desk.current epoch below) covers in
@@ -205,7 +205,7 @@ signed_lives desk epoch info deeds held never covers = record {
     still (Err e) covers = tt
 
 -- before anything is done, over any disk
-pub nothing_done : (image : Files → Type 0) → Keeps [] image
+pub nothing_done : (image : Files → Type 0) → KeepsPromise [] image
 nothing_done image = record { never_back = tt; recorded = λ c now. none (recorded c) }
   where
     none : (reading : Result (Option ℕ) DeskError) → RecordCovers reading []
@@ -214,12 +214,12 @@ nothing_done image = record { never_back = tt; recorded = λ c now. none (record
     none (Err e) = tt
 
 -- material that is taken goes into the record, unless its epoch is there
-pub taken_current : (desk : Desk) (epoch : ℕ) (info : SchemeInfo) (b : Bool) → Judges desk epoch info (Ok b) → b ≡ true → is_below desk.current epoch ≡ false → desk.current ≡ Some epoch
+pub taken_current : (desk : Desk) (epoch : ℕ) (info : SchemeInfo) (b : Bool) → JudgesRegistration desk epoch info (Ok b) → b ≡ true → is_below desk.current epoch ≡ false → desk.current ≡ Some epoch
 taken_current desk epoch info b judged is below =
-    from_unreplaced desk.current epoch (taken_from (replaced_by desk.current epoch) (is_own desk.me info) (material_of desk epoch) epoch info (subst (λ (v : Bool). Judges desk epoch info (Ok v)) is judged)) below
+    from_unreplaced desk.current epoch (taken_from (replaced_by desk.current epoch) (is_own desk.me info) (material_of desk epoch) epoch info (subst (λ (v : Bool). JudgesRegistration desk epoch info (Ok v)) is judged)) below
 
 -- fewer deeds
-pub keeps_before : (deed : Deed) (deeds : List Deed) (image : Files → Type 0) → Keeps (deed ∷ deeds) image → Keeps deeds image
+pub keeps_before : (deed : Deed) (deeds : List Deed) (image : Files → Type 0) → KeepsPromise (deed ∷ deeds) image → KeepsPromise deeds image
 keeps_before deed deeds image keeps = record { never_back = before deed keeps.never_back; recorded = λ c now. covers (recorded c) (keeps.recorded c now) }
   where
     before : (d : Deed) → NeverBack (d ∷ deeds) → NeverBack deeds

@@ -5,15 +5,15 @@ use Rattle.dkg_journal.specs.Disk.{Follows}
 use Rattle.dkg_journal.specs.Names.{Files}
 use Rattle.dkg_types.specs.declared.scheme.SchemeInfo.{SchemeInfo}
 use Rattle.dkg_sign.specs.Desks.{Desk}
-use Rattle.dkg_sign.specs.Recorded.{recorded, Stands}
-use Rattle.dkg_sign.specs.Registers.{EndsBy, SameFiles, is_below}
+use Rattle.dkg_sign.specs.Recorded.{recorded, IsAsLeft}
+use Rattle.dkg_sign.specs.Registers.{EndsByVerdict, SameFiles, is_below}
 use Rattle.dkg_sign.specs.Registrars.{Asked, PutsAtMost, StaysShut, Wanted}
 use Rattle.dkg_sign.specs.declared.error.DeskError.{DeskError}
 use Rattle.dkg_sign.specs.declared.error.DeskError.TheVariants.{NoMemory}
 
 -- ---- want of memory
 
-ended_wanted : (verdict : Result Bool DeskError) (higher : Bool) (epoch : ℕ) (info : SchemeInfo) (old new : Desk) → EndsBy verdict higher epoch info old new (Err NoMemory) → new ≡ old
+ended_wanted : (verdict : Result Bool DeskError) (higher : Bool) (epoch : ℕ) (info : SchemeInfo) (old new : Desk) → EndsByVerdict verdict higher epoch info old new (Err NoMemory) → new ≡ old
 ended_wanted (Err e) higher epoch info old new ends = ends.1
 ended_wanted (Ok false) higher epoch info old new ends = ends.1
 ended_wanted (Ok true) true epoch info old new ends = ends.1
@@ -45,7 +45,7 @@ pub shut_puts : (epoch : ℕ) (old new : Files → Type 0) → Follows SameFiles
 shut_puts epoch old new same = record { each = λ c now. let d = same.each c now in (d.0, d.1, inl (ap recorded d.2)) }
 
 -- .. and one that was asked puts this epoch at most
-pub asked_puts : (epoch : ℕ) (desk : Desk) (files : Files) (old between new : Files → Type 0) → Follows SameFiles old between → between files → Stands desk files between
+pub asked_puts : (epoch : ℕ) (desk : Desk) (files : Files) (old between new : Files → Type 0) → Follows SameFiles old between → between files → IsAsLeft desk files between
     → ((c : Files) → new c → (recorded c ≡ Ok desk.current) ⊎ (recorded c ≡ Ok (Some epoch))) → Follows (PutsAtMost epoch) old new
 asked_puts epoch desk files old between new same reads stands tried = record {
   each = λ c now.

@@ -38,7 +38,7 @@ RecordCovers (Ok epoch) deeds = Covers epoch deeds
 RecordCovers (Err e) deeds = Unit {0}
 
 -- The promise was kept, and whatever a crash now leaves, the record covers what was registered.
-pub record Keeps (deeds : List Deed) (image : Files → Type 0) : Type 0 where
+pub record KeepsPromise (deeds : List Deed) (image : Files → Type 0) : Type 0 where
   pub never_back : NeverBack deeds
   pub recorded : (c : Files) → image c → RecordCovers (recorded c) deeds
 

@@ -2,8 +2,8 @@
 use Rattle.std.specs.Prelude.{ℕ, Bool, true, false, List, map}
 use Rattle.dkg_journal.specs.Names.{Files}
 use Rattle.dkg_sign.specs.Desks.{Desk}
-use Rattle.dkg_sign.specs.Lives.{Deed, Registered, Signed, Covers, Keeps}
-use Rattle.dkg_sign.specs.Recorded.{Stands}
+use Rattle.dkg_sign.specs.Lives.{Deed, Registered, Signed, Covers, KeepsPromise}
+use Rattle.dkg_sign.specs.Recorded.{IsAsLeft}
 
 -- whether an epoch was registered, or else signed for
 abbrev pub deed_of : Bool × ℕ → Deed
@@ -15,6 +15,6 @@ deeds_of done = map deed_of done
 
 -- A desk in the middle of a life, behind these deeds.
 pub record IsPlaying (deeds : List Deed) (desk : Desk) (files : Files) (image : Files → Type 0) : Type 0 where
-  pub keeps : Keeps deeds image
+  pub keeps : KeepsPromise deeds image
   pub covers : Covers desk.current deeds
-  pub stands : Stands desk files image
+  pub stands : IsAsLeft desk files image

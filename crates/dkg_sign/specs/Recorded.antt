@@ -24,6 +24,6 @@ abbrev pub recorded : Files → Result (Option ℕ) DeskError
 recorded files = epoch_in (get files Plan)
 
 -- The disk is as the desk's last call left it: its record has the desk's current epoch, and nothing is loose.
-pub record Stands (desk : Desk) (files : Files) (image : Files → Type 0) : Type 0 where
+pub record IsAsLeft (desk : Desk) (files : Files) (image : Files → Type 0) : Type 0 where
   pub says : recorded files ≡ Ok desk.current
   pub settled : Lands files image

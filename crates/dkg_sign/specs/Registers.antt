@@ -12,15 +12,15 @@ use Rattle.dkg_sign.specs.declared.error.DeskError.{DeskError}
 use Rattle.dkg_sign.specs.declared.error.DeskError.TheVariants.{Replaced, Foreign, Conflict, Disk, Corrupt, Cut, NoMemory}
 
 -- What reading the record answers, where it reads so.
-abbrev pub Finds : Result (Option ℕ) DeskError → Result (Option ℕ) DeskError → Type 0
-Finds reading (Ok current) = reading ≡ Ok current
-Finds reading (Err (Corrupt place)) = reading ≡ Err (Corrupt place)
-Finds reading (Err NoMemory) = Unit {0}
-Finds reading (Err Disk) = ⊥
-Finds reading (Err Cut) = ⊥
-Finds reading (Err (Replaced asked current)) = ⊥
-Finds reading (Err (Conflict epoch)) = ⊥
-Finds reading (Err (Foreign epoch)) = ⊥
+abbrev pub AnswersRecord : Result (Option ℕ) DeskError → Result (Option ℕ) DeskError → Type 0
+AnswersRecord reading (Ok current) = reading ≡ Ok current
+AnswersRecord reading (Err (Corrupt place)) = reading ≡ Err (Corrupt place)
+AnswersRecord reading (Err NoMemory) = Unit {0}
+AnswersRecord reading (Err Disk) = ⊥
+AnswersRecord reading (Err Cut) = ⊥
+AnswersRecord reading (Err (Replaced asked current)) = ⊥
+AnswersRecord reading (Err (Conflict epoch)) = ⊥
+AnswersRecord reading (Err (Foreign epoch)) = ⊥
 
 -- What opening answers, over a record that reads so.
 abbrev pub Opens : Result (Option ℕ) DeskError → Result Desk DeskError → Type 0
@@ -66,8 +66,8 @@ Verdict None false held epoch info verdict = verdict ≡ Err (Foreign epoch)
 Verdict None true None epoch info verdict = verdict ≡ Ok true
 Verdict None true (Some other) epoch info verdict = ((verdict ≡ Ok false) × (other ≡ info)) ⊎ ((verdict ≡ Err (Conflict epoch)) × (other ≢ info))
 
-abbrev pub Judges : Desk → (epoch : ℕ) → SchemeInfo → Result Bool DeskError → Type 0
-Judges desk epoch info verdict = Verdict (replaced_by desk.current epoch) (is_own desk.me info) (material_of desk epoch) epoch info verdict
+abbrev pub JudgesRegistration : Desk → (epoch : ℕ) → SchemeInfo → Result Bool DeskError → Type 0
+JudgesRegistration desk epoch info verdict = Verdict (replaced_by desk.current epoch) (is_own desk.me info) (material_of desk epoch) epoch info verdict
 
 -- whether the record has a lower epoch, or none
 abbrev pub is_below : Option ℕ → (epoch : ℕ) → Bool
@@ -79,12 +79,12 @@ abbrev pub with_material : Desk → (epoch : ℕ) → SchemeInfo → Desk
 with_material desk epoch info = record { me = desk.me; current = Some epoch; held = Some info }
 
 -- What a registration with this verdict answers, and the desk behind it. `higher` says whether the epoch goes into the record first.
-abbrev pub EndsBy : Result Bool DeskError → (higher : Bool) → (epoch : ℕ) → SchemeInfo → Desk → Desk → Result (Unit {0}) DeskError → Type 0
-EndsBy (Err e) higher epoch info old new result = (result ≡ Err e) × (new ≡ old)
-EndsBy (Ok false) higher epoch info old new result = (result ≡ Ok tt) × (new ≡ old)
-EndsBy (Ok true) higher epoch info old new (Ok done) = new ≡ with_material old epoch info
-EndsBy (Ok true) true epoch info old new (Err e) = IsOfPut e × (new ≡ old)
-EndsBy (Ok true) false epoch info old new (Err e) = ⊥
+abbrev pub EndsByVerdict : Result Bool DeskError → (higher : Bool) → (epoch : ℕ) → SchemeInfo → Desk → Desk → Result (Unit {0}) DeskError → Type 0
+EndsByVerdict (Err e) higher epoch info old new result = (result ≡ Err e) × (new ≡ old)
+EndsByVerdict (Ok false) higher epoch info old new result = (result ≡ Ok tt) × (new ≡ old)
+EndsByVerdict (Ok true) higher epoch info old new (Ok done) = new ≡ with_material old epoch info
+EndsByVerdict (Ok true) true epoch info old new (Err e) = IsOfPut e × (new ≡ old)
+EndsByVerdict (Ok true) false epoch info old new (Err e) = ⊥
 
 -- whether a registration with this verdict reaches the disk
 abbrev pub reaches : Result Bool DeskError → (higher : Bool) → Bool
@@ -96,8 +96,8 @@ reaches (Err e) higher = false
 pub record Registers {D F : Type 0} (old new : Desk) (epoch : ℕ) (info : SchemeInfo) (result : Result (Unit {0}) DeskError)
     (disk disk' : D) (fuse fuse' : F) : Type 0 where
   pub verdict : Result Bool DeskError
-  pub judged : Judges old epoch info verdict
-  pub ended : EndsBy verdict (is_below old.current epoch) epoch info old new result
+  pub judged : JudgesRegistration old epoch info verdict
+  pub ended : EndsByVerdict verdict (is_below old.current epoch) epoch info old new result
   pub untouched : reaches verdict (is_below old.current epoch) ≡ false → (disk' ≡ disk) × (fuse' ≡ fuse)
 
 -- an image as it was

@@ -9,14 +9,14 @@ use Rattle.dkg_journal.specs.declared.disk.Op.{Op}
 use Rattle.dkg_journal.specs.declared.disk.Op.TheVariants.{Barrier}
 use Rattle.dkg_types.specs.declared.scheme.SchemeInfo.{SchemeInfo}
 use Rattle.dkg_sign.specs.Desks.{Desk}
-use Rattle.dkg_sign.specs.Recorded.{Stands, recorded}
-use Rattle.dkg_sign.specs.Registers.{EndsBy, IsOfOpening, Judges, Opens, is_below}
+use Rattle.dkg_sign.specs.Recorded.{IsAsLeft, recorded}
+use Rattle.dkg_sign.specs.Registers.{EndsByVerdict, IsOfOpening, JudgesRegistration, Opens, is_below}
 use Rattle.dkg_sign.specs.declared.error.DeskError.{DeskError}
 use Rattle.dkg_sign.specs.declared.error.DeskError.TheVariants.{Replaced, Conflict, Foreign, Disk, Corrupt, Cut, NoMemory}
 
 -- The disk is as the desk's last call left it, where the desk needs not be opened again.
-pub record IsReady (reopen : Bool) (desk : Desk) (files : Files) (image : Files → Type 0) : Type 0 where
-  pub stands : reopen ≡ false → Stands desk files image
+pub record IsAsLeftOrShut (reopen : Bool) (desk : Desk) (files : Files) (image : Files → Type 0) : Type 0 where
+  pub stands : reopen ≡ false → IsAsLeft desk files image
 
 -- whether a desk that answered so must be opened again
 abbrev pub is_broken : Result (Unit {0}) DeskError → Bool
@@ -46,8 +46,8 @@ pub record Asked (tells : Bool) (reading : Result (Option ℕ) DeskError) (reope
   pub again : reopen ≡ true → (desk.me ≡ old.me) × (desk.held ≡ None)
   pub reads : IsTrue tells → reopen ≡ true → reading ≡ Ok desk.current
   pub verdict : Result Bool DeskError
-  pub judged : Judges desk epoch info verdict
-  pub ended : EndsBy verdict (is_below desk.current epoch) epoch info desk new answer
+  pub judged : JudgesRegistration desk epoch info verdict
+  pub ended : EndsByVerdict verdict (is_below desk.current epoch) epoch info desk new answer
 
 -- the list of refusals behind an answer
 abbrev pub listed : Result (Unit {0}) DeskError → List DeskError → List DeskError

@@ -63,10 +63,10 @@ pub record AreMet (participants met : List ℕ) (flags : List Bool) : Type 0 whe
   pub each : (key place : ℕ) → place_of key participants ≡ Some place → get_or flags place false ≡ has_key key met
 
 -- What a check answered is the fault, unless memory ran out.
-abbrev pub Checks : Option CombineError → Result (Unit {0}) CombineError → Type 0
-Checks fault (Ok done) = fault ≡ None
-Checks fault (Err combine.NoMemory) = Unit {0}
-Checks fault (Err e) = fault ≡ Some e
+abbrev pub AnswersFault : Option CombineError → Result (Unit {0}) CombineError → Type 0
+AnswersFault fault (Ok done) = fault ≡ None
+AnswersFault fault (Err combine.NoMemory) = Unit {0}
+AnswersFault fault (Err e) = fault ≡ Some e
 
 abbrev pub combine_enough : SchemeInfo → (epoch : ℕ) → List ℕ → (got : ℕ) → Result Signature CombineError
 combine_enough info epoch message got =

@@ -1,7 +1,7 @@
 //! How partials make a signature: each is checked, and a quorum of them is combined.
 ghost use Rattle.std.specs.Prelude.{◌≡◌, ◌<◌, ◌^◌, ℕ, true, not, List, [], ◌∷◌, length, is_some};
 ghost use Rattle.std.specs.Bool.{OnTrue};
-ghost use Rattle.dkg_sign.specs.Signs.{AreMet, Checks, Combines, combine_of, fault_from, is_valid};
+ghost use Rattle.dkg_sign.specs.Signs.{AreMet, AnswersFault, Combines, combine_of, fault_from, is_valid};
 ghost use Rattle.dkg_values.specs.Rising.{has_key, place_of};
 
 use crate::desk::{SigningDesk, times_of};
@@ -54,8 +54,8 @@ fn check(
     partials: &[Partial],
 ) -> Result<(), CombineError>
     requires hash { hash < 65521 }
-    requires few { length partials.now < 2 ^ 32 }
-    ensures { Checks (fault_from info.now epoch hash [] 0 partials.now) result }
+    requires in_bound { length partials.now < 2 ^ 32 }
+    ensures { AnswersFault (fault_from info.now epoch hash [] 0 partials.now) result }
 {
     let participants = participants(info);
     let mut seen = vec![in alloc; false; participants.len() as usize]?;

@@ -4,7 +4,7 @@ ghost use Rattle.dkg_ceremony.specs.declared.output.Output.{Output};
 ghost use Rattle.dkg_journal.specs.Names.{Files};
 ghost use Rattle.dkg_sign.specs.Chains.{HoldsOf, IsChain, ShareOneKey};
 ghost use Rattle.dkg_sign.specs.Desks.{Desk};
-ghost use Rattle.dkg_sign.specs.Lives.{Deed, Keeps, KeptWith, NeverBack};
+ghost use Rattle.dkg_sign.specs.Lives.{Deed, KeepsPromise, KeptWith, NeverBack};
 ghost use Rattle.dkg_sign.specs.Materials.{key_of};
 ghost use Rattle.dkg_sign.specs.Signs.{combine_of};
 ghost use Rattle.dkg_sign.specs.declared.partial.Partial.{Partial};
@@ -30,10 +30,10 @@ pub fn one_signature()
 /// Lives, one behind the other: before the first nothing was done; a partial goes on with what is kept; a crash leaves what keeps the promise,
 /// since its images are fewer; and what keeps it never went back.
 pub fn lives_follow<D: Disk>()
-    ensures first { (disk : D) → Keeps [] (D.image disk) }
-    ensures signed { (deed : Deed) (deeds : List Deed) (current : Option ℕ) (disk : D) → Keeps deeds (D.image disk) → KeptWith deed current deeds
-        → Keeps (deed ∷ deeds) (D.image disk) }
-    ensures crash { (deeds : List Deed) (old new : D) → ((c : Files) → D.image new c → D.image old c) → Keeps deeds (D.image old)
-        → Keeps deeds (D.image new) }
-    ensures never_back { (deeds : List Deed) (disk : D) → Keeps deeds (D.image disk) → NeverBack deeds }
+    ensures first { (disk : D) → KeepsPromise [] (D.image disk) }
+    ensures signed { (deed : Deed) (deeds : List Deed) (current : Option ℕ) (disk : D) → KeepsPromise deeds (D.image disk) → KeptWith deed current deeds
+        → KeepsPromise (deed ∷ deeds) (D.image disk) }
+    ensures crash { (deeds : List Deed) (old new : D) → ((c : Files) → D.image new c → D.image old c) → KeepsPromise deeds (D.image old)
+        → KeepsPromise deeds (D.image new) }
+    ensures never_back { (deeds : List Deed) (disk : D) → KeepsPromise deeds (D.image disk) → NeverBack deeds }
 {}

@@ -5,9 +5,9 @@ ghost use Rattle.std.specs.Prelude.{◌≡◌, ◌≢◌, ◌≤◌, ◌⊎◌, 
 ghost use Rattle.dkg_journal.specs.Disk.{Follows, IsUnchanged, Lands, Rose};
 ghost use Rattle.dkg_journal.specs.Fuse.{Fused, Ran, RanAll};
 ghost use Rattle.dkg_journal.specs.Names.{Files};
-ghost use Rattle.dkg_sign.specs.Lives.{Deed, Keeps, Covers, with_registered};
-ghost use Rattle.dkg_sign.specs.Recorded.{recorded, epoch_in, Stands};
-ghost use Rattle.dkg_sign.specs.Registers.{Finds, IsKept, IsOfOpening, IsOfPut, Judges, Opens, Registers, SameFiles, is_below, put_call};
+ghost use Rattle.dkg_sign.specs.Lives.{Deed, KeepsPromise, Covers, with_registered};
+ghost use Rattle.dkg_sign.specs.Recorded.{recorded, epoch_in, IsAsLeft};
+ghost use Rattle.dkg_sign.specs.Registers.{AnswersRecord, IsKept, IsOfOpening, IsOfPut, JudgesRegistration, Opens, Registers, SameFiles, is_below, put_call};
 
 use crate::desk::SigningDesk;
 use crate::error::DeskError;
@@ -19,7 +19,7 @@ use std::alloc::Global;
 
 /// The epoch that a record has.
 fn current_in(alloc: Global, bytes: &Option<Vec<u8>>) -> Result<Option<Epoch>, DeskError>
-    ensures { Finds (epoch_in (option_map (λ v. v.items) bytes.now)) result }
+    ensures { AnswersRecord (epoch_in (option_map (λ v. v.items) bytes.now)) result }
 {
     let Some(bytes) = bytes else {
         return Ok(None);
@@ -45,7 +45,7 @@ fn put_epoch<D: Disk>(
     ensures memory { IsErrOf result DeskError.NoMemory → IsUnchanged D.files D.image disk.old disk.new }
     ensures later { D.faults disk.old ≤ D.faults disk.new }
     ensures disk { IsErrOf result DeskError.Disk → Rose (D.faults disk.old) (D.faults disk.new) }
-    ensures kinds { IfErr result IsOfPut }
+    ensures error_kinds { IfErr result IsOfPut }
     ensures fused { Fused DeskError.Cut DeskError.NoMemory result fuse.old fuse.new }
     ensures all { OnOk result (RanAll D.made disk.old disk.new fuse.old fuse.new (put_call epoch ∷ [])) }
     ensures calls { Ran D.made disk.old disk.new fuse.old fuse.new (put_call epoch ∷ []) }
@@ -68,16 +68,16 @@ impl SigningDesk {
     ) -> Result<SigningDesk, DeskError>
         ensures fresh { IfOk result (λ desk. (desk.me ≡ me) × (desk.held ≡ None)) }
         ensures exact { IsTrue D.tells → Opens (recorded (D.files disk.old)) result }
-        ensures kinds { IfErr result IsOfOpening }
-        ensures stands { IfOk result (λ desk. IsTrue D.tells → Stands desk (D.files disk.new) (D.image disk.new)) }
+        ensures error_kinds { IfErr result IsOfOpening }
+        ensures stands { IfOk result (λ desk. IsTrue D.tells → IsAsLeft desk (D.files disk.new) (D.image disk.new)) }
         ensures same { Follows SameFiles (D.image disk.old) (D.image disk.new) }
         ensures later { D.faults disk.old ≤ D.faults disk.new }
         ensures disk { IsErrOf result DeskError.Disk → Rose (D.faults disk.old) (D.faults disk.new) }
         ensures fused { Fused DeskError.Cut DeskError.NoMemory result fuse.old fuse.new }
         ensures calls { RanAll D.made disk.old disk.new fuse.old fuse.new (Op.Barrier ∷ []) }
         // The promise over lives: what was registered in earlier lives is known to this one.
-        ensures lives { IsTrue D.tells → (deeds : List Deed) → Keeps deeds (D.image disk.old)
-            → Keeps deeds (D.image disk.new) × IfOk result (λ desk. Covers desk.current deeds) }
+        ensures lives { IsTrue D.tells → (deeds : List Deed) → KeepsPromise deeds (D.image disk.old)
+            → KeepsPromise deeds (D.image disk.new) × IfOk result (λ desk. Covers desk.current deeds) }
     {
         perform(alloc, disk, fuse, &Op::Barrier)?;
         let bytes = Record::get(alloc, disk)?;
@@ -91,7 +91,7 @@ impl SigningDesk {
 
     /// Whether material is to be taken, or why it is refused.
     fn judge(&self, epoch: Epoch, info: &SchemeInfo) -> Result<bool, DeskError>
-        ensures { Judges self.now epoch info.now result }
+        ensures { JudgesRegistration self.now epoch info.now result }
     {
         if let Some(current) = self.replaced(epoch) {
             return Err(DeskError::Replaced {
@@ -134,9 +134,9 @@ impl SigningDesk {
         info: SchemeInfo,
     ) -> Result<(), DeskError>
         ensures exact { Registers self.old self.new epoch info result disk.old disk.new fuse.old fuse.new }
-        ensures stands { IsTrue D.tells → Stands self.old (D.files disk.old) (D.image disk.old) → IsKept result
-            → Stands self.new (D.files disk.new) (D.image disk.new) }
-        ensures tried { Stands self.old (D.files disk.old) (D.image disk.old) → (c : Files) → D.image disk.new c
+        ensures stands { IsTrue D.tells → IsAsLeft self.old (D.files disk.old) (D.image disk.old) → IsKept result
+            → IsAsLeft self.new (D.files disk.new) (D.image disk.new) }
+        ensures tried { IsAsLeft self.old (D.files disk.old) (D.image disk.old) → (c : Files) → D.image disk.new c
             → (recorded c ≡ Ok self.old.current) ⊎ (recorded c ≡ Ok (Some epoch)) }
         ensures later { D.faults disk.old ≤ D.faults disk.new }
         ensures disk { IsErrOf result DeskError.Disk → Rose (D.faults disk.old) (D.faults disk.new) }
@@ -146,8 +146,8 @@ impl SigningDesk {
             → RanAll D.made disk.old disk.new fuse.old fuse.new (put_call epoch ∷ [])) }
         ensures calls { Ran D.made disk.old disk.new fuse.old fuse.new (put_call epoch ∷ []) }
         // The promise over lives: an epoch is in the record, whatever a crash leaves, before its registration is answered Ok.
-        ensures lives { IsTrue D.tells → Stands self.old (D.files disk.old) (D.image disk.old) → (deeds : List Deed) → Keeps deeds (D.image disk.old)
-            → Keeps (with_registered result epoch deeds) (D.image disk.new) × Covers self.new.current (with_registered result epoch deeds) }
+        ensures lives { IsTrue D.tells → IsAsLeft self.old (D.files disk.old) (D.image disk.old) → (deeds : List Deed) → KeepsPromise deeds (D.image disk.old)
+            → KeepsPromise (with_registered result epoch deeds) (D.image disk.new) × Covers self.new.current (with_registered result epoch deeds) }
     {
         if !self.judge(epoch, &info)? {
             return Ok(());

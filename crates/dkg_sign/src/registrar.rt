@@ -5,9 +5,9 @@ ghost use Rattle.std.specs.Prelude.{◌≡◌, ◌≤◌, ◌⊎◌, ◌||◌, �
 ghost use Rattle.dkg_types.specs.declared.scheme.SchemeInfo.{SchemeInfo};
 ghost use Rattle.dkg_journal.specs.Disk.{Follows, Rose};
 ghost use Rattle.dkg_journal.specs.Fuse.{Fused, RanAll};
-ghost use Rattle.dkg_sign.specs.Lives.{Deed, Keeps, Covers, Registered, with_registered};
+ghost use Rattle.dkg_sign.specs.Lives.{Deed, KeepsPromise, Covers, Registered, with_registered};
 ghost use Rattle.dkg_sign.specs.Recorded.{recorded};
-ghost use Rattle.dkg_sign.specs.Registrars.{Asked, Attempted, IsReady, PutsAtMost, RanUncut, StaysShut, Wanted, is_broken, opening_calls};
+ghost use Rattle.dkg_sign.specs.Registrars.{Asked, Attempted, IsAsLeftOrShut, PutsAtMost, RanUncut, StaysShut, Wanted, is_broken, opening_calls};
 ghost use Rattle.dkg_sign.specs.Registers.{IsKept, SameFiles, put_call};
 
 use crate::desk::SigningDesk;
@@ -77,10 +77,10 @@ impl<D: Disk> DeskRegistrar<D> {
         ensures fused { Fused DeskError.Cut DeskError.NoMemory result fuse.old fuse.new }
         ensures calls { RanAll D.made self.old.disk self.new.disk fuse.old fuse.new (opening_calls self.old.reopen) }
         ensures same { Follows SameFiles (D.image self.old.disk) (D.image self.new.disk) }
-        ensures stands { IsTrue D.tells → IsReady self.old.reopen self.old.desk (D.files self.old.disk) (D.image self.old.disk)
-            → IsReady self.new.reopen self.new.desk (D.files self.new.disk) (D.image self.new.disk) }
-        ensures lives { IsTrue D.tells → (deeds : List Deed) → Keeps deeds (D.image self.old.disk) → Covers self.old.desk.current deeds
-            → Keeps deeds (D.image self.new.disk) × Covers self.new.desk.current deeds }
+        ensures stands { IsTrue D.tells → IsAsLeftOrShut self.old.reopen self.old.desk (D.files self.old.disk) (D.image self.old.disk)
+            → IsAsLeftOrShut self.new.reopen self.new.desk (D.files self.new.disk) (D.image self.new.disk) }
+        ensures lives { IsTrue D.tells → (deeds : List Deed) → KeepsPromise deeds (D.image self.old.disk) → Covers self.old.desk.current deeds
+            → KeepsPromise deeds (D.image self.new.disk) × Covers self.new.desk.current deeds }
     {
         if !self.reopen {
             return Ok(());
@@ -101,13 +101,13 @@ impl<D: Disk> DeskRegistrar<D> {
         ensures later { D.faults self.old.disk ≤ D.faults self.new.disk }
         ensures disk { IsErrOf result DeskError.Disk → Rose (D.faults self.old.disk) (D.faults self.new.disk) }
         ensures calls { RanUncut D.made self.old.disk self.new.disk (opening_calls self.old.reopen ++ put_call epoch ∷ []) }
-        ensures tried { IsTrue D.tells → IsReady self.old.reopen self.old.desk (D.files self.old.disk) (D.image self.old.disk)
+        ensures tried { IsTrue D.tells → IsAsLeftOrShut self.old.reopen self.old.desk (D.files self.old.disk) (D.image self.old.disk)
             → Follows (PutsAtMost epoch) (D.image self.old.disk) (D.image self.new.disk) }
-        ensures stands { IsTrue D.tells → IsReady self.old.reopen self.old.desk (D.files self.old.disk) (D.image self.old.disk) → IsKept result
-            → IsReady self.new.reopen self.new.desk (D.files self.new.disk) (D.image self.new.disk) }
-        ensures lives { IsTrue D.tells → IsReady self.old.reopen self.old.desk (D.files self.old.disk) (D.image self.old.disk) → (deeds : List Deed)
-            → Keeps deeds (D.image self.old.disk) → Covers self.old.desk.current deeds
-            → Keeps (with_registered result epoch deeds) (D.image self.new.disk) × Covers self.new.desk.current (with_registered result epoch deeds) }
+        ensures stands { IsTrue D.tells → IsAsLeftOrShut self.old.reopen self.old.desk (D.files self.old.disk) (D.image self.old.disk) → IsKept result
+            → IsAsLeftOrShut self.new.reopen self.new.desk (D.files self.new.disk) (D.image self.new.disk) }
+        ensures lives { IsTrue D.tells → IsAsLeftOrShut self.old.reopen self.old.desk (D.files self.old.disk) (D.image self.old.disk) → (deeds : List Deed)
+            → KeepsPromise deeds (D.image self.old.disk) → Covers self.old.desk.current deeds
+            → KeepsPromise (with_registered result epoch deeds) (D.image self.new.disk) × Covers self.new.desk.current (with_registered result epoch deeds) }
     {
         let mut fuse = Fuse::never();
         self.ready(alloc, &mut fuse)?;
@@ -134,16 +134,16 @@ impl<D: Disk> Registrar for DeskRegistrar<D> {
             × (self.new.refused.items ≡ self.old.refused.items)) }
         ensures later { D.faults self.old.disk ≤ D.faults self.new.disk }
         ensures calls { RanUncut D.made self.old.disk self.new.disk (opening_calls self.old.reopen ++ put_call epoch ∷ []) }
-        ensures tried { IsTrue D.tells → IsReady self.old.reopen self.old.desk (D.files self.old.disk) (D.image self.old.disk)
+        ensures tried { IsTrue D.tells → IsAsLeftOrShut self.old.reopen self.old.desk (D.files self.old.disk) (D.image self.old.disk)
             → Follows (PutsAtMost epoch) (D.image self.old.disk) (D.image self.new.disk) }
-        ensures stands { IsTrue D.tells → IsReady self.old.reopen self.old.desk (D.files self.old.disk) (D.image self.old.disk)
-            → IsReady self.new.reopen self.new.desk (D.files self.new.disk) (D.image self.new.disk) }
+        ensures stands { IsTrue D.tells → IsAsLeftOrShut self.old.reopen self.old.desk (D.files self.old.disk) (D.image self.old.disk)
+            → IsAsLeftOrShut self.new.reopen self.new.desk (D.files self.new.disk) (D.image self.new.disk) }
         // The promise over lives.
-        ensures lives { IsTrue D.tells → IsReady self.old.reopen self.old.desk (D.files self.old.disk) (D.image self.old.disk) → (deeds : List Deed)
-            → Keeps deeds (D.image self.old.disk) → Covers self.old.desk.current deeds
-            → (Keeps deeds (D.image self.new.disk) × Covers self.new.desk.current deeds)
+        ensures lives { IsTrue D.tells → IsAsLeftOrShut self.old.reopen self.old.desk (D.files self.old.disk) (D.image self.old.disk) → (deeds : List Deed)
+            → KeepsPromise deeds (D.image self.old.disk) → Covers self.old.desk.current deeds
+            → (KeepsPromise deeds (D.image self.new.disk) × Covers self.new.desk.current deeds)
             × OnOk result (self.new.refused.items ≡ self.old.refused.items
-            → Keeps (Registered epoch ∷ deeds) (D.image self.new.disk) × Covers self.new.desk.current (Registered epoch ∷ deeds)) }
+            → KeepsPromise (Registered epoch ∷ deeds) (D.image self.new.disk) × Covers self.new.desk.current (Registered epoch ∷ deeds)) }
     {
         self.refused.reserve(1)?;
         match self.attempt(alloc, epoch, info) {

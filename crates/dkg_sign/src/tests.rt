@@ -1,6 +1,6 @@
 //! What desks give over one output, and what one keeps over several lives.
 ghost use Rattle.std.specs.Prelude.{◌<◌, ◌-◌, ◌^◌, length, IfOk, IsTrue, OnOk};
-ghost use Rattle.dkg_sign.specs.Lives.{Keeps, NeverBack};
+ghost use Rattle.dkg_sign.specs.Lives.{KeepsPromise, NeverBack};
 ghost use Rattle.dkg_sign.specs.Played.{IsPlaying, deeds_of};
 
 use crate::{CombineError, DeskError, DeskRegistrar, Partial, SignError, Signature, SigningDesk};
@@ -295,7 +295,7 @@ fn ask<D: Disk>(
     requires { IsTrue D.tells → IsPlaying (deeds_of deeds.old.items) desk.old (D.files disk.old) (D.image disk.old) }
     ensures goes_on { IfOk result (λ goes. IsTrue D.tells → IsTrue goes
         → IsPlaying (deeds_of deeds.new.items) desk.new (D.files disk.new) (D.image disk.new)) }
-    ensures keeps { OnOk result (IsTrue D.tells → Keeps (deeds_of deeds.new.items) (D.image disk.new)) }
+    ensures keeps { OnOk result (IsTrue D.tells → KeepsPromise (deeds_of deeds.new.items) (D.image disk.new)) }
 {
     let (registers, epoch) = request;
     if !registers {
@@ -322,8 +322,8 @@ fn live<D: Disk>(
     life: &Life<'_>,
     deeds: &mut Vec<(bool, u64)>,
 ) -> Result<(), Fail>
-    requires { IsTrue D.tells → Keeps (deeds_of deeds.old.items) (D.image disk.old) }
-    ensures { OnOk result (IsTrue D.tells → Keeps (deeds_of deeds.new.items) (D.image disk.new)) }
+    requires { IsTrue D.tells → KeepsPromise (deeds_of deeds.old.items) (D.image disk.old) }
+    ensures { OnOk result (IsTrue D.tells → KeepsPromise (deeds_of deeds.new.items) (D.image disk.new)) }
 {
     let (call, pick, requests) = *life;
     let mut fuse = Fuse::at(call, pick);

@@ -3,7 +3,7 @@ use Rattle.std.proofs.Common.{◌≡◌, ℕ, List, Option, Bool, true, false, n
 use Rattle.dkg_ceremony.specs.declared.ceremony.AckError.{AckError}
 use Rattle.dkg_ceremony.specs.declared.ceremony.AckError.TheVariants as acks
 use Rattle.dkg_journal.specs.Names.{Files}
-use Rattle.dkg_journal.specs.Records.{Entry}
+use Rattle.dkg_journal.specs.Records.{SectionEntry}
 use Rattle.dkg_store.specs.Acts.{Acts, Goes, bind, by_want, Ended, went, broken, Moment, MadeAt}
 use Rattle.dkg_store.specs.Calls.{acking, acked, noting, by_error, cause_of}
 use Rattle.dkg_store.specs.Errors.{IsOfDevices}
@@ -14,7 +14,7 @@ use Rattle.dkg_store.specs.declared.dealer.AckHandleError.TheVariants.{Refused, 
 use Rattle.dkg_store.specs.declared.dealer.AckOutcome.{AckOutcome}
 use Rattle.dkg_store.specs.declared.dealer.AckOutcome.TheVariants.{Recorded, Duplicate}
 use Rattle.dkg_store.proofs.Acts.{made_next, made_none, made_nothing}
-use Rattle.dkg_store.specs.Dealer.{AnswersAck, IsDueAs, outcome_of}
+use Rattle.dkg_store.specs.Dealer.{AnswersAck, IsDueAs, ack_outcome_of}
 use Rattle.dkg_store.specs.Rest.{KeepsAck}
 use Rattle.dkg_store.specs.declared.store.Store.{Store}
 use Rattle.dkg_store.proofs.Acting.{then_broken}
@@ -27,11 +27,11 @@ abbrev told : Bool → Acts StoreError (Result AckOutcome AckError)
 told new = Goes (Ok (outcome new))
 
 -- what a dealer does where the check passes and none came in: it records, and tells what came of it
-as_noting : (recorded : Bool) (e : Entry) → bind (noting recorded e) told ≡ acking (Ok tt) false recorded e
+as_noting : (recorded : Bool) (e : SectionEntry) → bind (noting recorded e) told ≡ acking (Ok tt) false recorded e
 as_noting true e = refl
 as_noting false e = refl
 
-module _ (check : Result (Unit {0}) AckError) (counted recorded : Bool) (e : Entry) (passed : check ≡ Ok tt) (first : counted ≡ false) where
+module _ (check : Result (Unit {0}) AckError) (counted recorded : Bool) (e : SectionEntry) (passed : check ≡ Ok tt) (first : counted ≡ false) where
   same : bind (noting recorded e) told ≡ acking check counted recorded e
   same =
       as_noting recorded e
@@ -53,17 +53,17 @@ module _ (check : Result (Unit {0}) AckError) (counted recorded : Bool) (e : Ent
       (then_broken told error of_devices is made)
 
 -- a refusal, and an acknowledgement of a player whose came in before
-pub acking_refused : (check : Result (Unit {0}) AckError) (counted recorded : Bool) (e : Entry) (error : AckError) (files : Files) (image : Files → Type 0) (m : Moment) → check ≡ Err error → MadeAt (acking check counted recorded e) (went (Err error)) files image files image m m
+pub acking_refused : (check : Result (Unit {0}) AckError) (counted recorded : Bool) (e : SectionEntry) (error : AckError) (files : Files) (image : Files → Type 0) (m : Moment) → check ≡ Err error → MadeAt (acking check counted recorded e) (went (Err error)) files image files image m m
 acking_refused check counted recorded e error files image m refused =
     subst (λ (r : Result (Unit {0}) AckError). MadeAt (acking r counted recorded e) (went (Err error)) files image files image m m) (sym refused) (made_nothing files image m refl)
 
-pub acking_again : (check : Result (Unit {0}) AckError) (counted recorded : Bool) (e : Entry) (files : Files) (image : Files → Type 0) (m : Moment) → check ≡ Ok tt → counted ≡ true → MadeAt (acking check counted recorded e) (went (Ok Duplicate)) files image files image m m
+pub acking_again : (check : Result (Unit {0}) AckError) (counted recorded : Bool) (e : SectionEntry) (files : Files) (image : Files → Type 0) (m : Moment) → check ≡ Ok tt → counted ≡ true → MadeAt (acking check counted recorded e) (went (Ok Duplicate)) files image files image m m
 acking_again check counted recorded e files image m passed before =
     subst (λ (r : Result (Unit {0}) AckError). MadeAt (acking r counted recorded e) (went (Ok Duplicate)) files image files image m m) (sym passed)
     (subst (λ (b : Bool). MadeAt (acking (Ok tt) b recorded e) (went (Ok Duplicate)) files image files image m m) (sym before) (made_nothing files image m refl))
 
 -- the check was refused, or it wanted memory
-pub acking_unchecked : (check : Result (Unit {0}) AckError) (counted recorded : Bool) (entry : Entry) (files : Files) (image : Files → Type 0) (m : Moment) (r : Result AckOutcome AckHandleError) (e : AckHandleError) → r ≡ Err e
+pub acking_unchecked : (check : Result (Unit {0}) AckError) (counted recorded : Bool) (entry : SectionEntry) (files : Files) (image : Files → Type 0) (m : Moment) (r : Result AckOutcome AckHandleError) (e : AckHandleError) → r ≡ Err e
     → ((a : AckError) → e ≡ Refused a → check ≡ Err a) → ((s : StoreError) → e ≡ OfStore s → s ≡ NoMemory) → MadeAt (acking check counted recorded entry) (acked r) files image files image m m
 acking_unchecked check counted recorded entry files image m r (Refused a) is refused wanted =
     subst (λ (x : Result AckOutcome AckHandleError). MadeAt (acking check counted recorded entry) (acked x) files image files image m m) (sym is) (acking_refused check counted recorded entry a files image m (refused a refl))
@@ -90,13 +90,13 @@ pub check_due : (e : AckHandleError) (disk secrets cut want : Type 0) → ((s : 
 check_due (Refused a) disk secrets cut want memory w = tt
 check_due (OfStore s) disk secrets cut want memory w = due_want s _ _ _ _ _ (memory s refl) w
 
-outcome_new : (recorded : Bool) → outcome (not recorded) ≡ outcome_of false recorded
+outcome_new : (recorded : Bool) → outcome (not recorded) ≡ ack_outcome_of false recorded
 outcome_new true = refl
 outcome_new false = refl
 
-pub outcome_there : (counted recorded new is : Bool) → new ≡ not recorded → counted ≡ false → new ≡ is → outcome is ≡ outcome_of counted recorded
+pub outcome_there : (counted recorded new is : Bool) → new ≡ not recorded → counted ≡ false → new ≡ is → outcome is ≡ ack_outcome_of counted recorded
 outcome_there counted recorded new is known first which =
-    ap outcome (sym which ∙ known) ∙ outcome_new recorded ∙ ap (λ (b : Bool). outcome_of b recorded) (sym first)
+    ap outcome (sym which ∙ known) ∙ outcome_new recorded ∙ ap (λ (b : Bool). ack_outcome_of b recorded) (sym first)
 
 pub ack_kept_as : {Dir : Type 0} {ends ends_too : Option Bool} {key : ℕ × ℕ} {ack : List ℕ} {old new : Store Dir} → ends ≡ ends_too → KeepsAck ends key ack old new → KeepsAck ends_too key ack old new
 ack_kept_as {key = key} {ack = ack} {old = old} {new = new} is keeps = subst (λ (o : Option Bool). KeepsAck o key ack old new) is keeps

@@ -5,7 +5,7 @@ use Rattle.dkg_journal.specs.Errors.{IsOfDevice}
 use Rattle.dkg_journal.specs.Fuse.{spent_once}
 use Rattle.dkg_journal.specs.Names.{Files}
 use Rattle.dkg_journal.specs.Operations as of_disk
-use Rattle.dkg_journal.specs.Records.{Entry}
+use Rattle.dkg_journal.specs.Records.{SectionEntry}
 use Rattle.dkg_journal.specs.declared.call.JournalError.{JournalError}
 use Rattle.dkg_journal.specs.declared.call.JournalError.TheVariants as of_journal
 use Rattle.dkg_types.specs.declared.entry.Entry.{Entry as Line}
@@ -66,10 +66,10 @@ then_broken {S} {T} {acts} next e is {files = files} {files_now = files_now} {im
 
 -- A PUT, AND AN APPEND BEHIND IT
 
-abbrev appends : {S : Type 0} → Entry → S → Unit {0} → Acts StoreError S
+abbrev appends : {S : Type 0} → SectionEntry → S → Unit {0} → Acts StoreError S
 appends e end u = appended e end
 
-module _ {S : Type 0} (op : SecretOp) (e : Entry) (end : S) {files : Files} {image : Files → Type 0} {out : List Line} {s now : Secrets} {f g : Burn} where
+module _ {S : Type 0} (op : SecretOp) (e : SectionEntry) (end : S) {files : Files} {image : Files → Type 0} {out : List Line} {s now : Secrets} {f g : Burn} where
   -- the put was ended within
   pub put_torn : {how : Ended StoreError S} (cause : Cause) → how ≡ broken cause → Tries op s now → g ≡ spent_once f → EndsBy cause f g
       → MadeAt (put_and_appended op e end) how files image files image (moment out s f) (moment out now g)
@@ -87,7 +87,7 @@ module _ {S : Type 0} (op : SecretOp) (e : Entry) (end : S) {files : Files} {ima
 
 -- AN APPEND ALONE
 
-module _ {S : Type 0} (e : Entry) (end : S) {files files_now : Files} {image next : Files → Type 0} {out : List Line} {s : Secrets} {f g : Burn} where
+module _ {S : Type 0} (e : SectionEntry) (end : S) {files files_now : Files} {image next : Files → Type 0} {out : List Line} {s : Secrets} {f g : Burn} where
   pub alone_torn : {how : Ended StoreError S} (cause : Cause) → how ≡ broken cause → (Stands files image → of_disk.Tried (of_disk.Appends e) files next f g) → EndsBy cause f g
       → MadeAt (appended e end) how files image files_now next (moment out s f) (moment out s g)
   alone_torn cause is tried ends = disk_torn (Appends e) end cause is tried ends

@@ -1,7 +1,7 @@
 -- Four calls one after another, as the acts of one.
 use Rattle.std.proofs.Common.{◌≡◌, ℕ, Bool, false, sym, subst}
 use Rattle.dkg_journal.specs.Names.{Files}
-use Rattle.dkg_journal.specs.Records.{Entry}
+use Rattle.dkg_journal.specs.Records.{SectionEntry}
 use Rattle.dkg_store.specs.Acts.{Acts, bind, Ended, Moment, MadeAt}
 use Rattle.dkg_store.specs.Calls.{by_error, noting}
 use Rattle.dkg_store.specs.Chain.{taken_by}
@@ -23,11 +23,11 @@ module _ {S T : Type 0} {acts : Acts StoreError S} (next : S → Acts StoreError
 
 module _ {how : Ended StoreError Bool} {files files_now : Files} {image now : Files → Type 0} {old new : Moment} where
   -- there was no share
-  pub not_had : (dealing : Acts StoreError Bool) (known : Bool) (e : Entry) (epoch : ℕ) (had : Bool) → had ≡ false
+  pub not_had : (dealing : Acts StoreError Bool) (known : Bool) (e : SectionEntry) (epoch : ℕ) (had : Bool) → had ≡ false
       → MadeAt (taken_by false dealing known e epoch) how files image files_now now old new → MadeAt (taken_by had dealing known e epoch) how files image files_now now old new
   not_had dealing known e epoch had is made = subst (λ (b : Bool). MadeAt (taken_by b dealing known e epoch) how files image files_now now old new) (sym is) made
 
   -- the same is known
-  pub as_known : (next : Bool → Acts StoreError Bool) (known known_too : Bool) (e : Entry) → known ≡ known_too
+  pub as_known : (next : Bool → Acts StoreError Bool) (known known_too : Bool) (e : SectionEntry) → known ≡ known_too
       → MadeAt (bind (noting known_too e) next) how files image files_now now old new → MadeAt (bind (noting known e) next) how files image files_now now old new
   as_known next known known_too e is made = subst (λ (b : Bool). MadeAt (bind (noting b e) next) how files image files_now now old new) (sym is) made

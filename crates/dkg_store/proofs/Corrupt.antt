@@ -5,7 +5,7 @@ use Rattle.dkg_values.specs.declared.name.Name.{Name}
 use Rattle.dkg_journal.specs.Names.{Files}
 use Rattle.dkg_journal.specs.Gated.{OpensAlike, gated, gated_entries, gated_of}
 use Rattle.dkg_journal.specs.Opening.{broken}
-use Rattle.dkg_journal.specs.Records.{Entry}
+use Rattle.dkg_journal.specs.Records.{SectionEntry}
 use Rattle.dkg_journal.specs.declared.opening.JournalEntry.{JournalEntry}
 use Rattle.dkg_journal.specs.Burn.{Burn}
 use Rattle.dkg_journal.specs.Records.{entries}
@@ -27,7 +27,7 @@ use Rattle.dkg_store.proofs.Acts.{made_none_held, made_read}
 use Rattle.dkg_store.proofs.OpeningActs.{alien_stops, no_place}
 
 -- the entry again, from what is seen of it with its place
-abbrev ungated : Entry → JournalEntry
+abbrev ungated : SectionEntry → JournalEntry
 ungated (section, []) = record { section = section; place = 0; body = [] }
 ungated (section, place ∷ body) = record { section = section; place = place; body = body }
 

@@ -5,7 +5,7 @@ use Rattle.dkg_journal.specs.Names.{Files}
 use Rattle.dkg_journal.specs.Disk.{Follows, Inside}
 use Rattle.dkg_journal.specs.Opening.{AreUnbroken, broken}
 use Rattle.dkg_journal.specs.Pruning.{MayLeave}
-use Rattle.dkg_journal.specs.Records.{Entry, entries, from_section, placed}
+use Rattle.dkg_journal.specs.Records.{SectionEntry, entries, from_section, placed}
 use Rattle.dkg_journal.specs.Steps.{Keeps, MayAdd}
 use Rattle.dkg_journal.specs.declared.disk.Op.TheVariants.{Barrier}
 use Rattle.dkg_store.specs.Corrupt.{AreEvents, AreFit}
@@ -14,7 +14,7 @@ use Rattle.dkg_store.specs.declared.event.Event.{Event}
 use Rattle.dkg_store.proofs.Events.{read_again}
 
 module _ (limit : ℕ) where
-  placed_events : (es : List Entry) (e : Entry) → is_event limit e.1 ≡ true → AreEvents limit es → AreEvents limit (placed es e)
+  placed_events : (es : List SectionEntry) (e : SectionEntry) → is_event limit e.1 ≡ true → AreEvents limit es → AreEvents limit (placed es e)
   placed_events [] e is all = (is, tt)
   placed_events (x ∷ xs) e is all = by_place (nat_lt e.0 x.0) (placed_events xs e is all.1)
     where
@@ -22,7 +22,7 @@ module _ (limit : ℕ) where
       by_place true later = (is, all)
       by_place false later = (all.0, later)
 
-  from_events : (min : ℕ) (es : List Entry) → AreEvents limit es → AreEvents limit (from_section min es)
+  from_events : (min : ℕ) (es : List SectionEntry) → AreEvents limit es → AreEvents limit (from_section min es)
   from_events min [] all = tt
   from_events min (x ∷ xs) all = by_section (nat_le min x.0) (from_events min xs all.1)
     where
@@ -30,7 +30,7 @@ module _ (limit : ℕ) where
       by_section true later = (all.0, later)
       by_section false later = later
 
-  same_events : (es others : List Entry) → others ≡ es → AreEvents limit es → AreEvents limit others
+  same_events : (es others : List SectionEntry) → others ≡ es → AreEvents limit es → AreEvents limit others
   same_events es others same all = subst (AreEvents limit) (sym same) all
 
   pub kept_fit : (image next : Files → Type 0) → Follows Keeps image next → AreUnbroken next → AreFit limit image → AreFit limit next
@@ -39,7 +39,7 @@ module _ (limit : ℕ) where
     events = λ c here. let from = follows.each c here in same_events (entries from.0) (entries c) from.2.same (fit.events from.0 from.1);
   }
 
-  pub may_add_fit : (e : Entry) (image next : Files → Type 0) → is_event limit e.1 ≡ true → Follows (MayAdd e) image next → AreUnbroken next → AreFit limit image → AreFit limit next
+  pub may_add_fit : (e : SectionEntry) (image next : Files → Type 0) → is_event limit e.1 ≡ true → Follows (MayAdd e) image next → AreUnbroken next → AreFit limit image → AreFit limit next
   may_add_fit e image next is follows whole fit = record {
     whole = whole;
     events = λ c here.

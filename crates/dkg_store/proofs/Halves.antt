@@ -2,10 +2,10 @@
 use Rattle.std.proofs.Common.{◌≡◌, ◌≢◌, inl, inr, ℕ, ◌<◌, ◌≤◌, List, [], ◌∷◌, fold, Option, Some, None, IsSome, refl, sym, ◌∙◌, ap, subst, arith}
 use Rattle.std.specs.FinMap.{get, empty, same_map}
 use Rattle.dkg_journal.specs.Names.{Files}
-use Rattle.dkg_journal.specs.Records.{Entry, entries}
+use Rattle.dkg_journal.specs.Records.{SectionEntry, entries}
 use Rattle.dkg_secrets.specs.Secrets.{Secrets, Tries}
 use Rattle.dkg_secrets.specs.declared.secrets.SecretOp.TheVariants.{PutShare, PutSeed, Prune}
-use Rattle.dkg_store.specs.Pairs.{Pairs, Dealing, dealing_of, with_half, with_dealing, recovered, HasHalf, IsWhole, Holds}
+use Rattle.dkg_store.specs.Pairs.{Pairs, Dealing, recorded_dealing, with_half, with_dealing, recovered, HasHalf, IsWhole, HoldsDealings}
 use Rattle.dkg_secrets.proofs.Map.{keys_total, exact_keys}
 use Rattle.dkg_store.proofs.Pairs.{same_key, get_at, get_other, step}
 
@@ -25,24 +25,24 @@ one_at s t k m n (Some d) halves same = elim (same_key k d.key) [
   | inr apart ↦ half_else d (get t.privates d.key) k m apart ∙ same ∙ sym (half_else d (get s.privates d.key) k n apart)
 ]
 
-all_at : (s t : Secrets) (k : ℕ × ℕ) (es : List Entry) (m n : Pairs) → get t.privates k ≡ get s.privates k → get m k ≡ get n k → get (fold (step t) m es) k ≡ get (fold (step s) n es) k
+all_at : (s t : Secrets) (k : ℕ × ℕ) (es : List SectionEntry) (m n : Pairs) → get t.privates k ≡ get s.privates k → get m k ≡ get n k → get (fold (step t) m es) k ≡ get (fold (step s) n es) k
 all_at s t k [] m n halves same = same
-all_at s t k (e ∷ es) m n halves same = all_at s t k es (step t m e) (step s n e) halves (one_at s t k m n (dealing_of e) halves same)
+all_at s t k (e ∷ es) m n halves same = all_at s t k es (step t m e) (step s n e) halves (one_at s t k m n (recorded_dealing e) halves same)
 
 -- where the private half of a key is the same, what is recovered of it is
-pub recovered_at : (s t : Secrets) (k : ℕ × ℕ) (es : List Entry) → get t.privates k ≡ get s.privates k → get (recovered es t) k ≡ get (recovered es s) k
+pub recovered_at : (s t : Secrets) (k : ℕ × ℕ) (es : List SectionEntry) → get t.privates k ≡ get s.privates k → get (recovered es t) k ≡ get (recovered es s) k
 recovered_at s t k es halves = all_at s t k es empty empty halves refl
 
 has_half : (s t : Secrets) (o : Option Dealing) → ((k : ℕ × ℕ) → get t.privates k ≡ get s.privates k) → HasHalf s o → HasHalf t o
 has_half s t None halves has = tt
 has_half s t (Some d) halves has = subst IsSome (sym (halves d.key)) has
 
-all_whole : (s t : Secrets) (es : List Entry) → ((k : ℕ × ℕ) → get t.privates k ≡ get s.privates k) → IsWhole es s → IsWhole es t
+all_whole : (s t : Secrets) (es : List SectionEntry) → ((k : ℕ × ℕ) → get t.privates k ≡ get s.privates k) → IsWhole es s → IsWhole es t
 all_whole s t [] halves whole = tt
-all_whole s t (e ∷ es) halves whole = (has_half s t (dealing_of e) halves whole.0, all_whole s t es halves whole.1)
+all_whole s t (e ∷ es) halves whole = (has_half s t (recorded_dealing e) halves whole.0, all_whole s t es halves whole.1)
 
 -- .. and where all are, what holds does
-pub halves_hold : (pairs : Pairs) (image : Files → Type 0) (s t : Secrets) → ((k : ℕ × ℕ) → get t.privates k ≡ get s.privates k) → Holds pairs image s → Holds pairs image t
+pub halves_hold : (pairs : Pairs) (image : Files → Type 0) (s t : Secrets) → ((k : ℕ × ℕ) → get t.privates k ≡ get s.privates k) → HoldsDealings pairs image s → HoldsDealings pairs image t
 halves_hold pairs image s t halves holds = record {
   whole = λ c here. all_whole s t (entries c) halves (holds.whole c here);
   gives = λ c here. same_map keys_total exact_keys _ _ (λ k. recovered_at s t k (entries c) (halves k)) ∙ holds.gives c here;

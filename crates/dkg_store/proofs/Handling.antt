@@ -10,9 +10,9 @@ use Rattle.dkg_types.specs.declared.entry.Entry.{Entry as Line}
 use Rattle.dkg_types.specs.declared.entry.Entry.TheVariants.{Recorded}
 use Rattle.dkg_store.specs.Called.{if_made, made_in}
 use Rattle.dkg_journal.specs.Names.{Files}
-use Rattle.dkg_store.specs.Pairs.{Holds, HoldsEither, Pairs}
+use Rattle.dkg_store.specs.Pairs.{HoldsDealings, HoldsEither, Pairs}
 use Rattle.dkg_secrets.specs.Secrets.{Secrets}
-use Rattle.dkg_store.specs.Player.{Acknowledges, Answers, Handles, IsPlayerOf, MayKeep, Untouched, answer_to, handled_in, is_new, with_answer}
+use Rattle.dkg_store.specs.Player.{Acknowledges, AnswersDealing, Handles, IsPlayerOf, MayKeep, Untouched, answer_to, handled_in, is_new, with_answer}
 use Rattle.dkg_store.specs.Recorded.{AreChecked, at_epoch, first_refused, of_epoch, with_first}
 use Rattle.dkg_store.specs.declared.call.StoreError.{StoreError}
 use Rattle.dkg_store.specs.declared.player.DealingHandleError.{DealingHandleError}
@@ -123,7 +123,7 @@ passed_by ack_of (Err e) public ack is = absurd (let h : ◌≡◌ {A = Result (
 
 -- .. and passed the check
 pub recorded_passes : (ack_of : List ℕ → List ℕ) (check : Result (Unit {0}) DealingError) (public : List ℕ) (kept : Option (List ℕ)) (recorded : Option (List ℕ × ℕ)) (r : Result (List ℕ) DealingHandleError) → made_in (is_new kept recorded) r ≡ Some true
-    → Answers r (answer_to ack_of kept recorded check public) → check ≡ Ok tt
+    → AnswersDealing r (answer_to ack_of kept recorded check public) → check ≡ Ok tt
 recorded_passes ack_of check public kept recorded (Ok ack) is answers =
     let new = new_unknown kept recorded (some_is _ _ is) in
     passed_by ack_of check public ack
@@ -218,7 +218,7 @@ module _ {Dir : Type 0} (ack_of : ℕ → Round → ℕ → List ℕ → List �
     pub handled_passes : first_refused (check_of player.round player.me) (of_epoch epoch old.dealings) ≡ None → first_refused (check_of player.round player.me) (of_epoch epoch new.dealings) ≡ None
     handled_passes none = passes_by (check_of player.round player.me) (handled_in player.acks old.dealings epoch dealer result) epoch dealer (public, private) old.dealings new.dealings its.pairs passes none
 
-    answered_by : (r : Result (List ℕ) DealingHandleError) → Answers r (answer_to (ack_of player.me player.round dealer) (get player.acks dealer) (get old.dealings (epoch, dealer)) (check_of player.round player.me dealer public private) public)
+    answered_by : (r : Result (List ℕ) DealingHandleError) → AnswersDealing r (answer_to (ack_of player.me player.round dealer) (get player.acks dealer) (get old.dealings (epoch, dealer)) (check_of player.round player.me dealer public private) public)
         → new.dealings ≡ if_made (handled_in player.acks old.dealings epoch dealer r) (insert old.dealings (epoch, dealer) (public, private)) old.dealings
         → IsPlayerOf ack_of player.me player.round player.acks old.dealings epoch → IfOk r (λ ack. Acknowledges ack_of player.me player.round new.dealings epoch dealer ack)
     answered_by (Ok ack) answers pairs is =
@@ -229,7 +229,7 @@ module _ {Dir : Type 0} (ack_of : ℕ → Round → ℕ → List ℕ → List �
     pub handled_answer : IsPlayerOf ack_of player.me player.round player.acks old.dealings epoch → IfOk result (λ ack. Acknowledges ack_of player.me player.round new.dealings epoch dealer ack)
     handled_answer is = answered_by result its.answers its.pairs is
 
-    played_by : (r : Result (List ℕ) DealingHandleError) → Answers r (answer_to (ack_of player.me player.round dealer) (get player.acks dealer) (get old.dealings (epoch, dealer)) (check_of player.round player.me dealer public private) public)
+    played_by : (r : Result (List ℕ) DealingHandleError) → AnswersDealing r (answer_to (ack_of player.me player.round dealer) (get player.acks dealer) (get old.dealings (epoch, dealer)) (check_of player.round player.me dealer public private) public)
         → new.dealings ≡ if_made (handled_in player.acks old.dealings epoch dealer r) (insert old.dealings (epoch, dealer) (public, private)) old.dealings → now.acks ≡ with_answer player.acks dealer r
         → IsPlayerOf ack_of player.me player.round player.acks old.dealings epoch → IsPlayerOf ack_of player.me player.round now.acks new.dealings epoch
     played_by (Ok ack) answers pairs acks is =
@@ -260,7 +260,7 @@ module _ {Dir : Type 0} (ack_of : ℕ → Round → ℕ → List ℕ → List �
         → OnOk result (out_now ≡ (if is_some (get old.dealings (epoch, dealer)) then out else out ++ Recorded epoch dealer public private ∷ []))
     handled_told is = by_ok result out_now (out ++ Recorded epoch dealer public private ∷ []) out its.says is
 
-    passed_ok : (r : Result (List ℕ) DealingHandleError) → Answers r (answer_to (ack_of player.me player.round dealer) (get player.acks dealer) (get old.dealings (epoch, dealer)) (check_of player.round player.me dealer public private) public)
+    passed_ok : (r : Result (List ℕ) DealingHandleError) → AnswersDealing r (answer_to (ack_of player.me player.round dealer) (get player.acks dealer) (get old.dealings (epoch, dealer)) (check_of player.round player.me dealer public private) public)
         → IsPlayerOf ack_of player.me player.round player.acks old.dealings epoch → get old.dealings (epoch, dealer) ≡ None → OnOk r (check_of player.round player.me dealer public private ≡ Ok tt)
     passed_ok (Ok ack) answers is none =
         recorded_passes (ack_of player.me player.round dealer) (check_of player.round player.me dealer public private) public (get player.acks dealer) (get old.dealings (epoch, dealer)) (Ok ack)
@@ -286,7 +286,7 @@ module _ {Dir : Type 0} (ack_of : ℕ → Round → ℕ → List ℕ → List �
 
 -- What a dealing that came in leaves: the dealings from before; or, where it is new and passed the check, these or those with it.
 pub handled_may_keep : {same_player same_rest : Type 0} (kept : Option (List ℕ)) (check : Result (Unit {0}) DealingError) (result : Result (List ℕ) DealingHandleError) (pairs : Pairs) (key : ℕ × ℕ) (pair : List ℕ × ℕ) (next : Files → Type 0) (now : Secrets)
-    → Untouched kept (get pairs key) check result same_player same_rest → (same_rest → Holds pairs next now) → HoldsEither pairs (insert pairs key pair) next now → MayKeep check pairs key pair next now
+    → Untouched kept (get pairs key) check result same_player same_rest → (same_rest → HoldsDealings pairs next now) → HoldsEither pairs (insert pairs key pair) next now → MayKeep check pairs key pair next now
 handled_may_keep {same_player} {same_rest} kept check result pairs key pair next now untouched still either = by_recorded (get pairs key) refl
   where
     by_check : (r : Result (Unit {0}) DealingError) → check ≡ r → get pairs key ≡ None → MayKeep check pairs key pair next now

@@ -9,7 +9,7 @@ use Rattle.dkg_journal.specs.DeviceCall.{DeviceCall}
 use Rattle.dkg_journal.specs.Errors.{IsOfDevice}
 use Rattle.dkg_journal.specs.Disk.{Follows, Rose}
 use Rattle.dkg_journal.specs.Fuse.{Ran, RanAll, Reached}
-use Rattle.dkg_journal.specs.Records.{Entry, entries}
+use Rattle.dkg_journal.specs.Records.{SectionEntry, entries}
 use Rattle.dkg_journal.specs.Steps.{Adds, IsOpenAt, Keeps, MayAdd}
 use Rattle.dkg_journal.specs.Names.{Files}
 use Rattle.dkg_journal.specs.declared.call.JournalError.{JournalError}
@@ -21,14 +21,14 @@ use Rattle.dkg_journal.specs.Places.{place_at}
 use Rattle.dkg_journal.specs.Steps.{append_calls_at}
 use Rattle.dkg_journal.specs.declared.journal.Journal.{Journal}
 use Rattle.dkg_store.specs.Both.{Call, MadeBoth, on_disk, on_secrets, put_then_append}
-use Rattle.dkg_store.specs.Called.{Called, IsDue, IsDueWith}
+use Rattle.dkg_store.specs.Called.{Called, ErrorIsDue, ErrorIsDueWith}
 use Rattle.dkg_store.specs.Counts.{CountsOn}
 use Rattle.dkg_store.specs.Errors.{IsOfDevices, IsOfOpening, IsOfRestoring, store_error_of}
 use Rattle.dkg_store.specs.Left.{Extends, GivesDealing, GivesNote}
 use Rattle.dkg_store.specs.Events.{IsEvent, event_spelling}
 use Rattle.dkg_store.specs.declared.event.Event.TheVariants as events
 use Rattle.dkg_store.specs.Noted.{Note, Notes, noted}
-use Rattle.dkg_store.specs.Pairs.{Holds, HoldsEither, IsWhole, Pairs, PutsFirst, dealing_of, recovered}
+use Rattle.dkg_store.specs.Pairs.{HoldsDealings, HoldsEither, IsWhole, Pairs, PutsFirst, recorded_dealing, recovered}
 use Rattle.dkg_secrets.specs.Secrets.{Secrets, after}
 use Rattle.dkg_secrets.specs.declared.secrets.SecretOp.TheVariants.{PutDealing}
 use Rattle.dkg_store.specs.declared.call.StoreError.{StoreError}
@@ -66,7 +66,7 @@ extends_unmade (Some false) is section body files image = record {
 }
 extends_unmade (Some true) is section body files image = absurd is
 
-either_still : (pairs more : Pairs) (image : Files → Type 0) (held : Secrets) → Holds pairs image held → HoldsEither pairs more image held
+either_still : (pairs more : Pairs) (image : Files → Type 0) (held : Secrets) → HoldsDealings pairs image held → HoldsEither pairs more image held
 either_still pairs more image held holds = record { whole = holds.whole; gives = λ c here. inl (holds.gives c here) }
 
 pub gives_unmade : (tell : Type 0) (ends : Option Bool) → IsUnmade ends → (pairs more : Pairs) (image : Files → Type 0) (held : Secrets) → GivesDealing tell ends pairs more image image held held
@@ -108,7 +108,7 @@ module _ {D X : Type 0} (known : Type 0) (disk : D → D → List (DeviceCall Op
 
 -- WHAT AN ERROR IS DUE TO
 
-pub due_of_devices : (e : StoreError) (disk secrets cut want : Type 0) → IsDue e disk secrets cut want → IsOfDevices e
+pub due_of_devices : (e : StoreError) (disk secrets cut want : Type 0) → ErrorIsDue e disk secrets cut want → IsOfDevices e
 due_of_devices Disk disk secrets cut want due = tt
 due_of_devices OfSecrets disk secrets cut want due = tt
 due_of_devices Cut disk secrets cut want due = tt
@@ -119,8 +119,8 @@ due_of_devices (StateSyncEpochs info floor) disk secrets cut want due = absurd d
 due_of_devices StateSyncMaterial disk secrets cut want due = absurd due
 
 -- .. in a call around it
-pub due_around : (e : StoreError) {record_at record_too : Name → ℕ → Type 0} {disk secrets cut want disk_too secrets_too cut_too want_too : Type 0} → IsDueWith record_at e disk secrets cut want
-    → ((name : Name) (place : ℕ) → record_at name place → record_too name place) → (disk → disk_too) → (secrets → secrets_too) → (cut → cut_too) → (want → want_too) → IsDueWith record_too e disk_too secrets_too cut_too want_too
+pub due_around : (e : StoreError) {record_at record_too : Name → ℕ → Type 0} {disk secrets cut want disk_too secrets_too cut_too want_too : Type 0} → ErrorIsDueWith record_at e disk secrets cut want
+    → ((name : Name) (place : ℕ) → record_at name place → record_too name place) → (disk → disk_too) → (secrets → secrets_too) → (cut → cut_too) → (want → want_too) → ErrorIsDueWith record_too e disk_too secrets_too cut_too want_too
 due_around Disk due r d s c w = d due
 due_around OfSecrets due r d s c w = s due
 due_around Cut due r d s c w = c due
@@ -131,10 +131,10 @@ due_around (StateSyncEpochs info floor) due r d s c w = due
 due_around StateSyncMaterial due r d s c w = due
 
 -- want of memory alone
-pub due_want : (e : StoreError) (record_at : Name → ℕ → Type 0) (disk secrets cut want : Type 0) → e ≡ NoMemory → want → IsDueWith record_at e disk secrets cut want
-due_want e record_at disk secrets cut want is w = subst (λ (x : StoreError). IsDueWith record_at x disk secrets cut want) (sym is) w
+pub due_want : (e : StoreError) (record_at : Name → ℕ → Type 0) (disk secrets cut want : Type 0) → e ≡ NoMemory → want → ErrorIsDueWith record_at e disk secrets cut want
+due_want e record_at disk secrets cut want is w = subst (λ (x : StoreError). ErrorIsDueWith record_at x disk secrets cut want) (sym is) w
 
-pub due_error : (e : StoreError) (disk secrets cut want : Type 0) → IsOfDevices e → (e ≡ Disk → disk) → (e ≡ OfSecrets → secrets) → (e ≡ Cut → cut) → (e ≡ NoMemory → want) → IsDue e disk secrets cut want
+pub due_error : (e : StoreError) (disk secrets cut want : Type 0) → IsOfDevices e → (e ≡ Disk → disk) → (e ≡ OfSecrets → secrets) → (e ≡ Cut → cut) → (e ≡ NoMemory → want) → ErrorIsDue e disk secrets cut want
 due_error Disk disk secrets cut want is d s c w = d refl
 due_error OfSecrets disk secrets cut want is d s c w = s refl
 due_error Cut disk secrets cut want is d s c w = c refl
@@ -146,7 +146,7 @@ due_error StateSyncMaterial disk secrets cut want is d s c w = is
 
 -- .. of the journal
 pub due_journal : {T : Type 0} (e : JournalError) (disk secrets cut want : Type 0) → IsOfDevice e → (◌≡◌ {A = Result T JournalError} (Err e) (Err of_journal.Disk) → disk) → (◌≡◌ {A = Result T JournalError} (Err e) (Err of_journal.Cut) → cut)
-    → (◌≡◌ {A = Result T JournalError} (Err e) (Err of_journal.NoMemory) → want) → IsDue (store_error_of e) disk secrets cut want
+    → (◌≡◌ {A = Result T JournalError} (Err e) (Err of_journal.NoMemory) → want) → ErrorIsDue (store_error_of e) disk secrets cut want
 due_journal of_journal.Disk disk secrets cut want is d c w = d refl
 due_journal of_journal.Cut disk secrets cut want is d c w = c refl
 due_journal of_journal.NoMemory disk secrets cut want is d c w = w refl
@@ -155,12 +155,12 @@ due_journal of_journal.TooLong disk secrets cut want is d c w = absurd is
 
 -- THE SAME, of a call that was given the same
 
-pub same_entry : {section section_too : ℕ} {body body_too : List ℕ} → section ≡ section_too → body ≡ body_too → ◌≡◌ {A = Entry} (section, body) (section_too, body_too)
+pub same_entry : {section section_too : ℕ} {body body_too : List ℕ} → section ≡ section_too → body ≡ body_too → ◌≡◌ {A = SectionEntry} (section, body) (section_too, body_too)
 same_entry a b = λ i. (a i, b i)
 
 pub extends_alike : {ends : Option Bool} {section section_too : ℕ} {body body_too : List ℕ} {files files_now : Files} {image next : Files → Type 0} → section ≡ section_too → body ≡ body_too → Extends ends section body files files_now image next
     → Extends ends section_too body_too files files_now image next
-extends_alike {ends} {files = files} {files_now = files_now} {image = image} {next = next} a b extends = subst (λ (e : Entry). Extends ends e.0 e.1 files files_now image next) (same_entry a b) extends
+extends_alike {ends} {files = files} {files_now = files_now} {image = image} {next = next} a b extends = subst (λ (e : SectionEntry). Extends ends e.0 e.1 files files_now image next) (same_entry a b) extends
 
 pub called_alike : {D X : Type 0} {known : Type 0} {disk : D → D → List (DeviceCall Op) → Type 0} {secrets : X → X → List (DeviceCall SecretOp) → Type 0} {disk_faults : D → ℕ} {secret_faults : X → ℕ} {ends : Option Bool} {calls calls_too : List Call} {old new : Devices D X}
     → calls ≡ calls_too → Called known disk secrets disk_faults secret_faults ends calls old new → Called known disk secrets disk_faults secret_faults ends calls_too old new
@@ -168,7 +168,7 @@ called_alike {known = known} {disk = disk} {secrets = secrets} {disk_faults = di
     subst (λ (l : List Call). Called known disk secrets disk_faults secret_faults ends l old new) same called
 
 -- The calls of an append are those of a journal in which each section's file ends at the same place.
-same_calls : (e : Entry) (journal ready : Journal) → ((s : ℕ) → place_at ready.places s ≡ place_at journal.places s) → append_calls ready e ≡ append_calls journal e
+same_calls : (e : SectionEntry) (journal ready : Journal) → ((s : ℕ) → place_at ready.places s ≡ place_at journal.places s) → append_calls ready e ≡ append_calls journal e
 same_calls e journal ready places = ap (λ (place : Option ℕ). append_calls_at place e) (places e.0)
 
 pub calls_alike : {op op_too : SecretOp} {section section_too : ℕ} {body body_too : List ℕ} (journal ready : Journal) → op ≡ op_too → section ≡ section_too → body ≡ body_too → ((s : ℕ) → place_at ready.places s ≡ place_at journal.places s)
@@ -186,7 +186,7 @@ module _ (tell : Type 0) (epoch dealer private : ℕ) (public : List ℕ) (fits 
     steps_so : tell → PutsFirst (PutDealing epoch dealer private) (epoch, event_spelling (events.Dealing dealer public)) image next held now
     steps_so told =
         subst (λ (o : SecretOp). PutsFirst o (epoch, event_spelling (events.Dealing dealer public)) image next held now) puts
-        (subst (λ (e : Entry). PutsFirst op e image next held now) (same_entry at spells) (steps told))
+        (subst (λ (e : SectionEntry). PutsFirst op e image next held now) (same_entry at spells) (steps told))
 
     -- it was stopped
     pub gives_put : GivesDealing tell None pairs (insert pairs (epoch, dealer) (public, private)) image next held now
@@ -203,7 +203,7 @@ module _ (tell : Type 0) (epoch dealer private : ℕ) (public : List ℕ) (fits 
       either = gives_put.either;
       done = λ told holds.
           done_holds epoch dealer private public fits pairs unknown held now image next holds (done told ∙ ap (λ (o : SecretOp). after o held) puts)
-          (subst (λ (e : Entry). Follows (Adds e) image next) (same_entry at spells) adds);
+          (subst (λ (e : SectionEntry). Follows (Adds e) image next) (same_entry at spells) adds);
     }
 
 -- WHERE IT ENDED SO
@@ -224,7 +224,7 @@ unmade_as b is = subst (λ (x : Bool). IsUnmade (Some x)) (sym is) tt
 
 -- .. of an append whose error is a device's, a cut's or want of memory
 pub due_append : {T : Type 0} (e : JournalError) (disk secrets cut want : Type 0) → IsOfDevices (store_error_of e) → (◌≡◌ {A = Result T JournalError} (Err e) (Err of_journal.Disk) → disk) → (◌≡◌ {A = Result T JournalError} (Err e) (Err of_journal.Cut) → cut)
-    → (◌≡◌ {A = Result T JournalError} (Err e) (Err of_journal.NoMemory) → want) → IsDue (store_error_of e) disk secrets cut want
+    → (◌≡◌ {A = Result T JournalError} (Err e) (Err of_journal.NoMemory) → want) → ErrorIsDue (store_error_of e) disk secrets cut want
 due_append of_journal.Disk disk secrets cut want is d c w = d refl
 due_append of_journal.Cut disk secrets cut want is d c w = c refl
 due_append of_journal.NoMemory disk secrets cut want is d c w = w refl
@@ -233,7 +233,7 @@ due_append of_journal.TooLong disk secrets cut want is d c w = absurd is
 
 -- THE RECORDING OF A NOTE
 
-module _ {V W : Type 0} (note_of : Entry → Option (Note V)) (other_of : Entry → Option (Note W)) where
+module _ {V W : Type 0} (note_of : SectionEntry → Option (Note V)) (other_of : SectionEntry → Option (Note W)) where
   pub note_as : {ends ends_too : Option Bool} {m more : Notes V} {image next : Files → Type 0} {held now : Secrets} → ends ≡ ends_too → GivesNote (noted note_of) (noted other_of) ends m more image next held now
       → GivesNote (noted note_of) (noted other_of) ends_too m more image next held now
   note_as {m = m} {more = more} {image = image} {next = next} {held = held} {now = now} is gives = subst (λ (o : Option Bool). GivesNote (noted note_of) (noted other_of) o m more image next held now) is gives
@@ -253,11 +253,11 @@ module _ {V W : Type 0} (note_of : Entry → Option (Note V)) (other_of : Entry 
   }
   note_unmade (Some true) is m more image held = absurd is
 
-  module _ (m : Notes V) (k : ℕ × ℕ) (v : V) (e : Entry) (unknown : get m k ≡ None) (says : note_of e ≡ Some (k, v)) (not_other : other_of e ≡ None) (no_dealing : dealing_of e ≡ None) (held now : Secrets) (same : now ≡ held) (image next : Files → Type 0)
+  module _ (m : Notes V) (k : ℕ × ℕ) (v : V) (e : SectionEntry) (unknown : get m k ≡ None) (says : note_of e ≡ Some (k, v)) (not_other : other_of e ≡ None) (no_dealing : recorded_dealing e ≡ None) (held now : Secrets) (same : now ≡ held) (image next : Files → Type 0)
       (may : Follows (MayAdd e) image next)
     where
-      holds_still : (pairs : Pairs) → Holds pairs image held → Holds pairs next now
-      holds_still pairs holds = subst (λ (s : Secrets). Holds pairs next s) (sym same) (silent_holds held e no_dealing pairs image next may holds)
+      holds_still : (pairs : Pairs) → HoldsDealings pairs image held → HoldsDealings pairs next now
+      holds_still pairs holds = subst (λ (s : Secrets). HoldsDealings pairs next s) (sym same) (silent_holds held e no_dealing pairs image next may holds)
 
       -- it was stopped
       pub note_put : GivesNote (noted note_of) (noted other_of) None m (insert m k v) image next held now
@@ -371,15 +371,15 @@ pub later_rose : (a b c : ℕ) → a ≤ b → b ≤ c → Rose b c → Rose a c
 later_rose a b c ab bc rose = rises (2 ^ 64) a b c ab rose bc
 
 -- devices that were read alone give back what they did
-pub holds_read : {D : Type 0} (image : D → Files → Type 0) (old new : D) (held now : Secrets) → new ≡ old → now ≡ held → (pairs : Pairs) → Holds pairs (image old) held → Holds pairs (image new) now
+pub holds_read : {D : Type 0} (image : D → Files → Type 0) (old new : D) (held now : Secrets) → new ≡ old → now ≡ held → (pairs : Pairs) → HoldsDealings pairs (image old) held → HoldsDealings pairs (image new) now
 holds_read {D} image old new held now same same_too pairs holds =
-    subst (λ (d : D). Holds pairs (image d) now) (sym same) (subst (λ (s : Secrets). Holds pairs (image old) s) (sym same_too) holds)
+    subst (λ (d : D). HoldsDealings pairs (image d) now) (sym same) (subst (λ (s : Secrets). HoldsDealings pairs (image old) s) (sym same_too) holds)
 
 -- OPENINGS
 
 pub due_opening : {T : Type 0} (e : JournalError) (record_at : Name → ℕ → Type 0) (disk secrets cut want : Type 0) → (◌≡◌ {A = Result T JournalError} (Err e) (Err of_journal.TooLong) → ⊥)
     → ((name : Name) (place : ℕ) → ◌≡◌ {A = Result T JournalError} (Err e) (Err (of_journal.Corrupt name place)) → record_at name place) → (◌≡◌ {A = Result T JournalError} (Err e) (Err of_journal.Disk) → disk)
-    → (◌≡◌ {A = Result T JournalError} (Err e) (Err of_journal.Cut) → cut) → (◌≡◌ {A = Result T JournalError} (Err e) (Err of_journal.NoMemory) → want) → IsDueWith record_at (store_error_of e) disk secrets cut want
+    → (◌≡◌ {A = Result T JournalError} (Err e) (Err of_journal.Cut) → cut) → (◌≡◌ {A = Result T JournalError} (Err e) (Err of_journal.NoMemory) → want) → ErrorIsDueWith record_at (store_error_of e) disk secrets cut want
 due_opening of_journal.Disk record_at disk secrets cut want short r d c w = d refl
 due_opening of_journal.Cut record_at disk secrets cut want short r d c w = c refl
 due_opening of_journal.NoMemory record_at disk secrets cut want short r d c w = w refl
@@ -387,7 +387,7 @@ due_opening (of_journal.Corrupt name place) record_at disk secrets cut want shor
 due_opening of_journal.TooLong record_at disk secrets cut want short r d c w = absurd (short refl)
 
 pub due_restoring : (e : StoreError) (record_at : Name → ℕ → Type 0) (disk secrets cut want : Type 0) → IsOfRestoring e → ((name : Name) (place : ℕ) → e ≡ Corrupt name place → record_at name place) → (e ≡ OfSecrets → secrets) → want
-    → IsDueWith record_at e disk secrets cut want
+    → ErrorIsDueWith record_at e disk secrets cut want
 due_restoring OfSecrets record_at disk secrets cut want is r s w = s refl
 due_restoring NoMemory record_at disk secrets cut want is r s w = w
 due_restoring (Corrupt name place) record_at disk secrets cut want is r s w = r name place refl
@@ -398,7 +398,7 @@ due_restoring (StateSyncEpochs info floor) record_at disk secrets cut want is r 
 due_restoring StateSyncMaterial record_at disk secrets cut want is r s w = absurd is
 
 -- it comes of a device, a cut or want of memory, where no record is blamed
-pub due_sound : (e : StoreError) (record_at : Name → ℕ → Type 0) (disk secrets cut want : Type 0) → ((name : Name) (place : ℕ) → record_at name place → ⊥) → IsDueWith record_at e disk secrets cut want → IsOfDevices e
+pub due_sound : (e : StoreError) (record_at : Name → ℕ → Type 0) (disk secrets cut want : Type 0) → ((name : Name) (place : ℕ) → record_at name place → ⊥) → ErrorIsDueWith record_at e disk secrets cut want → IsOfDevices e
 due_sound Disk record_at disk secrets cut want none due = tt
 due_sound OfSecrets record_at disk secrets cut want none due = tt
 due_sound Cut record_at disk secrets cut want none due = tt
@@ -408,7 +408,7 @@ due_sound (LocalState cause) record_at disk secrets cut want none due = absurd d
 due_sound (StateSyncEpochs info floor) record_at disk secrets cut want none due = absurd due
 due_sound StateSyncMaterial record_at disk secrets cut want none due = absurd due
 
-pub due_kinds : (e : StoreError) (record_at : Name → ℕ → Type 0) (disk secrets cut want : Type 0) → IsDueWith record_at e disk secrets cut want → IsOfOpening e
+pub due_kinds : (e : StoreError) (record_at : Name → ℕ → Type 0) (disk secrets cut want : Type 0) → ErrorIsDueWith record_at e disk secrets cut want → IsOfOpening e
 due_kinds Disk record_at disk secrets cut want due = tt
 due_kinds OfSecrets record_at disk secrets cut want due = tt
 due_kinds Cut record_at disk secrets cut want due = tt
@@ -418,22 +418,22 @@ due_kinds (LocalState cause) record_at disk secrets cut want due = absurd due
 due_kinds (StateSyncEpochs info floor) record_at disk secrets cut want due = absurd due
 due_kinds StateSyncMaterial record_at disk secrets cut want due = absurd due
 
-pub due_record : (e : StoreError) (record_at : Name → ℕ → Type 0) (disk secrets cut want : Type 0) (name : Name) (place : ℕ) → e ≡ Corrupt name place → IsDueWith record_at e disk secrets cut want → record_at name place
-due_record e record_at disk secrets cut want name place is due = subst (λ (x : StoreError). IsDueWith record_at x disk secrets cut want) is due
+pub due_record : (e : StoreError) (record_at : Name → ℕ → Type 0) (disk secrets cut want : Type 0) (name : Name) (place : ℕ) → e ≡ Corrupt name place → ErrorIsDueWith record_at e disk secrets cut want → record_at name place
+due_record e record_at disk secrets cut want name place is due = subst (λ (x : StoreError). ErrorIsDueWith record_at x disk secrets cut want) is due
 
 pub is_open_there : (journal read : Journal) (files : Files) (image : Files → Type 0) → IsOpen journal files image → read.places ≡ journal.places → IsOpen read files image
 is_open_there journal read files image opened same = subst (λ (places : _). IsOpenAt places files image) (sym same) opened
 
-pub kept_holds : (pairs : Pairs) (image next : Files → Type 0) (held now : Secrets) → Follows Keeps image next → now ≡ held → Holds pairs image held → Holds pairs next now
-kept_holds pairs image next held now keeps same holds = subst (λ (s : Secrets). Holds pairs next s) (sym same) (record {
-  whole = λ c here. let from = keeps.each c here in subst (λ (es : List Entry). IsWhole es held) (sym from.2.same) (holds.whole from.0 from.1);
-  gives = λ c here. let from = keeps.each c here in ap (λ (es : List Entry). recovered es held) from.2.same ∙ holds.gives from.0 from.1;
+pub kept_holds : (pairs : Pairs) (image next : Files → Type 0) (held now : Secrets) → Follows Keeps image next → now ≡ held → HoldsDealings pairs image held → HoldsDealings pairs next now
+kept_holds pairs image next held now keeps same holds = subst (λ (s : Secrets). HoldsDealings pairs next s) (sym same) (record {
+  whole = λ c here. let from = keeps.each c here in subst (λ (es : List SectionEntry). IsWhole es held) (sym from.2.same) (holds.whole from.0 from.1);
+  gives = λ c here. let from = keeps.each c here in ap (λ (es : List SectionEntry). recovered es held) from.2.same ∙ holds.gives from.0 from.1;
 })
 
-pub restored_holds : (pairs : Pairs) (files : Files) (next : Files → Type 0) (held now : Secrets) → ((c : Files) → next c → entries c ≡ entries files) → now ≡ held → pairs ≡ recovered (entries files) held → IsWhole (entries files) held → Holds pairs next now
-restored_holds pairs files next held now settled same is whole = subst (λ (s : Secrets). Holds pairs next s) (sym same) (record {
-  whole = λ c here. subst (λ (es : List Entry). IsWhole es held) (sym (settled c here)) whole;
-  gives = λ c here. ap (λ (es : List Entry). recovered es held) (settled c here) ∙ sym is;
+pub restored_holds : (pairs : Pairs) (files : Files) (next : Files → Type 0) (held now : Secrets) → ((c : Files) → next c → entries c ≡ entries files) → now ≡ held → pairs ≡ recovered (entries files) held → IsWhole (entries files) held → HoldsDealings pairs next now
+restored_holds pairs files next held now settled same is whole = subst (λ (s : Secrets). HoldsDealings pairs next s) (sym same) (record {
+  whole = λ c here. subst (λ (es : List SectionEntry). IsWhole es held) (sym (settled c here)) whole;
+  gives = λ c here. ap (λ (es : List SectionEntry). recovered es held) (settled c here) ∙ sym is;
 })
 
 -- calls of the disk alone

@@ -34,7 +34,7 @@ module _ {F S : Type 0} {files files_now : Files} {image next : Files → Type 0
       same = refl;
       torn = (refl, its.each c here);
       calls = its.spent.calls;
-      most = its.spent.few;
+      most = its.spent.in_bound;
       fuse = its.spent.is;
       ends = ends;
     });
@@ -76,7 +76,7 @@ module _ {files : Files} {next : Files → Type 0} {before now : Burn} (once : n
   pub bar_tried : {image : Files → Type 0} → Follows (Inside Barrier) image next → Stands files image → Tried of_journal.Bars files next before now
   bar_tried follows stands = record {
     each = λ c here. let from = follows.each c here in inl (ap journaled (from.2 ∙ stands.lands.only from.0 from.1));
-    spent = record { calls = 1; few = omega arith; is = once };
+    spent = record { calls = 1; in_bound = omega arith; is = once };
   }
 
   pub bar_finished : {files_now : Files} → Did Barrier files files_now next → Finished of_journal.Bars files files_now next before now

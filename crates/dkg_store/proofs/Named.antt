@@ -7,7 +7,7 @@ use Rattle.dkg_journal.specs.Names.{Files}
 use Rattle.dkg_journal.specs.Disk.{Follows}
 use Rattle.dkg_journal.specs.Operations.{Journaled, Opens, Appends, Tried, Finished, opened_names}
 use Rattle.dkg_journal.specs.Pruning.{MayLeave}
-use Rattle.dkg_journal.specs.Records.{Entry, entries}
+use Rattle.dkg_journal.specs.Records.{SectionEntry, entries}
 use Rattle.dkg_journal.specs.Steps.{Adds}
 use Rattle.dkg_journal.proofs.SameFiles.{named}
 use Rattle.dkg_journal.proofs.Journals.{leaves_names}
@@ -25,7 +25,7 @@ pub known_names : (known : Bool) (section : ℕ) (image : Files → Type 0) → 
 known_names known section image is = subst (λ (b : Bool). Follows (Named (not b) section) image image) (sym is) (same_names section image)
 
 -- an append, wherever it ended
-pub append_names : (e : Entry) (old : Files) (image next : Files → Type 0) (f g : Burn) → image old → Tried (Appends e) old next f g → Follows (MayBeNamed e.0) image next
+pub append_names : (e : SectionEntry) (old : Files) (image next : Files → Type 0) (f g : Burn) → image old → Tried (Appends e) old next f g → Follows (MayBeNamed e.0) image next
 append_names e old image next f g itself tried = record {
   each = λ c here. (
     old,
@@ -40,7 +40,7 @@ append_names e old image next f g itself tried = record {
 }
 
 -- .. and one that is done
-pub made_name : (e : Entry) (image next : Files → Type 0) → ((c : Files) → next c → is_some (get c (Segment e.0)) ≡ true) → Follows (Adds e) image next → Follows (Named true e.0) image next
+pub made_name : (e : SectionEntry) (image next : Files → Type 0) → ((c : Files) → next c → is_some (get c (Segment e.0)) ≡ true) → Follows (Adds e) image next → Follows (Named true e.0) image next
 made_name e image next there adds = record {
   each = λ c here. let from = adds.each c here in (from.0, from.1, record { names = named (Segment e.0) from.0 c from.2.others (there c here) });
 }

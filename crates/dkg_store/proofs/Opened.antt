@@ -7,9 +7,9 @@ use Rattle.std.specs.FinMap.{get}
 use Rattle.dkg_values.specs.declared.name.Name.TheVariants.{Plan}
 use Rattle.dkg_journal.specs.Names.{Files}
 use Rattle.dkg_journal.specs.Disk.{Follows, Inside}
-use Rattle.dkg_journal.specs.Records.{Entry, entries}
+use Rattle.dkg_journal.specs.Records.{SectionEntry, entries}
 use Rattle.dkg_secrets.specs.Secrets.{Secrets}
-use Rattle.dkg_store.specs.Pairs.{Pairs, Holds, IsWhole, recovered}
+use Rattle.dkg_store.specs.Pairs.{Pairs, HoldsDealings, IsWhole, recovered}
 use Rattle.dkg_journal.specs.Steps.{Keeps}
 use Rattle.dkg_journal.specs.declared.disk.Op.TheVariants.{Barrier}
 use Rattle.dkg_journal.proofs.Steps.{compose, weaken}
@@ -30,15 +30,15 @@ pub same_call : {D O : Type 0} {made : D → D → List (DeviceCall O) → Type 
 same_call {f = f} {ops = ops} ran = sym (ap (λ (b : Burn). b.call) ran.fuse ∙ burned_call ops f)
 
 -- Where no entry is lost or added, and the secrets are as they were, what was whole is whole and gives the same.
-pub kept_holds : (pairs : Pairs) (image next : Files → Type 0) (held now : Secrets) → Follows Keeps image next → now ≡ held → Holds pairs image held → Holds pairs next now
-kept_holds pairs image next held now keeps same holds = subst (Holds pairs next) (sym same) (record {
-  whole = λ c here. let from = keeps.each c here in subst (λ (es : List Entry). IsWhole es held) (sym from.2.same) (holds.whole from.0 from.1);
-  gives = λ c here. let from = keeps.each c here in ap (λ (es : List Entry). recovered es held) from.2.same ∙ holds.gives from.0 from.1;
+pub kept_holds : (pairs : Pairs) (image next : Files → Type 0) (held now : Secrets) → Follows Keeps image next → now ≡ held → HoldsDealings pairs image held → HoldsDealings pairs next now
+kept_holds pairs image next held now keeps same holds = subst (HoldsDealings pairs next) (sym same) (record {
+  whole = λ c here. let from = keeps.each c here in subst (λ (es : List SectionEntry). IsWhole es held) (sym from.2.same) (holds.whole from.0 from.1);
+  gives = λ c here. let from = keeps.each c here in ap (λ (es : List SectionEntry). recovered es held) from.2.same ∙ holds.gives from.0 from.1;
 })
 
 -- Where all images stand for the same entries, these are what is held.
-pub settled_holds : (es : List Entry) (pairs : Pairs) (next : Files → Type 0) (held now : Secrets) → ((c : Files) → next c → entries c ≡ es) → now ≡ held → pairs ≡ recovered es held → IsWhole es held → Holds pairs next now
-settled_holds es pairs next held now only same is whole = subst (Holds pairs next) (sym same) (record {
-  whole = λ c here. subst (λ (l : List Entry). IsWhole l held) (sym (only c here)) whole;
-  gives = λ c here. ap (λ (l : List Entry). recovered l held) (only c here) ∙ sym is;
+pub settled_holds : (es : List SectionEntry) (pairs : Pairs) (next : Files → Type 0) (held now : Secrets) → ((c : Files) → next c → entries c ≡ es) → now ≡ held → pairs ≡ recovered es held → IsWhole es held → HoldsDealings pairs next now
+settled_holds es pairs next held now only same is whole = subst (HoldsDealings pairs next) (sym same) (record {
+  whole = λ c here. subst (λ (l : List SectionEntry). IsWhole l held) (sym (only c here)) whole;
+  gives = λ c here. ap (λ (l : List SectionEntry). recovered l held) (only c here) ∙ sym is;
 })

@@ -4,7 +4,7 @@ use Rattle.std.specs.List.{AllByRecursion}
 use Rattle.std.specs.FinMap.{FinMap, get, insert, empty, same_map}
 use Rattle.dkg_journal.specs.Names.{Files}
 use Rattle.dkg_journal.specs.Disk.{Follows}
-use Rattle.dkg_journal.specs.Records.{Entry, entries, placed}
+use Rattle.dkg_journal.specs.Records.{SectionEntry, entries, placed}
 use Rattle.dkg_journal.specs.Steps.{Adds, MayAdd}
 use Rattle.dkg_values.specs.Codec.{Reading, whole}
 use Rattle.dkg_secrets.specs.Keys.{key_cmp}
@@ -13,7 +13,7 @@ use Rattle.dkg_store.specs.declared.event.Event.{Event}
 use Rattle.dkg_store.specs.declared.event.Event.TheVariants as events
 use Rattle.dkg_secrets.specs.Secrets.{Secrets, after}
 use Rattle.dkg_secrets.specs.declared.secrets.SecretOp.TheVariants.{PutDealing}
-use Rattle.dkg_store.specs.Pairs.{Pairs, Dealing, dealing_in, dealing_of, with_half, with_dealing, recovered, HasHalf, IsWhole, Holds, HoldsEither, PutsFirst}
+use Rattle.dkg_store.specs.Pairs.{Pairs, Dealing, dealing_in_event, recorded_dealing, with_half, with_dealing, recovered, HasHalf, IsWhole, HoldsDealings, HoldsEither, PutsFirst}
 use Rattle.dkg_secrets.proofs.Map as map
 use Rattle.dkg_secrets.proofs.Map.{keys_total, exact_keys}
 use Rattle.dkg_store.proofs.Events.{read_again}
@@ -44,8 +44,8 @@ abbrev pub Apart : ℕ × ℕ → Option Dealing → Type 0
 Apart k None = Unit {0}
 Apart k (Some d) = d.key ≢ k
 
-abbrev pub step : Secrets → Pairs → Entry → Pairs
-step s m e = with_dealing s m (dealing_of e)
+abbrev pub step : Secrets → Pairs → SectionEntry → Pairs
+step s m e = with_dealing s m (recorded_dealing e)
 
 abbrev pub put : Secrets → ℕ × ℕ → ℕ → Secrets
 put s k p = record s { privates = insert s.privates k p }
@@ -62,22 +62,22 @@ dealing_same : (s : Secrets) (m : Pairs) (o : Option Dealing) (k : ℕ × ℕ) (
 dealing_same s m None k p apart = refl
 dealing_same s m (Some d) k p apart = ap (with_half m d) (get_other s.privates k d.key p apart)
 
-pub fold_same : (s : Secrets) (k : ℕ × ℕ) (p : ℕ) (es : List Entry) (m : Pairs) → AllByRecursion (λ e. Apart k (dealing_of e)) es → fold (step (put s k p)) m es ≡ fold (step s) m es
+pub fold_same : (s : Secrets) (k : ℕ × ℕ) (p : ℕ) (es : List SectionEntry) (m : Pairs) → AllByRecursion (λ e. Apart k (recorded_dealing e)) es → fold (step (put s k p)) m es ≡ fold (step s) m es
 fold_same s k p [] m apart = refl
-fold_same s k p (e ∷ es) m apart = ap (λ (x : Pairs). fold (step (put s k p)) x es) (dealing_same s m (dealing_of e) k p apart.0) ∙ fold_same s k p es (step s m e) apart.1
+fold_same s k p (e ∷ es) m apart = ap (λ (x : Pairs). fold (step (put s k p)) x es) (dealing_same s m (recorded_dealing e) k p apart.0) ∙ fold_same s k p es (step s m e) apart.1
 
-pub fold_insert : (s : Secrets) (k : ℕ × ℕ) (v : List ℕ × ℕ) (es : List Entry) (m : Pairs) → AllByRecursion (λ e. Apart k (dealing_of e)) es → fold (step s) (insert m k v) es ≡ insert (fold (step s) m es) k v
+pub fold_insert : (s : Secrets) (k : ℕ × ℕ) (v : List ℕ × ℕ) (es : List SectionEntry) (m : Pairs) → AllByRecursion (λ e. Apart k (recorded_dealing e)) es → fold (step s) (insert m k v) es ≡ insert (fold (step s) m es) k v
 fold_insert s k v [] m apart = refl
-fold_insert s k v (e ∷ es) m apart = ap (λ (x : Pairs). fold (step s) x es) (dealing_swap s m (dealing_of e) k v apart.0) ∙ fold_insert s k v es (step s m e) apart.1
+fold_insert s k v (e ∷ es) m apart = ap (λ (x : Pairs). fold (step s) x es) (dealing_swap s m (recorded_dealing e) k v apart.0) ∙ fold_insert s k v es (step s m e) apart.1
 
-pub fold_placed : (s : Secrets) (k : ℕ × ℕ) (v : List ℕ × ℕ) (e : Entry) → ((m : Pairs) → step s m e ≡ insert m k v) → (es : List Entry) (m : Pairs) → AllByRecursion (λ x. Apart k (dealing_of x)) es → fold (step s) m (placed es e) ≡ insert (fold (step s) m es) k v
+pub fold_placed : (s : Secrets) (k : ℕ × ℕ) (v : List ℕ × ℕ) (e : SectionEntry) → ((m : Pairs) → step s m e ≡ insert m k v) → (es : List SectionEntry) (m : Pairs) → AllByRecursion (λ x. Apart k (recorded_dealing x)) es → fold (step s) m (placed es e) ≡ insert (fold (step s) m es) k v
 fold_placed s k v e puts [] m apart = puts m
 fold_placed s k v e puts (x ∷ xs) m apart = elim (nat_lt e.0 x.0) as (λ b. fold (step s) m (cond b (e ∷ x ∷ xs) (x ∷ placed xs e)) ≡ insert (fold (step s) m (x ∷ xs)) k v) [
   | true ↦ ap (λ (y : Pairs). fold (step s) y (x ∷ xs)) (puts m) ∙ fold_insert s k v (x ∷ xs) m apart
   | false ↦ fold_placed s k v e puts xs (step s m x) apart.1
 ]
 
-pub whole_placed : (s : Secrets) (e : Entry) → HasHalf s (dealing_of e) → (es : List Entry) → IsWhole es s → IsWhole (placed es e) s
+pub whole_placed : (s : Secrets) (e : SectionEntry) → HasHalf s (recorded_dealing e) → (es : List SectionEntry) → IsWhole es s → IsWhole (placed es e) s
 whole_placed s e has [] whole = (has, tt)
 whole_placed s e has (x ∷ xs) whole = elim (nat_lt e.0 x.0) as (λ b. IsWhole (cond b (e ∷ x ∷ xs) (x ∷ placed xs e)) s) [
   | true ↦ (has, whole)
@@ -97,9 +97,9 @@ half_put s k p (Some d) has = elim (same_key d.key k) [
   | inr apart ↦ subst IsSome (sym (get_other s.privates k d.key p apart)) has
 ]
 
-pub whole_put : (s : Secrets) (k : ℕ × ℕ) (p : ℕ) (es : List Entry) → IsWhole es s → IsWhole es (put s k p)
+pub whole_put : (s : Secrets) (k : ℕ × ℕ) (p : ℕ) (es : List SectionEntry) → IsWhole es s → IsWhole es (put s k p)
 whole_put s k p [] whole = tt
-whole_put s k p (e ∷ es) whole = (half_put s k p (dealing_of e) whole.0, whole_put s k p es whole.1)
+whole_put s k p (e ∷ es) whole = (half_put s k p (recorded_dealing e) whole.0, whole_put s k p es whole.1)
 
 -- what is recovered stays recovered
 stays_half : (m : Pairs) (d : Dealing) (h : Option ℕ) (k : ℕ × ℕ) → IsSome (get m k) → IsSome (get (with_half m d h) k)
@@ -113,15 +113,15 @@ stays : (s : Secrets) (m : Pairs) (o : Option Dealing) (k : ℕ × ℕ) → IsSo
 stays s m None k some = some
 stays s m (Some d) k some = stays_half m d (get s.privates d.key) k some
 
-pub fold_stays : (s : Secrets) (k : ℕ × ℕ) (es : List Entry) (m : Pairs) → IsSome (get m k) → IsSome (get (fold (step s) m es) k)
+pub fold_stays : (s : Secrets) (k : ℕ × ℕ) (es : List SectionEntry) (m : Pairs) → IsSome (get m k) → IsSome (get (fold (step s) m es) k)
 fold_stays s k [] m some = some
-fold_stays s k (e ∷ es) m some = fold_stays s k es (step s m e) (stays s m (dealing_of e) k some)
+fold_stays s k (e ∷ es) m some = fold_stays s k es (step s m e) (stays s m (recorded_dealing e) k some)
 
 none_or : {A : Type 0} (o : Option A) → (o ≡ None) ⊎ IsSome o
 none_or None = inl refl
 none_or (Some x) = inr refl
 
-none_before : (s : Secrets) (k : ℕ × ℕ) (es : List Entry) (m : Pairs) → get (fold (step s) m es) k ≡ None → get m k ≡ None
+none_before : (s : Secrets) (k : ℕ × ℕ) (es : List SectionEntry) (m : Pairs) → get (fold (step s) m es) k ≡ None → get m k ≡ None
 none_before s k es m none = elim (none_or (get m k)) [
   | inl is ↦ is
   | inr some ↦ absurd (not_none _ (fold_stays s k es m some) none)
@@ -136,31 +136,31 @@ apart_one s m k None has none = tt
 apart_one s m k (Some d) has none = λ same. not_none _ (half_there m d (get s.privates d.key) has) (ap (get (with_half m d (get s.privates d.key))) same ∙ none)
 
 -- no record of a key that is not recovered
-pub apart_all : (s : Secrets) (k : ℕ × ℕ) (es : List Entry) (m : Pairs) → IsWhole es s → get (fold (step s) m es) k ≡ None → AllByRecursion (λ e. Apart k (dealing_of e)) es
+pub apart_all : (s : Secrets) (k : ℕ × ℕ) (es : List SectionEntry) (m : Pairs) → IsWhole es s → get (fold (step s) m es) k ≡ None → AllByRecursion (λ e. Apart k (recorded_dealing e)) es
 apart_all s k [] m whole none = tt
-apart_all s k (e ∷ es) m whole none = (apart_one s m k (dealing_of e) whole.0 (none_before s k es (step s m e) none), apart_all s k es (step s m e) whole.1 none)
+apart_all s k (e ∷ es) m whole none = (apart_one s m k (recorded_dealing e) whole.0 (none_before s k es (step s m e) none), apart_all s k es (step s m e) whole.1 none)
 
 -- the record of a dealing is read as such
-pub dealing_of_event : (epoch dealer : ℕ) (public : List ℕ) → IsEvent (events.Dealing dealer public) → dealing_of (epoch, event_spelling (events.Dealing dealer public)) ≡ Some (record { key = (epoch, dealer); public = public })
+pub dealing_of_event : (epoch dealer : ℕ) (public : List ℕ) → IsEvent (events.Dealing dealer public) → recorded_dealing (epoch, event_spelling (events.Dealing dealer public)) ≡ Some (record { key = (epoch, dealer); public = public })
 dealing_of_event epoch dealer public is =
-    ap (λ (r : Reading Event). dealing_in epoch (whole r)) (read_again no_limit (events.Dealing dealer public) is)
+    ap (λ (r : Reading Event). dealing_in_event epoch (whole r)) (read_again no_limit (events.Dealing dealer public) is)
 
 module _ (epoch dealer private : ℕ) (public : List ℕ) (is_event : IsEvent (events.Dealing dealer public)) (pairs : Pairs) (new : get pairs (epoch, dealer) ≡ None) (held : Secrets) where
   private_put : Secrets
   private_put = put held (epoch, dealer) private
 
   -- the private half alone changes nothing that is recovered
-  pub put_one : (es : List Entry) → IsWhole es held → recovered es held ≡ pairs → IsWhole es (put held (epoch, dealer) private) × (recovered es (put held (epoch, dealer) private) ≡ pairs)
+  pub put_one : (es : List SectionEntry) → IsWhole es held → recovered es held ≡ pairs → IsWhole es (put held (epoch, dealer) private) × (recovered es (put held (epoch, dealer) private) ≡ pairs)
   put_one es whole gives =
       let apart = apart_all held (epoch, dealer) es empty whole (ap (λ (m : Pairs). get m (epoch, dealer)) gives ∙ new) in
       (whole_put held (epoch, dealer) private es whole, fold_same held (epoch, dealer) private es empty apart ∙ gives)
 
-  pub record_one : (es : List Entry) → IsWhole es held → recovered es held ≡ pairs →
+  pub record_one : (es : List SectionEntry) → IsWhole es held → recovered es held ≡ pairs →
       IsWhole (placed es (epoch, event_spelling (events.Dealing dealer public))) (put held (epoch, dealer) private)
       × (recovered (placed es (epoch, event_spelling (events.Dealing dealer public))) (put held (epoch, dealer) private) ≡ insert pairs (epoch, dealer) (public, private))
   record_one es whole gives =
       let now : Secrets = put held (epoch, dealer) private in
-      let is : dealing_of (epoch, event_spelling (events.Dealing dealer public)) ≡ Some (record { key = (epoch, dealer); public = public }) = dealing_of_event epoch dealer public is_event in
+      let is : recorded_dealing (epoch, event_spelling (events.Dealing dealer public)) ≡ Some (record { key = (epoch, dealer); public = public }) = dealing_of_event epoch dealer public is_event in
       let there : get now.privates (epoch, dealer) ≡ Some private = get_here held.privates (epoch, dealer) private in
       let apart = apart_all held (epoch, dealer) es empty whole (ap (λ (m : Pairs). get m (epoch, dealer)) gives ∙ new) in
       let puts : (m : Pairs) → step now m (epoch, event_spelling (events.Dealing dealer public)) ≡ insert m (epoch, dealer) (public, private) =
@@ -170,48 +170,48 @@ module _ (epoch dealer private : ℕ) (public : List ℕ) (is_event : IsEvent (e
             ∙ ap (λ (m : Pairs). insert m (epoch, dealer) (public, private)) (fold_same held (epoch, dealer) private es empty apart ∙ gives),
       )
 
-  pub put_holds : (image next : Files → Type 0) (now : Secrets) → Holds pairs image held → (now ≡ held) ⊎ (now ≡ put held (epoch, dealer) private) → ((c : Files) → next c → image c) → Holds pairs next now
+  pub put_holds : (image next : Files → Type 0) (now : Secrets) → HoldsDealings pairs image held → (now ≡ held) ⊎ (now ≡ put held (epoch, dealer) private) → ((c : Files) → next c → image c) → HoldsDealings pairs next now
   put_holds image next now holds either from = elim either [
-    | inl is ↦ subst (Holds pairs next) (sym is) (record { whole = λ c n. holds.whole c (from c n); gives = λ c n. holds.gives c (from c n) })
-    | inr is ↦ subst (Holds pairs next) (sym is) (record {
+    | inl is ↦ subst (HoldsDealings pairs next) (sym is) (record { whole = λ c n. holds.whole c (from c n); gives = λ c n. holds.gives c (from c n) })
+    | inr is ↦ subst (HoldsDealings pairs next) (sym is) (record {
       whole = λ c n. (put_one (entries c) (holds.whole c (from c n)) (holds.gives c (from c n))).0;
       gives = λ c n. (put_one (entries c) (holds.whole c (from c n)) (holds.gives c (from c n))).1;
     })
   ]
 
-  pub adds_holds : (image next : Files → Type 0) → Holds pairs image held → Follows (Adds (epoch, event_spelling (events.Dealing dealer public))) image next → Holds (insert pairs (epoch, dealer) (public, private)) next (put held (epoch, dealer) private)
+  pub adds_holds : (image next : Files → Type 0) → HoldsDealings pairs image held → Follows (Adds (epoch, event_spelling (events.Dealing dealer public))) image next → HoldsDealings (insert pairs (epoch, dealer) (public, private)) next (put held (epoch, dealer) private)
   adds_holds image next holds follows = record {
     whole = λ c n. let from = follows.each c n in
-        subst (λ (es : List Entry). IsWhole es (put held (epoch, dealer) private)) (sym from.2.added) (record_one (entries from.0) (holds.whole from.0 from.1) (holds.gives from.0 from.1)).0;
+        subst (λ (es : List SectionEntry). IsWhole es (put held (epoch, dealer) private)) (sym from.2.added) (record_one (entries from.0) (holds.whole from.0 from.1) (holds.gives from.0 from.1)).0;
     gives = λ c n. let from = follows.each c n in
-        ap (λ (es : List Entry). recovered es (put held (epoch, dealer) private)) from.2.added ∙ (record_one (entries from.0) (holds.whole from.0 from.1) (holds.gives from.0 from.1)).1;
+        ap (λ (es : List SectionEntry). recovered es (put held (epoch, dealer) private)) from.2.added ∙ (record_one (entries from.0) (holds.whole from.0 from.1) (holds.gives from.0 from.1)).1;
   }
 
   -- with the record or without
-  either_one : (d es : List Entry) → IsWhole d held → recovered d held ≡ pairs → (es ≡ d) ⊎ (es ≡ placed d (epoch, event_spelling (events.Dealing dealer public))) →
+  either_one : (d es : List SectionEntry) → IsWhole d held → recovered d held ≡ pairs → (es ≡ d) ⊎ (es ≡ placed d (epoch, event_spelling (events.Dealing dealer public))) →
       IsWhole es (put held (epoch, dealer) private) × ((recovered es (put held (epoch, dealer) private) ≡ pairs) ⊎ (recovered es (put held (epoch, dealer) private) ≡ insert pairs (epoch, dealer) (public, private)))
   either_one d es whole gives either = elim either [
     | inl is ↦ (
-      subst (λ (l : List Entry). IsWhole l (put held (epoch, dealer) private)) (sym is) (put_one d whole gives).0,
-      inl (ap (λ (l : List Entry). recovered l (put held (epoch, dealer) private)) is ∙ (put_one d whole gives).1),
+      subst (λ (l : List SectionEntry). IsWhole l (put held (epoch, dealer) private)) (sym is) (put_one d whole gives).0,
+      inl (ap (λ (l : List SectionEntry). recovered l (put held (epoch, dealer) private)) is ∙ (put_one d whole gives).1),
     )
     | inr is ↦ (
-      subst (λ (l : List Entry). IsWhole l (put held (epoch, dealer) private)) (sym is) (record_one d whole gives).0,
-      inr (ap (λ (l : List Entry). recovered l (put held (epoch, dealer) private)) is ∙ (record_one d whole gives).1),
+      subst (λ (l : List SectionEntry). IsWhole l (put held (epoch, dealer) private)) (sym is) (record_one d whole gives).0,
+      inr (ap (λ (l : List SectionEntry). recovered l (put held (epoch, dealer) private)) is ∙ (record_one d whole gives).1),
     )
   ]
 
-  pub may_add_holds : (image next : Files → Type 0) → Holds pairs image held → Follows (MayAdd (epoch, event_spelling (events.Dealing dealer public))) image next → HoldsEither pairs (insert pairs (epoch, dealer) (public, private)) next (put held (epoch, dealer) private)
+  pub may_add_holds : (image next : Files → Type 0) → HoldsDealings pairs image held → Follows (MayAdd (epoch, event_spelling (events.Dealing dealer public))) image next → HoldsEither pairs (insert pairs (epoch, dealer) (public, private)) next (put held (epoch, dealer) private)
   may_add_holds image next holds follows = record {
     whole = λ c n. let from = follows.each c n in (either_one (entries from.0) (entries c) (holds.whole from.0 from.1) (holds.gives from.0 from.1) from.2.either).0;
     gives = λ c n. let from = follows.each c n in (either_one (entries from.0) (entries c) (holds.whole from.0 from.1) (holds.gives from.0 from.1) from.2.either).1;
   }
 
-pub holds_either : (pairs more : Pairs) (image : Files → Type 0) (held : Secrets) → Holds pairs image held → HoldsEither pairs more image held
+pub holds_either : (pairs more : Pairs) (image : Files → Type 0) (held : Secrets) → HoldsDealings pairs image held → HoldsEither pairs more image held
 holds_either pairs more image held holds = record { whole = holds.whole; gives = λ c n. inl (holds.gives c n) }
 
 -- the calls of a new dealing, wherever they stopped
-pub puts_hold : (epoch dealer private : ℕ) (public : List ℕ) → IsEvent (events.Dealing dealer public) → (pairs : Pairs) → get pairs (epoch, dealer) ≡ None → (held now : Secrets) (image next : Files → Type 0) → Holds pairs image held
+pub puts_hold : (epoch dealer private : ℕ) (public : List ℕ) → IsEvent (events.Dealing dealer public) → (pairs : Pairs) → get pairs (epoch, dealer) ≡ None → (held now : Secrets) (image next : Files → Type 0) → HoldsDealings pairs image held
     → PutsFirst (PutDealing epoch dealer private) (epoch, event_spelling (events.Dealing dealer public)) image next held now → HoldsEither pairs (insert pairs (epoch, dealer) (public, private)) next now
 puts_hold epoch dealer private public is_event pairs new held now image next holds steps = elim steps.so [
   | inl tried ↦ holds_either pairs _ next now (put_holds epoch dealer private public is_event pairs new held image next now holds tried.0.so tried.1)
@@ -219,7 +219,7 @@ puts_hold epoch dealer private public is_event pairs new held now image next hol
 ]
 
 -- .. and where they returned
-pub done_holds : (epoch dealer private : ℕ) (public : List ℕ) → IsEvent (events.Dealing dealer public) → (pairs : Pairs) → get pairs (epoch, dealer) ≡ None → (held now : Secrets) (image next : Files → Type 0) → Holds pairs image held
-    → now ≡ after (PutDealing epoch dealer private) held → Follows (Adds (epoch, event_spelling (events.Dealing dealer public))) image next → Holds (insert pairs (epoch, dealer) (public, private)) next now
+pub done_holds : (epoch dealer private : ℕ) (public : List ℕ) → IsEvent (events.Dealing dealer public) → (pairs : Pairs) → get pairs (epoch, dealer) ≡ None → (held now : Secrets) (image next : Files → Type 0) → HoldsDealings pairs image held
+    → now ≡ after (PutDealing epoch dealer private) held → Follows (Adds (epoch, event_spelling (events.Dealing dealer public))) image next → HoldsDealings (insert pairs (epoch, dealer) (public, private)) next now
 done_holds epoch dealer private public is_event pairs new held now image next holds done adds =
-    subst (Holds (insert pairs (epoch, dealer) (public, private)) next) (sym done) (adds_holds epoch dealer private public is_event pairs new held image next holds adds)
+    subst (HoldsDealings (insert pairs (epoch, dealer) (public, private)) next) (sym done) (adds_holds epoch dealer private public is_event pairs new held image next holds adds)

@@ -9,7 +9,7 @@ use Rattle.dkg_journal.specs.Names.{Files}
 use Rattle.dkg_journal.specs.Disk.{Follows}
 use Rattle.dkg_journal.specs.Operations.{Tried, Finished, Prunes as PrunesJournal}
 use Rattle.dkg_journal.specs.Pruning.{Leaves, MayLeave}
-use Rattle.dkg_journal.specs.Records.{Entry, entries, from_section}
+use Rattle.dkg_journal.specs.Records.{SectionEntry, entries, from_section}
 use Rattle.dkg_types.specs.declared.entry.Entry.{Entry as Line}
 use Rattle.dkg_values.specs.declared.name.Name.TheVariants.{Plan}
 use Rattle.dkg_store.specs.Acts.{Acts, Changes, Cause, EndsBy, Ended, broken, went, moment, MadeAt, Stands}
@@ -17,11 +17,11 @@ use Rattle.dkg_store.specs.Calls.{pruning}
 use Rattle.dkg_store.specs.Events.{event_at, no_limit}
 use Rattle.dkg_store.specs.declared.event.Event.{Event}
 use Rattle.dkg_store.specs.declared.event.Event.TheVariants as events
-use Rattle.dkg_store.specs.Noted.{GivesPruned, Note, Notes, with_note, noted, noted_ack, noted_log, ack_in, log_in, Gives, GivesEither}
+use Rattle.dkg_store.specs.Noted.{GivesPruned, Note, Notes, with_note, noted, noted_ack, noted_log, ack_in_event, log_in_event, ImagesGive, ImagesGiveEither}
 use Rattle.dkg_store.specs.Named.{SamePlan}
 use Rattle.dkg_secrets.specs.Secrets.{Secrets, Tries}
 use Rattle.dkg_secrets.specs.Secrets as of_secrets
-use Rattle.dkg_store.specs.Pairs.{Pairs, Dealing, dealing_in, dealing_of, with_half, with_dealing, recovered, HasHalf, IsWhole, Holds, HoldsEither, HoldsPruned}
+use Rattle.dkg_store.specs.Pairs.{Pairs, Dealing, dealing_in_event, recorded_dealing, with_half, with_dealing, recovered, HasHalf, IsWhole, HoldsDealings, HoldsEither, HoldsPruned}
 use Rattle.dkg_journal.specs.declared.call.JournalError.{JournalError}
 use Rattle.dkg_journal.specs.declared.call.JournalError.TheVariants as of_journal
 use Rattle.dkg_store.specs.Errors.{IsOfPruning, IsOfSecrets, store_error_of}
@@ -36,14 +36,14 @@ use Rattle.dkg_store.proofs.Noted.{IsUnder, noted_from}
 
 -- THE SECTION OF A RECORD IS ITS EPOCH
 
-ack_under : (epoch : ℕ) (r : Result Event CodecError) → IsUnder noted_ack epoch (ack_in epoch r)
+ack_under : (epoch : ℕ) (r : Result Event CodecError) → IsUnder noted_ack epoch (ack_in_event epoch r)
 ack_under epoch (Ok (events.Dealing dealer public)) = tt
 ack_under epoch (Ok (events.Ack player ack)) = refl
 ack_under epoch (Ok (events.Log dealer log)) = tt
 ack_under epoch (Ok (events.LogAt dealer height log)) = tt
 ack_under epoch (Err e) = tt
 
-log_under : (epoch : ℕ) (r : Result Event CodecError) → IsUnder noted_log epoch (log_in epoch r)
+log_under : (epoch : ℕ) (r : Result Event CodecError) → IsUnder noted_log epoch (log_in_event epoch r)
 log_under epoch (Ok (events.Dealing dealer public)) = tt
 log_under epoch (Ok (events.Ack player ack)) = tt
 log_under epoch (Ok (events.Log dealer log)) = refl
@@ -54,35 +54,35 @@ abbrev IsOf : ℕ → Option Dealing → Type 0
 IsOf section None = Unit {0}
 IsOf section (Some d) = d.key.0 ≡ section
 
-dealing_under : (epoch : ℕ) (r : Result Event CodecError) → IsOf epoch (dealing_in epoch r)
+dealing_under : (epoch : ℕ) (r : Result Event CodecError) → IsOf epoch (dealing_in_event epoch r)
 dealing_under epoch (Ok (events.Dealing dealer public)) = refl
 dealing_under epoch (Ok (events.Ack player ack)) = tt
 dealing_under epoch (Ok (events.Log dealer log)) = tt
 dealing_under epoch (Ok (events.LogAt dealer height log)) = tt
 dealing_under epoch (Err e) = tt
 
-pub acks_from : (min : ℕ) (es : List Entry) → noted noted_ack (from_section min es) ≡ retain_keys (noted noted_ack es) (λ k. nat_le min k.0)
+pub acks_from : (min : ℕ) (es : List SectionEntry) → noted noted_ack (from_section min es) ≡ retain_keys (noted noted_ack es) (λ k. nat_le min k.0)
 acks_from min es = noted_from noted_ack min (λ e. ack_under e.0 (whole (event_at no_limit e.1))) es
 
-pub logs_from : (min : ℕ) (es : List Entry) → noted noted_log (from_section min es) ≡ retain_keys (noted noted_log es) (λ k. nat_le min k.0)
+pub logs_from : (min : ℕ) (es : List SectionEntry) → noted noted_log (from_section min es) ≡ retain_keys (noted noted_log es) (λ k. nat_le min k.0)
 logs_from min es = noted_from noted_log min (λ e. log_under e.0 (whole (event_at no_limit e.1))) es
 
 -- ACKNOWLEDGEMENTS AND LOGS
 
-module _ {V : Type 0} (note_of : Entry → Option (Note V)) (min : ℕ) (from : (es : List Entry) → noted note_of (from_section min es) ≡ retain_keys (noted note_of es) (λ k. nat_le min k.0)) where
+module _ {V : Type 0} (note_of : SectionEntry → Option (Note V)) (min : ℕ) (from : (es : List SectionEntry) → noted note_of (from_section min es) ≡ retain_keys (noted note_of es) (λ k. nat_le min k.0)) where
   abbrev above : Notes V → Notes V
   above m = retain_keys m (λ k. nat_le min k.0)
 
-  left_of : (m : Notes V) (d es : List Entry) → noted note_of d ≡ m → es ≡ from_section min d → noted note_of es ≡ above m
+  left_of : (m : Notes V) (d es : List SectionEntry) → noted note_of d ≡ m → es ≡ from_section min d → noted note_of es ≡ above m
   left_of m d es was is = ap (noted note_of) is ∙ from d ∙ ap (λ (n : Notes V). above n) was
 
-  pub gives_left : (m : Notes V) (image next : Files → Type 0) → Follows (Leaves min) image next → Gives (noted note_of) m image → Gives (noted note_of) (above m) next
+  pub gives_left : (m : Notes V) (image next : Files → Type 0) → Follows (Leaves min) image next → ImagesGive (noted note_of) m image → ImagesGive (noted note_of) (above m) next
   gives_left m image next follows gives = record {
     each = λ c here. let d = follows.each c here in left_of m (entries d.0) (entries c) (gives.each d.0 d.1) d.2.left;
   }
 
-module _ {V : Type 0} (note_of : Entry → Option (Note V)) (from : (min : ℕ) (es : List Entry) → noted note_of (from_section min es) ≡ retain_keys (noted note_of es) (λ k. nat_le min k.0)) where
-  pub gives_may_leave : (min : ℕ) (m : Notes V) (image next : Files → Type 0) → Follows (MayLeave min) image next → Gives (noted note_of) m image → GivesPruned (noted note_of) min m next
+module _ {V : Type 0} (note_of : SectionEntry → Option (Note V)) (from : (min : ℕ) (es : List SectionEntry) → noted note_of (from_section min es) ≡ retain_keys (noted note_of es) (λ k. nat_le min k.0)) where
+  pub gives_may_leave : (min : ℕ) (m : Notes V) (image next : Files → Type 0) → Follows (MayLeave min) image next → ImagesGive (noted note_of) m image → GivesPruned (noted note_of) min m next
   gives_may_leave min m image next follows gives = record {
     each = λ c here.
         let d = follows.each c here in
@@ -99,8 +99,8 @@ abbrev paired : Secrets → Option Dealing → Option (Note (List ℕ × ℕ))
 paired s None = None
 paired s (Some d) = with_private d (get s.privates d.key)
 
-abbrev noted_pair : Secrets → Entry → Option (Note (List ℕ × ℕ))
-noted_pair s e = paired s (dealing_of e)
+abbrev noted_pair : Secrets → SectionEntry → Option (Note (List ℕ × ℕ))
+noted_pair s e = paired s (recorded_dealing e)
 
 half_same : (m : Pairs) (d : Dealing) (h : Option ℕ) → with_half m d h ≡ with_note m (with_private d h)
 half_same m d None = refl
@@ -110,12 +110,12 @@ step_same : (s : Secrets) (m : Pairs) (o : Option Dealing) → with_dealing s m 
 step_same s m None = refl
 step_same s m (Some d) = half_same m d (get s.privates d.key)
 
-fold_noted : (s : Secrets) (es : List Entry) (m : Pairs) → fold (λ n e. with_dealing s n (dealing_of e)) m es ≡ fold (λ n e. with_note n (noted_pair s e)) m es
+fold_noted : (s : Secrets) (es : List SectionEntry) (m : Pairs) → fold (λ n e. with_dealing s n (recorded_dealing e)) m es ≡ fold (λ n e. with_note n (noted_pair s e)) m es
 fold_noted s [] m = refl
-fold_noted s (e ∷ es) m = ap (λ (n : Pairs). fold (λ x y. with_dealing s x (dealing_of y)) n es) (step_same s m (dealing_of e)) ∙ fold_noted s es (with_note m (noted_pair s e))
+fold_noted s (e ∷ es) m = ap (λ (n : Pairs). fold (λ x y. with_dealing s x (recorded_dealing y)) n es) (step_same s m (recorded_dealing e)) ∙ fold_noted s es (with_note m (noted_pair s e))
 
 -- dealings are what records say with the private halves
-pub recovered_noted : (es : List Entry) (s : Secrets) → recovered es s ≡ noted (noted_pair s) es
+pub recovered_noted : (es : List SectionEntry) (s : Secrets) → recovered es s ≡ noted (noted_pair s) es
 recovered_noted es s = fold_noted s es empty
 
 private_under : (s : Secrets) (section : ℕ) (d : Dealing) (h : Option ℕ) → d.key.0 ≡ section → IsUnder (noted_pair s) section (with_private d h)
@@ -126,10 +126,10 @@ pair_under : (s : Secrets) (section : ℕ) (o : Option Dealing) → IsOf section
 pair_under s section None is = tt
 pair_under s section (Some d) is = private_under s section d (get s.privates d.key) is
 
-pub recovered_from : (min : ℕ) (es : List Entry) (s : Secrets) → recovered (from_section min es) s ≡ retain_keys (recovered es s) (λ k. nat_le min k.0)
+pub recovered_from : (min : ℕ) (es : List SectionEntry) (s : Secrets) → recovered (from_section min es) s ≡ retain_keys (recovered es s) (λ k. nat_le min k.0)
 recovered_from min es s =
     recovered_noted (from_section min es) s
-    ∙ noted_from (noted_pair s) min (λ e. pair_under s e.0 (dealing_of e) (dealing_under e.0 (whole (event_at no_limit e.1)))) es
+    ∙ noted_from (noted_pair s) min (λ e. pair_under s e.0 (recorded_dealing e) (dealing_under e.0 (whole (event_at no_limit e.1)))) es
     ∙ ap (λ (m : Pairs). retain_keys m (λ k. nat_le min k.0)) (sym (recovered_noted es s))
 
 module _ (min : ℕ) (s t : Secrets) (halves : (k : ℕ × ℕ) → min ≤ k.0 → get t.privates k ≡ get s.privates k) where
@@ -137,55 +137,55 @@ module _ (min : ℕ) (s t : Secrets) (halves : (k : ℕ × ℕ) → min ≤ k.0 
   half_above section None is above has = tt
   half_above section (Some d) is above has = subst IsSome (sym (halves d.key (subst (λ (n : ℕ). min ≤ n) (sym is) above))) has
 
-  whole_from : (es : List Entry) → IsWhole es s → IsWhole (from_section min es) t
+  whole_from : (es : List SectionEntry) → IsWhole es s → IsWhole (from_section min es) t
   whole_from [] whole = tt
   whole_from (e ∷ es) all = elim (below_or min e.0) [
     | inl below ↦ subst (λ (b : Bool). IsWhole (cond b (e ∷ from_section min es) (from_section min es)) t) (sym below.1) (whole_from es all.1)
     | inr above ↦ subst (λ (b : Bool). IsWhole (cond b (e ∷ from_section min es) (from_section min es)) t) (sym above.1)
-        (half_above e.0 (dealing_of e) (dealing_under e.0 (whole (event_at no_limit e.1))) above.0 all.0, whole_from es all.1)
+        (half_above e.0 (recorded_dealing e) (dealing_under e.0 (whole (event_at no_limit e.1))) above.0 all.0, whole_from es all.1)
   ]
 
   step_above : (section : ℕ) (m : Pairs) (o : Option Dealing) → IsOf section o → min ≤ section → with_dealing t m o ≡ with_dealing s m o
   step_above section m None is above = refl
   step_above section m (Some d) is above = ap (with_half m d) (halves d.key (subst (λ (n : ℕ). min ≤ n) (sym is) above))
 
-  fold_above : (es : List Entry) (m : Pairs) → fold (λ n e. with_dealing t n (dealing_of e)) m (from_section min es) ≡ fold (λ n e. with_dealing s n (dealing_of e)) m (from_section min es)
+  fold_above : (es : List SectionEntry) (m : Pairs) → fold (λ n e. with_dealing t n (recorded_dealing e)) m (from_section min es) ≡ fold (λ n e. with_dealing s n (recorded_dealing e)) m (from_section min es)
   fold_above [] m = refl
   fold_above (e ∷ es) m = elim (below_or min e.0) [
-    | inl below ↦ subst (λ (b : Bool). fold (λ n x. with_dealing t n (dealing_of x)) m (cond b (e ∷ from_section min es) (from_section min es)) ≡ fold (λ n x. with_dealing s n (dealing_of x)) m (cond b (e ∷ from_section min es) (from_section min es))) (sym below.1) (fold_above es m)
-    | inr above ↦ subst (λ (b : Bool). fold (λ n x. with_dealing t n (dealing_of x)) m (cond b (e ∷ from_section min es) (from_section min es)) ≡ fold (λ n x. with_dealing s n (dealing_of x)) m (cond b (e ∷ from_section min es) (from_section min es))) (sym above.1)
-        (ap (λ (n : Pairs). fold (λ x y. with_dealing t x (dealing_of y)) n (from_section min es)) (step_above e.0 m (dealing_of e) (dealing_under e.0 (whole (event_at no_limit e.1))) above.0) ∙ fold_above es (with_dealing s m (dealing_of e)))
+    | inl below ↦ subst (λ (b : Bool). fold (λ n x. with_dealing t n (recorded_dealing x)) m (cond b (e ∷ from_section min es) (from_section min es)) ≡ fold (λ n x. with_dealing s n (recorded_dealing x)) m (cond b (e ∷ from_section min es) (from_section min es))) (sym below.1) (fold_above es m)
+    | inr above ↦ subst (λ (b : Bool). fold (λ n x. with_dealing t n (recorded_dealing x)) m (cond b (e ∷ from_section min es) (from_section min es)) ≡ fold (λ n x. with_dealing s n (recorded_dealing x)) m (cond b (e ∷ from_section min es) (from_section min es))) (sym above.1)
+        (ap (λ (n : Pairs). fold (λ x y. with_dealing t x (recorded_dealing y)) n (from_section min es)) (step_above e.0 m (recorded_dealing e) (dealing_under e.0 (whole (event_at no_limit e.1))) above.0) ∙ fold_above es (with_dealing s m (recorded_dealing e)))
   ]
 
   -- The journal is pruned, and the secrets at or above the minimum are there.
-  pub left_holds : (pairs : Pairs) (image next : Files → Type 0) → Follows (Leaves min) image next → Holds pairs image s → Holds (retain_keys pairs (λ k. nat_le min k.0)) next t
+  pub left_holds : (pairs : Pairs) (image next : Files → Type 0) → Follows (Leaves min) image next → HoldsDealings pairs image s → HoldsDealings (retain_keys pairs (λ k. nat_le min k.0)) next t
   left_holds pairs image next follows holds = record {
-    whole = λ c here. let d = follows.each c here in subst (λ (es : List Entry). IsWhole es t) (sym d.2.left) (whole_from (entries d.0) (holds.whole d.0 d.1));
+    whole = λ c here. let d = follows.each c here in subst (λ (es : List SectionEntry). IsWhole es t) (sym d.2.left) (whole_from (entries d.0) (holds.whole d.0 d.1));
     gives = λ c here. let d = follows.each c here in
-        ap (λ (es : List Entry). recovered es t) d.2.left
+        ap (λ (es : List SectionEntry). recovered es t) d.2.left
         ∙ fold_above (entries d.0) empty
         ∙ recovered_from min (entries d.0) s
         ∙ ap (λ (m : Pairs). retain_keys m (λ k. nat_le min k.0)) (holds.gives d.0 d.1);
   }
 
 -- The journal's prune was ended within, and the secrets are as they were.
-pub may_leave_holds : (min : ℕ) (s : Secrets) (pairs : Pairs) (image next : Files → Type 0) → Follows (MayLeave min) image next → Holds pairs image s → HoldsPruned min pairs next s
+pub may_leave_holds : (min : ℕ) (s : Secrets) (pairs : Pairs) (image next : Files → Type 0) → Follows (MayLeave min) image next → HoldsDealings pairs image s → HoldsPruned min pairs next s
 may_leave_holds min s pairs image next follows holds = record {
-  whole = λ c here. let d = follows.each c here in subst (λ (es : List Entry). IsWhole es s) (sym d.2.leaves.left) (whole_from d.2.least s s (λ k above. refl) (entries d.0) (holds.whole d.0 d.1));
+  whole = λ c here. let d = follows.each c here in subst (λ (es : List SectionEntry). IsWhole es s) (sym d.2.leaves.left) (whole_from d.2.least s s (λ k above. refl) (entries d.0) (holds.whole d.0 d.1));
   gives = λ c here.
       let d = follows.each c here in
-      (d.2.least, d.2.low, ap (λ (es : List Entry). recovered es s) d.2.leaves.left ∙ recovered_from d.2.least (entries d.0) s ∙ ap (λ (m : Pairs). retain_keys m (λ k. nat_le d.2.least k.0)) (holds.gives d.0 d.1));
+      (d.2.least, d.2.low, ap (λ (es : List SectionEntry). recovered es s) d.2.leaves.left ∙ recovered_from d.2.least (entries d.0) s ∙ ap (λ (m : Pairs). retain_keys m (λ k. nat_le d.2.least k.0)) (holds.gives d.0 d.1));
 }
 
 -- those at or above the minimum itself
-pub holds_pruned : (min : ℕ) (pairs : Pairs) (image : Files → Type 0) (held : Secrets) → Holds (retain_keys pairs (λ k. nat_le min k.0)) image held → HoldsPruned min pairs image held
+pub holds_pruned : (min : ℕ) (pairs : Pairs) (image : Files → Type 0) (held : Secrets) → HoldsDealings (retain_keys pairs (λ k. nat_le min k.0)) image held → HoldsPruned min pairs image held
 holds_pruned min pairs image held holds = record { whole = holds.whole; gives = λ c here. (min, omega arith, holds.gives c here) }
 
-pub gives_pruned : {V : Type 0} (given : List Entry → Notes V) (min : ℕ) (m : Notes V) (image : Files → Type 0) → Gives given (retain_keys m (λ k. nat_le min k.0)) image → GivesPruned given min m image
+pub gives_pruned : {V : Type 0} (given : List SectionEntry → Notes V) (min : ℕ) (m : Notes V) (image : Files → Type 0) → ImagesGive given (retain_keys m (λ k. nat_le min k.0)) image → GivesPruned given min m image
 gives_pruned given min m image gives = record { each = λ c here. (min, omega arith, gives.each c here) }
 
 -- those at or above a minimum, or all of them
-pub one_of_either : (pairs more : Pairs) (image : Files → Type 0) (held : Secrets) → Holds more image held → HoldsEither pairs more image held
+pub one_of_either : (pairs more : Pairs) (image : Files → Type 0) (held : Secrets) → HoldsDealings more image held → HoldsEither pairs more image held
 one_of_either pairs more image held holds = record { whole = holds.whole; gives = λ c here. inr (holds.gives c here) }
 
 -- AS ACTS
@@ -232,7 +232,7 @@ pub left_others : (min : ℕ) (image next : Files → Type 0) → Follows (Leave
 left_others min image next follows = record { each = λ c here. let from = follows.each c here in (from.0, from.1, from.2.others Plan refl) }
 
 -- those at or above the minimum
-pub gives_one : {M : Type 0} (given : List Entry → M) (one other : M) (image : Files → Type 0) → Gives given other image → GivesEither given one other image
+pub gives_one : {M : Type 0} (given : List SectionEntry → M) (one other : M) (image : Files → Type 0) → ImagesGive given other image → ImagesGiveEither given one other image
 gives_one given one other image gives = record { each = λ c here. inr (gives.each c here) }
 
 -- WHICH ERRORS

@@ -4,7 +4,7 @@ use Rattle.dkg_journal.specs.Burn.{Burn}
 use Rattle.dkg_journal.specs.Fuse.{burnt, Reached}
 use Rattle.dkg_journal.specs.Names.{Files}
 use Rattle.dkg_journal.specs.Disk.{Lands}
-use Rattle.dkg_journal.specs.Records.{Entry}
+use Rattle.dkg_journal.specs.Records.{SectionEntry}
 use Rattle.dkg_journal.specs.Operations as of_journal
 use Rattle.dkg_journal.specs.Operations.{InPart}
 use Rattle.dkg_journal.specs.Operations.{Journaled, journaled}
@@ -23,7 +23,7 @@ abbrev pub held_in : Files → Secrets → Held
 held_in files s = record { journaled = journaled files; secrets = s }
 
 -- the entries of the journal
-abbrev pub notes : Held → List Entry
+abbrev pub notes : Held → List SectionEntry
 notes h = h.journaled.entries
 
 abbrev pub plan : Held → Option (List ℕ)

@@ -4,7 +4,7 @@ use Rattle.dkg_journal.specs.DeviceCall.{DeviceCall, Makes, CutIn, Crashes}
 use Rattle.dkg_journal.specs.Disk.{Rose}
 use Rattle.dkg_values.specs.declared.name.Name.{Name}
 use Rattle.dkg_journal.specs.Pruning.{prune_calls}
-use Rattle.dkg_journal.specs.Records.{Entry}
+use Rattle.dkg_journal.specs.Records.{SectionEntry}
 use Rattle.dkg_journal.specs.Journals.{append_calls}
 use Rattle.dkg_journal.specs.declared.disk.Op.{Op}
 use Rattle.dkg_journal.specs.declared.journal.Journal.{Journal}
@@ -39,7 +39,7 @@ pub record MadeBoth {D X : Type 0} (disk : D → D → List (DeviceCall Op) → 
   pub on_the_secrets : secrets old.1 new.1 (secret_calls calls)
 
 -- the calls of a put and of an append behind it
-abbrev pub put_then_append : SecretOp → Journal → Entry → List Call
+abbrev pub put_then_append : SecretOp → Journal → SectionEntry → List Call
 put_then_append op journal e = on_secrets op ∷ map on_disk (append_calls journal e)
 
 -- the calls of a prune: of the journal, and then of the secrets

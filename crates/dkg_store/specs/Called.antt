@@ -41,16 +41,16 @@ pub record Called {D X : Type 0} (known : Type 0) (made_disk : D → D → List 
 
 -- What an error that ends a call is due to: a failure of the disk or of the secret store, a cut, want of memory, or a record that is not in its
 -- grammar. No other error ends it.
-abbrev pub IsDueWith : (record_at : Name → ℕ → Type 0) → StoreError → (disk secrets cut want : Type 0) → Type 0
-IsDueWith record_at Disk disk secrets cut want = disk
-IsDueWith record_at Secrets disk secrets cut want = secrets
-IsDueWith record_at Cut disk secrets cut want = cut
-IsDueWith record_at NoMemory disk secrets cut want = want
-IsDueWith record_at (Corrupt name place) disk secrets cut want = record_at name place
-IsDueWith record_at (LocalState cause) disk secrets cut want = ⊥
-IsDueWith record_at (StateSyncEpochs info floor) disk secrets cut want = ⊥
-IsDueWith record_at StateSyncMaterial disk secrets cut want = ⊥
+abbrev pub ErrorIsDueWith : (record_at : Name → ℕ → Type 0) → StoreError → (disk secrets cut want : Type 0) → Type 0
+ErrorIsDueWith record_at Disk disk secrets cut want = disk
+ErrorIsDueWith record_at Secrets disk secrets cut want = secrets
+ErrorIsDueWith record_at Cut disk secrets cut want = cut
+ErrorIsDueWith record_at NoMemory disk secrets cut want = want
+ErrorIsDueWith record_at (Corrupt name place) disk secrets cut want = record_at name place
+ErrorIsDueWith record_at (LocalState cause) disk secrets cut want = ⊥
+ErrorIsDueWith record_at (StateSyncEpochs info floor) disk secrets cut want = ⊥
+ErrorIsDueWith record_at StateSyncMaterial disk secrets cut want = ⊥
 
 -- .. where no record is read
-abbrev pub IsDue : StoreError → (disk secrets cut want : Type 0) → Type 0
-IsDue error disk secrets cut want = IsDueWith (λ name place. ⊥) error disk secrets cut want
+abbrev pub ErrorIsDue : StoreError → (disk secrets cut want : Type 0) → Type 0
+ErrorIsDue error disk secrets cut want = ErrorIsDueWith (λ name place. ⊥) error disk secrets cut want

@@ -3,7 +3,7 @@ use Rattle.std.specs.Prelude.{◌||◌, ℕ, List, Bool, true, false, Option, So
 use Rattle.std.specs.FinMap.{get}
 use Rattle.dkg_ceremony.specs.declared.ceremony.AckError.{AckError}
 use Rattle.dkg_ceremony.specs.declared.ceremony.DealingError.{DealingError}
-use Rattle.dkg_journal.specs.Records.{Entry}
+use Rattle.dkg_journal.specs.Records.{SectionEntry}
 use Rattle.dkg_types.specs.declared.entry.Entry.TheVariants.{Recorded}
 use Rattle.dkg_journal.specs.Operations.{Bars, Opens, Appends, Prunes}
 use Rattle.dkg_values.specs.declared.name.Name.{Name}
@@ -56,15 +56,15 @@ answered (Err (Refused error)) = went (Err error)
 answered (Err (OfStore error)) = by_error error
 
 -- a put, and then an append
-abbrev pub put_and_appended : {S : Type 0} → SecretOp → Entry → S → Acts StoreError S
+abbrev pub put_and_appended : {S : Type 0} → SecretOp → SectionEntry → S → Acts StoreError S
 put_and_appended op e end = Do (Changes op) (Do (OnDisk (Appends e)) (Goes end))
 
 -- an append alone
-abbrev pub appended : {S : Type 0} → Entry → S → Acts StoreError S
+abbrev pub appended : {S : Type 0} → SectionEntry → S → Acts StoreError S
 appended e end = Do (OnDisk (Appends e)) (Goes end)
 
 -- The record of an acknowledgement or a log: nothing where one of its key is recorded already.
-abbrev pub noting : (known : Bool) → Entry → Acts StoreError Bool
+abbrev pub noting : (known : Bool) → SectionEntry → Acts StoreError Bool
 noting known e = if known then Goes false else appended e true
 
 -- The record of a dealing: nothing where it is recorded already.
@@ -87,7 +87,7 @@ answering ack_of (Some pair) check epoch dealer public private = Goes (Ok (ack_o
 answering ack_of None check epoch dealer public private = accepting check epoch dealer public private (ack_of public)
 
 -- An acknowledgement is checked first, and recorded where that player's neither came in nor was recorded before.
-abbrev pub acking : (check : Result (Unit {0}) AckError) → (counted recorded : Bool) → Entry → Acts StoreError (Result AckOutcome AckError)
+abbrev pub acking : (check : Result (Unit {0}) AckError) → (counted recorded : Bool) → SectionEntry → Acts StoreError (Result AckOutcome AckError)
 acking (Err error) counted recorded e = Goes (Err error)
 acking (Ok passed) counted recorded e = if (counted || recorded) then Goes (Ok Duplicate) else appended e (Ok NewlyRecorded)
 

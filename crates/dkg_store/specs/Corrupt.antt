@@ -5,16 +5,16 @@ use Rattle.dkg_values.specs.declared.name.Name.{Name}
 use Rattle.dkg_journal.specs.Names.{Files}
 use Rattle.dkg_journal.specs.Opening.{AreUnbroken, broken}
 use Rattle.dkg_journal.specs.Gated.{gated, gated_entries}
-use Rattle.dkg_journal.specs.Records.{Entry, entries}
+use Rattle.dkg_journal.specs.Records.{SectionEntry, entries}
 use Rattle.dkg_journal.specs.declared.opening.JournalEntry.{JournalEntry}
 use Rattle.dkg_store.specs.Events.{is_event, no_event_at}
 
 -- the body of each entry is an event within the limit
-abbrev pub AreEvents : ℕ → List Entry → Type 0
+abbrev pub AreEvents : ℕ → List SectionEntry → Type 0
 AreEvents limit es = AllByRecursion (λ e. is_event limit e.1 ≡ true) es
 
 -- there is an entry, and the first is an event
-abbrev pub BeginsWithEvent : ℕ → List Entry → Type 0
+abbrev pub BeginsWithEvent : ℕ → List SectionEntry → Type 0
 BeginsWithEvent limit [] = ⊥
 BeginsWithEvent limit (e ∷ es) = is_event limit e.1 ≡ true
 

@@ -7,7 +7,7 @@ use Rattle.dkg_ceremony.specs.declared.ceremony.AckError.{AckError}
 use Rattle.dkg_ceremony.specs.declared.deal.DealError.{DealError}
 use Rattle.dkg_ceremony.specs.declared.round.RoundParts.{RoundParts as Round}
 use Rattle.dkg_ceremony.specs.declared.ceremony.AckError.TheVariants.{NoMemory}
-use Rattle.dkg_store.specs.Called.{IsDue, if_made, made_in}
+use Rattle.dkg_store.specs.Called.{ErrorIsDue, if_made, made_in}
 use Rattle.dkg_store.specs.Noted.{Notes}
 use Rattle.dkg_store.specs.Rest.{KeepsAck}
 use Rattle.dkg_store.specs.declared.dealer.AckHandleError.{AckHandleError}
@@ -65,8 +65,8 @@ pub record IsDealerOf (deal_of : Round → ℕ → Option ℕ → List ℕ → R
   pub passed : (player : ℕ) (ack : List ℕ) → get dealer.acks player ≡ Some ack → check_of dealer.round dealer.me dealer.public player ack ≡ Ok tt
 
 -- An acknowledgement that passes is a duplicate where that player's came in, or was recorded, before.
-abbrev pub outcome_of : (counted recorded : Bool) → AckOutcome
-outcome_of counted recorded = if (counted || recorded) then Duplicate else Recorded
+abbrev pub ack_outcome_of : (counted recorded : Bool) → AckOutcome
+ack_outcome_of counted recorded = if (counted || recorded) then Duplicate else Recorded
 
 -- how the handling of an acknowledgement ended: in a record where that player's neither came in nor was recorded before
 abbrev pub acked_in : {T E : Type 0} → AckMap → Notes (List ℕ) → (epoch player : ℕ) → Result T E → Option Bool
@@ -81,7 +81,7 @@ AnswersAck (Err (OfStore error)) check its = Unit {0}
 -- What the handling of an acknowledgement leaves in memory: what passed the check and is a player's first counts, and is recorded if none was.
 pub record HandlesAck {Dir : Type 0} (ends : Option Bool) (result : Result AckOutcome AckHandleError) (check : Result (Unit {0}) AckError)
     (epoch player : ℕ) (ack : List ℕ) (dealer now : Dealer) (old new : Store Dir) (same : Type 0) : Type 0 where
-  pub answers : AnswersAck result check (outcome_of (is_some (get dealer.acks player)) (contains_key old.acks (epoch, player)))
+  pub answers : AnswersAck result check (ack_outcome_of (is_some (get dealer.acks player)) (contains_key old.acks (epoch, player)))
   pub rest : now ≡ record dealer { acks = now.acks }
   pub counted : now.acks ≡ if_made (made_in (not (is_some (get dealer.acks player))) result) (insert dealer.acks player ack) dealer.acks
   pub recorded : KeepsAck ends (epoch, player) ack old new
@@ -91,4 +91,4 @@ pub record HandlesAck {Dir : Type 0} (ends : Option Bool) (result : Result AckOu
 -- what an error of the handling is due to, where it is the store's
 abbrev pub IsDueAs : AckHandleError → (disk secrets cut want : Type 0) → Type 0
 IsDueAs (Refused error) disk secrets cut want = Unit {0}
-IsDueAs (OfStore error) disk secrets cut want = IsDue error disk secrets cut want
+IsDueAs (OfStore error) disk secrets cut want = ErrorIsDue error disk secrets cut want

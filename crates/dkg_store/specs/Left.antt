@@ -9,15 +9,15 @@ use Rattle.dkg_journal.specs.Journals.{IsOpen}
 use Rattle.dkg_journal.specs.Names.{Files}
 use Rattle.dkg_journal.specs.Opening.{broken}
 use Rattle.dkg_journal.specs.Pruning.{Leaves}
-use Rattle.dkg_journal.specs.Records.{Entry, entries}
+use Rattle.dkg_journal.specs.Records.{SectionEntry, entries}
 use Rattle.dkg_journal.specs.Steps.{Keeps}
 use Rattle.dkg_journal.specs.Views.{views}
 use Rattle.dkg_journal.specs.declared.journal.Journal.{Journal}
 use Rattle.dkg_store.specs.Corrupt.{AreEvents, AreFit}
 use Rattle.dkg_store.specs.Events.{is_event}
 use Rattle.dkg_store.specs.Named.{Named, MayBeNamed, NamesOpened, NamesPruned, SamePlan}
-use Rattle.dkg_store.specs.Noted.{Gives, GivesEither, GivesPruned, Notes, SameNotes, acks_in, logs_in}
-use Rattle.dkg_store.specs.Pairs.{Pairs, Holds, HoldsEither, HoldsPruned, IsWhole, recovered}
+use Rattle.dkg_store.specs.Noted.{ImagesGive, ImagesGiveEither, GivesPruned, Notes, SameNotes, acks_in, logs_in}
+use Rattle.dkg_store.specs.Pairs.{Pairs, HoldsDealings, HoldsEither, HoldsPruned, IsWhole, recovered}
 use Rattle.dkg_store.specs.Recorded.{restored_list}
 use Rattle.dkg_secrets.specs.Secrets.{Secrets}
 use Rattle.dkg_store.specs.declared.recorded_log.RecordedLog.{RecordedLog}
@@ -38,15 +38,15 @@ pub record Extends (ends : Option Bool) (section : ℕ) (body : List ℕ) (files
 -- Behind the recording of a dealing: what the devices gave back, with the new one or without; and exactly with it where it was recorded.
 pub record GivesDealing (tell : Type 0) (ends : Option Bool) (pairs more : Pairs) (image next : Files → Type 0) (held held_now : Secrets) : Type 0 where
   pub notes : Follows SameNotes image next
-  pub either : tell → Holds pairs image held → HoldsEither pairs more next held_now
-  pub done : tell → IfSome ends (λ made. Holds pairs image held → Holds (if made then more else pairs) next held_now)
+  pub either : tell → HoldsDealings pairs image held → HoldsEither pairs more next held_now
+  pub done : tell → IfSome ends (λ made. HoldsDealings pairs image held → HoldsDealings (if made then more else pairs) next held_now)
 
 -- .. of a note: what is given of its kind, with it or without; what is given of the other kind; and the dealings
-pub record GivesNote {M N : Type 0} (given : List Entry → M) (other : List Entry → N) (ends : Option Bool) (notes more : M) (image next : Files → Type 0) (held held_now : Secrets) : Type 0 where
-  pub either : Gives given notes image → GivesEither given notes more next
-  pub done : IfSome ends (λ made. Gives given notes image → Gives given (if made then more else notes) next)
-  pub others : (n : N) → Gives other n image → Gives other n next
-  pub holds : (pairs : Pairs) → Holds pairs image held → Holds pairs next held_now
+pub record GivesNote {M N : Type 0} (given : List SectionEntry → M) (other : List SectionEntry → N) (ends : Option Bool) (notes more : M) (image next : Files → Type 0) (held held_now : Secrets) : Type 0 where
+  pub either : ImagesGive given notes image → ImagesGiveEither given notes more next
+  pub done : IfSome ends (λ made. ImagesGive given notes image → ImagesGive given (if made then more else notes) next)
+  pub others : (n : N) → ImagesGive other n image → ImagesGive other n next
+  pub holds : (pairs : Pairs) → HoldsDealings pairs image held → HoldsDealings pairs next held_now
 
 -- A prune leaves this of the disk.
 pub record Shrinks (min : ℕ) (ends : Option Bool) (files files_now : Files) (image next : Files → Type 0) : Type 0 where
@@ -58,12 +58,12 @@ pub record Shrinks (min : ℕ) (ends : Option Bool) (files files_now : Files) (i
 
 -- Behind it: what the devices gave back at or above a minimum, at or below this one; and exactly at or above this where it ended.
 pub record GivesAbove (min : ℕ) (ends : Option Bool) (image next : Files → Type 0) (held held_now : Secrets) : Type 0 where
-  pub pairs : (pairs : Pairs) → Holds pairs image held → HoldsPruned min pairs next held_now
-  pub acks : (acks : Notes (List ℕ)) → Gives acks_in acks image → GivesPruned acks_in min acks next
-  pub logs : (logs : Notes RecordedLog) → Gives logs_in logs image → GivesPruned logs_in min logs next
-  pub all_pairs : IfSome ends (λ made. (pairs : Pairs) → Holds pairs image held → Holds (retain_keys pairs (λ key. nat_le min key.0)) next held_now)
-  pub all_acks : IfSome ends (λ made. (acks : Notes (List ℕ)) → Gives acks_in acks image → Gives acks_in (retain_keys acks (λ key. nat_le min key.0)) next)
-  pub all_logs : IfSome ends (λ made. (logs : Notes RecordedLog) → Gives logs_in logs image → Gives logs_in (retain_keys logs (λ key. nat_le min key.0)) next)
+  pub pairs : (pairs : Pairs) → HoldsDealings pairs image held → HoldsPruned min pairs next held_now
+  pub acks : (acks : Notes (List ℕ)) → ImagesGive acks_in acks image → GivesPruned acks_in min acks next
+  pub logs : (logs : Notes RecordedLog) → ImagesGive logs_in logs image → GivesPruned logs_in min logs next
+  pub all_pairs : IfSome ends (λ made. (pairs : Pairs) → HoldsDealings pairs image held → HoldsDealings (retain_keys pairs (λ key. nat_le min key.0)) next held_now)
+  pub all_acks : IfSome ends (λ made. (acks : Notes (List ℕ)) → ImagesGive acks_in acks image → ImagesGive acks_in (retain_keys acks (λ key. nat_le min key.0)) next)
+  pub all_logs : IfSome ends (λ made. (logs : Notes RecordedLog) → ImagesGive logs_in logs image → ImagesGive logs_in (retain_keys logs (λ key. nat_le min key.0)) next)
 
 -- An opening of the journal found this, and nothing of the disk is loose behind it.
 pub record OpensOver (journal : Journal) (files files_now : Files) (next : Files → Type 0) : Type 0 where
@@ -86,9 +86,9 @@ pub record Restores {Dir : Type 0} (disk_tells secrets_tell : Type 0) (limit : �
   pub acks : disk_tells → store.acks ≡ acks_in (entries files)
   pub logs : disk_tells → store.logs ≡ logs_in (entries files)
   -- A crash leaves just that.
-  pub holds : disk_tells → secrets_tell → IsWhole (entries files) held → Holds store.dealings next held_now
-  pub gives_acks : disk_tells → Gives acks_in store.acks next
-  pub gives_logs : disk_tells → Gives logs_in store.logs next
+  pub holds : disk_tells → secrets_tell → IsWhole (entries files) held → HoldsDealings store.dealings next held_now
+  pub gives_acks : disk_tells → ImagesGive acks_in store.acks next
+  pub gives_logs : disk_tells → ImagesGive logs_in store.logs next
   pub settled : disk_tells → (c : Files) → next c → entries c ≡ entries files
   pub names : disk_tells → (c : Files) → next c → NamesOpened files c
   pub lands : disk_tells → Lands files_now next
@@ -99,4 +99,4 @@ pub record Restores {Dir : Type 0} (disk_tells secrets_tell : Type 0) (limit : �
 pub record Rereads (image next : Files → Type 0) (held held_now : Secrets) : Type 0 where
   pub images : Follows Keeps image next
   pub fit : (limit : ℕ) → AreFit limit image → AreFit limit next
-  pub holds : (pairs : Pairs) → Holds pairs image held → Holds pairs next held_now
+  pub holds : (pairs : Pairs) → HoldsDealings pairs image held → HoldsDealings pairs next held_now

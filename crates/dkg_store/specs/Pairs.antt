@@ -4,7 +4,7 @@ use Rattle.std.specs.List.{AllByRecursion}
 use Rattle.std.specs.FinMap.{FinMap, get, insert, empty, retain_keys}
 use Rattle.dkg_journal.specs.Names.{Files}
 use Rattle.dkg_journal.specs.Disk.{Follows}
-use Rattle.dkg_journal.specs.Records.{Entry, entries}
+use Rattle.dkg_journal.specs.Records.{SectionEntry, entries}
 use Rattle.dkg_journal.specs.Steps.{MayAdd}
 use Rattle.dkg_values.specs.Codec.{whole}
 use Rattle.dkg_values.specs.declared.codec.CodecError.{CodecError}
@@ -24,16 +24,16 @@ pub record Dealing : Type 0 where
   pub key : ℕ × ℕ
   pub public : List ℕ
 
-abbrev pub dealing_in : ℕ → Result Event CodecError → Option Dealing
-dealing_in epoch (Ok (events.Dealing dealer public)) = Some (record { key = (epoch, dealer); public = public })
-dealing_in epoch (Ok (events.Ack player ack)) = None
-dealing_in epoch (Ok (events.Log dealer log)) = None
-dealing_in epoch (Ok (events.LogAt dealer height log)) = None
-dealing_in epoch (Err e) = None
+abbrev pub dealing_in_event : ℕ → Result Event CodecError → Option Dealing
+dealing_in_event epoch (Ok (events.Dealing dealer public)) = Some (record { key = (epoch, dealer); public = public })
+dealing_in_event epoch (Ok (events.Ack player ack)) = None
+dealing_in_event epoch (Ok (events.Log dealer log)) = None
+dealing_in_event epoch (Ok (events.LogAt dealer height log)) = None
+dealing_in_event epoch (Err e) = None
 
 -- the dealing of which an entry is the record
-abbrev pub dealing_of : Entry → Option Dealing
-dealing_of e = dealing_in e.0 (whole (event_at no_limit e.1))
+abbrev pub recorded_dealing : SectionEntry → Option Dealing
+recorded_dealing e = dealing_in_event e.0 (whole (event_at no_limit e.1))
 
 abbrev pub with_half : Pairs → Dealing → Option ℕ → Pairs
 with_half m d None = m
@@ -44,23 +44,23 @@ with_dealing s m None = m
 with_dealing s m (Some d) = with_half m d (get s.privates d.key)
 
 -- The dealings of which both halves are there. A later record of a key replaces an earlier one.
-abbrev pub recovered : List Entry → Secrets → Pairs
-recovered es s = fold (λ m e. with_dealing s m (dealing_of e)) empty es
+abbrev pub recovered : List SectionEntry → Secrets → Pairs
+recovered es s = fold (λ m e. with_dealing s m (recorded_dealing e)) empty es
 
 abbrev pub HasHalf : Secrets → Option Dealing → Type 0
 HasHalf s None = Unit {0}
 HasHalf s (Some d) = IsSome (get s.privates d.key)
 
 -- each recorded dealing has its private half
-abbrev pub IsWhole : List Entry → Secrets → Type 0
-IsWhole es s = AllByRecursion (λ e. HasHalf s (dealing_of e)) es
+abbrev pub IsWhole : List SectionEntry → Secrets → Type 0
+IsWhole es s = AllByRecursion (λ e. HasHalf s (recorded_dealing e)) es
 
 -- no dealing is of an epoch below the minimum
 abbrev pub AreAtOrAbove : ℕ → Pairs → Type 0
 AreAtOrAbove min pairs = (key : ℕ × ℕ) → IsSome (get pairs key) → min ≤ key.0
 
 -- whatever a crash now leaves is whole, and gives these dealings back
-pub record Holds (pairs : Pairs) (image : Files → Type 0) (held : Secrets) : Type 0 where
+pub record HoldsDealings (pairs : Pairs) (image : Files → Type 0) (held : Secrets) : Type 0 where
   pub whole : (c : Files) → image c → IsWhole (entries c) held
   pub gives : (c : Files) → image c → recovered (entries c) held ≡ pairs
 
@@ -70,7 +70,7 @@ pub record HoldsEither (pairs more : Pairs) (image : Files → Type 0) (held : S
   pub gives : (c : Files) → image c → (recovered (entries c) held ≡ pairs) ⊎ (recovered (entries c) held ≡ more)
 
 -- The put was tried and the disk is as it was; or the put is done, and the journal may have the entry.
-pub record PutsFirst (op : SecretOp) (e : Entry) (image next : Files → Type 0) (held now : Secrets) : Type 0 where
+pub record PutsFirst (op : SecretOp) (e : SectionEntry) (image next : Files → Type 0) (held now : Secrets) : Type 0 where
   pub so : (Tries op held now × ((c : Files) → next c → image c)) ⊎ ((now ≡ after op held) × Follows (MayAdd e) image next)
 
 -- .. those at or above a minimum, at or below this one

@@ -11,8 +11,8 @@ use Rattle.dkg_ceremony.specs.declared.ceremony.DealingError.{DealingError}
 use Rattle.dkg_journal.specs.Names.{Files}
 use Rattle.dkg_types.specs.declared.entry.Entry.{Entry as Line}
 use Rattle.dkg_types.specs.declared.entry.Entry.TheVariants.{Recorded}
-use Rattle.dkg_store.specs.Called.{IsDue, if_made, made_in}
-use Rattle.dkg_store.specs.Pairs.{Pairs, Holds, HoldsEither}
+use Rattle.dkg_store.specs.Called.{ErrorIsDue, if_made, made_in}
+use Rattle.dkg_store.specs.Pairs.{Pairs, HoldsDealings, HoldsEither}
 use Rattle.dkg_store.specs.Recorded.{with_first}
 use Rattle.dkg_store.specs.Rest.{SameRest}
 use Rattle.dkg_secrets.specs.Secrets.{Secrets}
@@ -33,7 +33,7 @@ pub record IsPlayerOf (ack_of : ℕ → Round → ℕ → List ℕ → List ℕ)
 
 -- What a dealing that came in leaves: the dealings from before; or, where it is new and passed the check, these or those with it.
 pub record MayKeep (check : Result (Unit {0}) DealingError) (pairs : Pairs) (key : ℕ × ℕ) (pair : List ℕ × ℕ) (image : Files → Type 0) (held : Secrets) : Type 0 where
-  pub so : Holds pairs image held ⊎ ((check ≡ Ok tt) × (get pairs key ≡ None) × HoldsEither pairs (insert pairs key pair) image held)
+  pub so : HoldsDealings pairs image held ⊎ ((check ≡ Ok tt) × (get pairs key ≡ None) × HoldsEither pairs (insert pairs key pair) image held)
 
 -- A dealer's log bears this player's acknowledgement, and no recorded dealing of the dealer has the log's public half.
 abbrev pub is_orphan : (bears : ℕ → DealerLog → Bool) → (dealings : List (ℕ × (List ℕ × ℕ))) → ℕ × DealerLog → Bool
@@ -59,10 +59,10 @@ answer_to ack_of None None (Ok passed) public = Ok (ack_of public)
 answer_to ack_of None None (Err error) public = Err error
 
 -- .. where the store did not refuse
-abbrev pub Answers : Result (List ℕ) DealingHandleError → Result (List ℕ) DealingError → Type 0
-Answers (Ok ack) answer = answer ≡ Ok ack
-Answers (Err (Refused error)) answer = answer ≡ Err error
-Answers (Err (OfStore error)) answer = Unit {0}
+abbrev pub AnswersDealing : Result (List ℕ) DealingHandleError → Result (List ℕ) DealingError → Type 0
+AnswersDealing (Ok ack) answer = answer ≡ Ok ack
+AnswersDealing (Err (Refused error)) answer = answer ≡ Err error
+AnswersDealing (Err (OfStore error)) answer = Unit {0}
 
 -- the acknowledgements with an answer, of which a dealer's first one stays
 abbrev pub with_answer : {E : Type 0} → FinMap nat_cmp (List ℕ) → (dealer : ℕ) → Result (List ℕ) E → FinMap nat_cmp (List ℕ)
@@ -82,7 +82,7 @@ pub record KeepsDealing {Dir : Type 0} (ends : Option Bool) (epoch dealer : ℕ)
 -- What the handling of a dealing leaves in memory: its answer is kept, and just a new dealing is kept, recorded and told.
 pub record Handles {Dir : Type 0} (ends : Option Bool) (result : Result (List ℕ) DealingHandleError) (answer : Result (List ℕ) DealingError)
     (epoch dealer : ℕ) (public : List ℕ) (private : ℕ) (player now : Player) (old new : Store Dir) (out out_now : List Line) : Type 0 where
-  pub answers : Answers result answer
+  pub answers : AnswersDealing result answer
   pub me : now.me ≡ player.me
   pub round : now.round ≡ player.round
   pub acks : now.acks ≡ with_answer player.acks dealer result
@@ -103,4 +103,4 @@ pub record Untouched (kept : Option (List ℕ)) (recorded : Option (List ℕ × 
 -- what an error of the handling is due to, where it is the store's
 abbrev pub IsDueTo : DealingHandleError → (disk secrets cut want : Type 0) → Type 0
 IsDueTo (Refused error) disk secrets cut want = Unit {0}
-IsDueTo (OfStore error) disk secrets cut want = IsDue error disk secrets cut want
+IsDueTo (OfStore error) disk secrets cut want = ErrorIsDue error disk secrets cut want

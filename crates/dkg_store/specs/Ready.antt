@@ -1,6 +1,6 @@
 -- The calls of a new dealing, made up before the first of them.
 use Rattle.std.specs.Prelude.{◌≡◌, ℕ, List}
-use Rattle.dkg_journal.specs.Records.{Entry}
+use Rattle.dkg_journal.specs.Records.{SectionEntry}
 use Rattle.dkg_journal.specs.declared.journal.Journal.{Journal}
 use Rattle.dkg_store.specs.Both.{Call, put_then_append}
 use Rattle.dkg_store.specs.Events.{event_spelling, IsEvent}
@@ -14,7 +14,7 @@ pub record IsReadyDealing (ready : ReadyDealing) (epoch dealer : ℕ) (public : 
   pub fits : IsEvent (events.Dealing dealer public)
 
 -- its entry
-abbrev pub dealing_entry : (epoch dealer : ℕ) → List ℕ → Entry
+abbrev pub dealing_entry : (epoch dealer : ℕ) → List ℕ → SectionEntry
 dealing_entry epoch dealer public = (epoch, event_spelling (events.Dealing dealer public))
 
 -- the put of its private half, and the append of its entry

@@ -9,7 +9,7 @@ ghost use Rattle.dkg_journal.specs.Journals.{IsOpen, append_calls};
 ghost use Rattle.dkg_journal.specs.Steps.{Adds, MayAdd};
 ghost use Rattle.dkg_store.specs.Acts.{MadeOn};
 ghost use Rattle.dkg_store.specs.Both.{on_disk};
-ghost use Rattle.dkg_store.specs.Called.{Called, IsDue, if_made, made_in};
+ghost use Rattle.dkg_store.specs.Called.{Called, ErrorIsDue, if_made, made_in};
 ghost use Rattle.dkg_store.specs.Calls.{appended, ended};
 ghost use Rattle.dkg_store.specs.Left.{Extends};
 
@@ -51,7 +51,7 @@ pub(crate) fn append_event<V: Drop, D: Disk, X: SecretStore>(
     ensures called { Called ⊤ D.made X.made D.faults X.faults (made_in true result)
         (map_list on_disk (append_calls journal.old (epoch, body.now))) devices.old devices.new }
     // The secret store is not called. After a cut nothing of the disk is loose.
-    ensures due { IfErr result (λ e. IsDue e (Rose (D.faults devices.old.disk.now) (D.faults devices.new.disk.now)) ⊥
+    ensures due { IfErr result (λ e. ErrorIsDue e (Rose (D.faults devices.old.disk.now) (D.faults devices.new.disk.now)) ⊥
         (Reached devices.old.fuse devices.new.fuse × (IsTrue D.tells → Lands (D.files devices.new.disk.now) (D.image devices.new.disk.now)))
         (((notes.new ≡ notes.old) × (journal.new ≡ journal.old) × (devices.new ≡ devices.old))
         ⊎ Rose (D.wants devices.old.disk.now) (D.wants devices.new.disk.now))) }

@@ -7,7 +7,7 @@ ghost use Rattle.dkg_journal.specs.Disk.{Rose};
 ghost use Rattle.dkg_journal.specs.Fuse.{calls_in, spent_once, Reached};
 ghost use Rattle.dkg_store.specs.Acts.{EndsBy};
 ghost use Rattle.dkg_store.specs.Calls.{cause_of};
-ghost use Rattle.dkg_store.specs.Called.{IsDue};
+ghost use Rattle.dkg_store.specs.Called.{ErrorIsDue};
 ghost use Rattle.dkg_store.specs.Errors.{store_error_of};
 ghost use Rattle.dkg_store.specs.declared.call.StoreError.TheVariants.{NoMemory as WantOfMemory};
 ghost use Rattle.dkg_secrets.specs.Secrets.{Tries, HasCause, HasWant, after};
@@ -119,7 +119,7 @@ pub fn perform_secret<X: SecretStore>(
     ensures done { OnOk result (IsTrue X.tells → X.held secrets.new ≡ after op.now (X.held secrets.old)) }
     ensures crash { Tries op.now (X.held secrets.old) (X.held secrets.new) }
     // Want of memory changes nothing.
-    ensures due { IfErr result (λ e. IsDue e ⊥ (Rose (X.faults secrets.old) (X.faults secrets.new)) (Reached fuse.old fuse.new)
+    ensures due { IfErr result (λ e. ErrorIsDue e ⊥ (Rose (X.faults secrets.old) (X.faults secrets.new)) (Reached fuse.old fuse.new)
         (Rose (X.wants secrets.old) (X.wants secrets.new) × (X.held secrets.new ≡ X.held secrets.old))) }
     ensures later { X.faults secrets.old ≤ X.faults secrets.new }
     ensures later_wants { X.wants secrets.old ≤ X.wants secrets.new }

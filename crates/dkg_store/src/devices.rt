@@ -5,11 +5,11 @@ ghost use Rattle.dkg_types.specs.declared.entry.Entry.{Entry as Line};
 ghost use Rattle.dkg_journal.specs.Disk.{Follows, IsUnchanged, Rose};
 ghost use Rattle.dkg_journal.specs.Fuse.{Reached};
 ghost use Rattle.dkg_journal.specs.Journals.{IsOpen};
-ghost use Rattle.dkg_journal.specs.Ready.{IsReady};
+ghost use Rattle.dkg_journal.specs.Ready.{CanAppend};
 ghost use Rattle.dkg_journal.specs.Steps.{Adds, MayAdd};
 ghost use Rattle.dkg_store.specs.Acts.{MadeOn};
 ghost use Rattle.dkg_store.specs.Both.{IsWant, IsWanted, prune_both, put_then_append};
-ghost use Rattle.dkg_store.specs.Called.{Called, IsDue, made_in};
+ghost use Rattle.dkg_store.specs.Called.{Called, ErrorIsDue, made_in};
 ghost use Rattle.dkg_store.specs.Calls.{put_and_appended, pruning, ended};
 ghost use Rattle.dkg_store.specs.Left.{Extends, GivesAbove, Shrinks};
 ghost use Rattle.dkg_store.specs.On.{StaysFirm};
@@ -40,7 +40,7 @@ pub fn put_and_append<D: Disk, X: SecretStore>(
     section: u64,
     body: &[u8],
 ) -> Result<(), StoreError>
-    requires ready { IsReady calls.now journal.old (section, body.now) }
+    requires ready { CanAppend calls.now journal.old (section, body.now) }
     requires open { IsTrue D.tells → IsOpen journal.old (D.files devices.old.disk.now) (D.image devices.old.disk.now) }
     ensures open { OnOk result (IsTrue D.tells → IsOpen journal.new (D.files devices.new.disk.now) (D.image devices.new.disk.now)) }
     ensures done { OnOk result (IsTrue X.tells → X.held devices.new.secrets.now ≡ after put.now (X.held devices.old.secrets.now)) }
@@ -60,7 +60,7 @@ pub fn put_and_append<D: Disk, X: SecretStore>(
     ensures called { Called ⊤ D.made X.made D.faults X.faults (made_in true result)
         (put_then_append put.now journal.old (section, body.now)) devices.old devices.new }
     // The secret store comes first: where it failed, the disk is as it was. After a cut nothing of the disk is loose, where nothing was.
-    ensures due { IfErr result (λ e. IsDue e (Rose (D.faults devices.old.disk.now) (D.faults devices.new.disk.now))
+    ensures due { IfErr result (λ e. ErrorIsDue e (Rose (D.faults devices.old.disk.now) (D.faults devices.new.disk.now))
         (Rose (X.faults devices.old.secrets.now) (X.faults devices.new.secrets.now) × (devices.new.disk.now ≡ devices.old.disk.now))
         (Reached devices.old.fuse devices.new.fuse × (IsTrue D.tells → StaysFirm D.files D.image devices.old.disk.now devices.new.disk.now))
         (IsWanted (D.wants devices.old.disk.now) (D.wants devices.new.disk.now) (X.wants devices.old.secrets.now) (X.wants devices.new.secrets.now))) }
@@ -96,7 +96,7 @@ pub(crate) fn prune_devices<D: Disk, X: SecretStore>(
     ensures called { Called (IsTrue D.tells) D.made X.made D.faults X.faults (made_in true result)
         (prune_both min (keys (D.files devices.old.disk.now))) devices.old devices.new }
     // The disk comes first: where it failed, the secrets are as they were. After a cut nothing of the disk is loose, where nothing was.
-    ensures due { IfErr result (λ e. IsDue e
+    ensures due { IfErr result (λ e. ErrorIsDue e
         (Rose (D.faults devices.old.disk.now) (D.faults devices.new.disk.now) × (devices.new.secrets.now ≡ devices.old.secrets.now))
         (Rose (X.faults devices.old.secrets.now) (X.faults devices.new.secrets.now))
         (Reached devices.old.fuse devices.new.fuse × (IsTrue D.tells → StaysFirm D.files D.image devices.old.disk.now devices.new.disk.now))

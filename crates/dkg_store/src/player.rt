@@ -8,7 +8,7 @@ ghost use Rattle.dkg_journal.specs.Fuse.{Reached};
 ghost use Rattle.dkg_journal.specs.Journals.{IsOpen};
 ghost use Rattle.dkg_store.specs.Acts.{MadeOn};
 ghost use Rattle.dkg_store.specs.Both.{IsWant};
-ghost use Rattle.dkg_store.specs.Called.{Called, IsDue, made_in};
+ghost use Rattle.dkg_store.specs.Called.{Called, ErrorIsDue, made_in};
 ghost use Rattle.dkg_store.specs.Calls.{keeping, accepting, answering, answered, ended};
 ghost use Rattle.dkg_store.specs.Events.{event_spelling};
 ghost use Rattle.dkg_store.specs.declared.event.Event.TheVariants as events;
@@ -17,7 +17,7 @@ ghost use Rattle.dkg_store.specs.On.{StaysFirm};
 ghost use Rattle.dkg_store.specs.Player.{Handles, IsDueTo, IsPlayerOf, KeepsDealing, Untouched, answer_to, handled_in};
 ghost use Rattle.dkg_store.specs.Ready.{dealing_calls};
 ghost use Rattle.dkg_store.specs.Recorded.{AreChecked, with_first};
-ghost use Rattle.dkg_ceremony.specs.Finishes.{Finishes, IsMissing};
+ghost use Rattle.dkg_ceremony.specs.Finishes.{AnswersFinish, IsMissing};
 ghost use Rattle.dkg_store.specs.declared.player.DealingHandleError.TheVariants.{Store as OfStore};
 
 use crate::call::StoreError;
@@ -192,7 +192,7 @@ fn keep_dealing<D: Disk, X: SecretStore, Dir: Drop>(
     ensures called { Called ⊤ D.made X.made D.faults X.faults (made_in true result)
         (dealing_calls store.old.journal epoch dealer public private) devices.old devices.new }
     // The secret store comes first: where it failed, the disk is as it was. After a cut nothing of the disk is loose, where nothing was.
-    ensures due { IfErr result (λ e. IsDue e (Rose (D.faults devices.old.disk.now) (D.faults devices.new.disk.now))
+    ensures due { IfErr result (λ e. ErrorIsDue e (Rose (D.faults devices.old.disk.now) (D.faults devices.new.disk.now))
         (Rose (X.faults devices.old.secrets.now) (X.faults devices.new.secrets.now) × (devices.new.disk.now ≡ devices.old.disk.now))
         (Reached devices.old.fuse devices.new.fuse × (IsTrue D.tells → StaysFirm D.files D.image devices.old.disk.now devices.new.disk.now))
         (IsWant ((acks.new ≡ acks.old) × (dealings.new ≡ dealings.old) × (store.new ≡ store.old) × (devices.new ≡ devices.old))
@@ -459,7 +459,7 @@ impl Player {
     ) -> Result<Option<(Output, Share)>, FinishError>
         requires playing { Contains self.round.players self.me }
         requires passes { AreChecked (C.dealing_of self.round self.me) self.dealings }
-        ensures finishes { Finishes (C.finish_of self.round self.me (map.entries self.dealings) logs.now) result }
+        ensures finishes { AnswersFinish (C.finish_of self.round self.me (map.entries self.dealings) logs.now) result }
         // So there is a share wherever there is an outcome, and no selected log lacks its dealing.
         ensures missing { IfErr result (λ e. (e ≡ FinishError.NoMemory) ⊎ IsMissing (λ dealer log. C.bears_ack_of self.round dealer log self.me)
             (map.entries self.dealings) logs.now (C.selected_of self.round logs.now) e) }

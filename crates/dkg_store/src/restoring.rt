@@ -8,8 +8,8 @@ ghost use Rattle.std.specs.FinMap as map;
 ghost use Rattle.dkg_journal.specs.Disk.{Rose};
 ghost use Rattle.dkg_journal.specs.Views.{view, views};
 ghost use Rattle.dkg_store.specs.Errors.{IsOfRestoring};
-ghost use Rattle.dkg_store.specs.Noted.{with_note, ack_in, log_in, noted_ack, noted_log, acks_in, logs_in};
-ghost use Rattle.dkg_store.specs.Pairs.{with_half, with_dealing, dealing_in, dealing_of, recovered};
+ghost use Rattle.dkg_store.specs.Noted.{with_note, ack_in_event, log_in_event, noted_ack, noted_log, acks_in, logs_in};
+ghost use Rattle.dkg_store.specs.Pairs.{with_half, with_dealing, dealing_in_event, recorded_dealing, recovered};
 
 use crate::call::StoreError;
 use crate::event::{Event, read_event};
@@ -43,7 +43,7 @@ fn restore_dealing<X: SecretStore>(
     ensures later { X.faults secrets.old ≤ X.faults secrets.new }
     ensures secrets { IsErrOf result StoreError.Secrets → Rose (X.faults secrets.old) (X.faults secrets.new) }
     ensures not_corrupt { (name : Name) (place : ℕ) → IsErrOf result (StoreError.Corrupt name place) → ⊥ }
-    ensures kinds { IfErr result IsOfRestoring }
+    ensures error_kinds { IfErr result IsOfRestoring }
     ensures calls { X.made secrets.old secrets.new [] }
 {
     match secrets.get_dealing(alloc, epoch, dealer) {
@@ -66,14 +66,14 @@ fn restore_event<X: SecretStore>(
     event: Event,
 ) -> Result<(), StoreError>
     ensures given { OnOk result (IsTrue X.tells → recorded.new.dealings
-        ≡ with_dealing (X.held secrets.old) recorded.old.dealings (dealing_in epoch (Ok event))) }
-    ensures acks { OnOk result (recorded.new.acks ≡ with_note recorded.old.acks (ack_in epoch (Ok event))) }
-    ensures logs { OnOk result (recorded.new.logs ≡ with_note recorded.old.logs (log_in epoch (Ok event))) }
+        ≡ with_dealing (X.held secrets.old) recorded.old.dealings (dealing_in_event epoch (Ok event))) }
+    ensures acks { OnOk result (recorded.new.acks ≡ with_note recorded.old.acks (ack_in_event epoch (Ok event))) }
+    ensures logs { OnOk result (recorded.new.logs ≡ with_note recorded.old.logs (log_in_event epoch (Ok event))) }
     ensures same { X.held secrets.new ≡ X.held secrets.old }
     ensures later { X.faults secrets.old ≤ X.faults secrets.new }
     ensures secrets { IsErrOf result StoreError.Secrets → Rose (X.faults secrets.old) (X.faults secrets.new) }
     ensures not_corrupt { (name : Name) (place : ℕ) → IsErrOf result (StoreError.Corrupt name place) → ⊥ }
-    ensures kinds { IfErr result IsOfRestoring }
+    ensures error_kinds { IfErr result IsOfRestoring }
     ensures calls { X.made secrets.old secrets.new [] }
 {
     match event {
@@ -115,7 +115,7 @@ fn restore_one<X: SecretStore>(
     entry: &JournalEntry,
 ) -> Result<(), StoreError>
     ensures given { OnOk result (IsTrue X.tells → recorded.new.dealings
-        ≡ with_dealing (X.held secrets.old) recorded.old.dealings (dealing_of (view entry.now))) }
+        ≡ with_dealing (X.held secrets.old) recorded.old.dealings (recorded_dealing (view entry.now))) }
     ensures acks { OnOk result (recorded.new.acks ≡ with_note recorded.old.acks (noted_ack (view entry.now))) }
     ensures logs { OnOk result (recorded.new.logs ≡ with_note recorded.old.logs (noted_log (view entry.now))) }
     ensures same { X.held secrets.new ≡ X.held secrets.old }
@@ -126,7 +126,7 @@ fn restore_one<X: SecretStore>(
     // A body that is no event is the one cause of Corrupt.
     ensures corrupt { (name : Name) (place : ℕ) → IsErrOf result (StoreError.Corrupt name place)
         → (name ≡ Segment entry.now.section) × (place ≡ entry.now.place) × (is_event limit entry.now.body ≡ false) }
-    ensures kinds { IfErr result IsOfRestoring }
+    ensures error_kinds { IfErr result IsOfRestoring }
     ensures calls { X.made secrets.old secrets.new [] }
 {
     match read_event(alloc, entry.body.as_slice(), limit) {
@@ -158,7 +158,7 @@ pub(crate) fn restore<X: SecretStore>(
     ensures half { IsErrOf result StoreError.Secrets → BeginsWithEvent limit (views entries.now) }
     // The first body that is no event is the one cause of Corrupt.
     ensures corrupt { (name : Name) (place : ℕ) → IsErrOf result (StoreError.Corrupt name place) → no_event_at limit entries.now ≡ Some (name, place) }
-    ensures kinds { IfErr result IsOfRestoring }
+    ensures error_kinds { IfErr result IsOfRestoring }
     ensures calls { X.made secrets.old secrets.new [] }
 {
     let mut recorded = Recorded {

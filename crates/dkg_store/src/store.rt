@@ -14,7 +14,7 @@ ghost use Rattle.dkg_values.specs.declared.name.Name.{Name};
 ghost use Rattle.dkg_values.specs.declared.name.Name.TheVariants.{Segment};
 ghost use Rattle.dkg_types.specs.declared.entry.Entry.{Entry as Line};
 ghost use Rattle.dkg_journal.specs.Names.{Files};
-ghost use Rattle.dkg_journal.specs.Records.{Entry, entries};
+ghost use Rattle.dkg_journal.specs.Records.{SectionEntry, entries};
 ghost use Rattle.dkg_journal.specs.Gated.{OpensAlike, gated, gated_entries};
 ghost use Rattle.dkg_journal.specs.Views.{views};
 ghost use Rattle.dkg_journal.specs.Disk.{IsUnchanged, Rose, Follows, Lands, SameElse};
@@ -26,7 +26,7 @@ ghost use Rattle.dkg_journal.specs.Places.{place_at};
 ghost use Rattle.dkg_journal.specs.Steps.{Keeps};
 ghost use Rattle.dkg_journal.specs.Opening.{AreUnbroken, broken, open_calls};
 ghost use Rattle.std.specs.Result.{result_ok};
-ghost use Rattle.dkg_store.specs.Called.{Called, IsDue, IsDueWith, if_made, made_in};
+ghost use Rattle.dkg_store.specs.Called.{Called, ErrorIsDue, ErrorIsDueWith, if_made, made_in};
 ghost use Rattle.dkg_store.specs.Left.{Extends, GivesAbove, GivesDealing, GivesNote, OpensOver, Rereads, Restores, Shrinks};
 ghost use Rattle.dkg_store.specs.Rest.{KeepsAbove, KeepsAck, KeepsLog, KeepsPair};
 ghost use Rattle.dkg_store.specs.Acts.{MadeAt, MadeOn, Runs, moment, world};
@@ -39,13 +39,13 @@ ghost use Rattle.dkg_store.specs.Errors.{IsOfDealing, IsOfDevices, IsOfOpening, 
 ghost use Rattle.dkg_secrets.specs.Secrets.{Secrets, Tries, after};
 ghost use Rattle.dkg_store.specs.Events.{event_spelling, is_event};
 ghost use Rattle.dkg_store.specs.declared.event.Event.TheVariants as events;
-ghost use Rattle.dkg_store.specs.Pairs.{Pairs, HoldsPruned, IsWhole, AreAtOrAbove, Holds, HoldsEither, recovered};
+ghost use Rattle.dkg_store.specs.Pairs.{Pairs, HoldsPruned, IsWhole, AreAtOrAbove, HoldsDealings, HoldsEither, recovered};
 ghost use Rattle.dkg_store.specs.declared.recorded_log.RecordedLog.{RecordedLog};
 ghost use Rattle.dkg_store.specs.Recorded.{AreChecked, is_reached, at_epoch, restored_list, of_epoch, first_refused, bare_logs, reached_logs};
 ghost use Rattle.dkg_store.specs.Both.{MadeBoth, IsWant, on_disk, on_secrets, prune_both};
 ghost use Rattle.dkg_store.specs.On.{StaysFirm};
 ghost use Rattle.dkg_store.specs.Named.{Named, MayBeNamed, NamesOpened, NamesPruned, SamePlan};
-ghost use Rattle.dkg_store.specs.Noted.{Gives, GivesEither, GivesPruned, Notes, SameNotes, acks_in, logs_in};
+ghost use Rattle.dkg_store.specs.Noted.{ImagesGive, ImagesGiveEither, GivesPruned, Notes, SameNotes, acks_in, logs_in};
 ghost use Rattle.dkg_store.specs.Dealer.{IsDealerOf, passing, passing_acks};
 ghost use Rattle.dkg_store.specs.Player.{has_orphan};
 ghost use Rattle.dkg_store.specs.Ready.{IsReadyDealing, dealing_calls};
@@ -123,7 +123,7 @@ fn open_journal<D: Disk>(
         → MadeAt (opens None (length (open_calls (D.files disk.old)))) (opened result) (D.files disk.old) (D.image disk.old)
         (D.files disk.new) (D.image disk.new) (moment out s fuse.old) (moment out s fuse.new) }
     // Another opening finds the same, at Ok and at Corrupt.
-    ensures due { IfErr result (λ e. IsDueWith (λ name place. IsTrue D.tells → (broken (D.files disk.old) ≡ Some (name, place))
+    ensures due { IfErr result (λ e. ErrorIsDueWith (λ name place. IsTrue D.tells → (broken (D.files disk.old) ≡ Some (name, place))
         × OpensAlike (D.files disk.old) (D.files disk.new)) e
         (Rose (D.faults disk.old) (D.faults disk.new)) ⊥
         (Reached fuse.old fuse.new × (IsTrue D.tells → Lands (D.files disk.new) (D.image disk.new))) ⊤) }
@@ -369,7 +369,7 @@ fn put_both<X: SecretStore>(
     ensures acts { IsTrue X.tells → (out : List Line) (j : Journaled) → Runs (committing epoch seed share) (ended result)
         (world out j (X.held secrets.old) fuse.old) (world out j (X.held secrets.new) fuse.new) }
     ensures privates { (X.held secrets.new).privates ≡ (X.held secrets.old).privates }
-    ensures due { IfErr result (λ e. IsDue e ⊥ (Rose (X.faults secrets.old) (X.faults secrets.new)) (Reached fuse.old fuse.new)
+    ensures due { IfErr result (λ e. ErrorIsDue e ⊥ (Rose (X.faults secrets.old) (X.faults secrets.new)) (Reached fuse.old fuse.new)
         (Rose (X.wants secrets.old) (X.wants secrets.new))) }
     ensures later { X.faults secrets.old ≤ X.faults secrets.new }
     ensures not_cut { OnOk result (Reached fuse.old fuse.new → ⊥) }
@@ -418,7 +418,7 @@ fn record_dealing<D: Disk, X: SecretStore>(
     ensures called { Called ⊤ D.made X.made D.faults X.faults (made_in true result)
         (dealing_calls journal.old epoch dealer public private) devices.old devices.new }
     // The secret store comes first: where it failed, the disk is as it was. After a cut nothing of the disk is loose, where nothing was.
-    ensures due { IfErr result (λ e. IsDue e (Rose (D.faults devices.old.disk.now) (D.faults devices.new.disk.now))
+    ensures due { IfErr result (λ e. ErrorIsDue e (Rose (D.faults devices.old.disk.now) (D.faults devices.new.disk.now))
         (Rose (X.faults devices.old.secrets.now) (X.faults devices.new.secrets.now) × (devices.new.disk.now ≡ devices.old.disk.now))
         (Reached devices.old.fuse devices.new.fuse × (IsTrue D.tells → StaysFirm D.files D.image devices.old.disk.now devices.new.disk.now))
         (IsWant ((dealings.new ≡ dealings.old) × (journal.new ≡ journal.old) × (devices.new ≡ devices.old))
@@ -482,7 +482,7 @@ impl<Dir: Drop> Store<Dir> {
         ensures opens { IsTrue D.tells → AreFit (non_zero_u32_get limit) (D.image devices.old.disk.now) → IfErr result IsOfDevices }
         // Corrupt comes of such a record alone, which the disk has as the call leaves it. A private half is read once the journal is open, and of an
         // event before which all are events.
-        ensures due { IfErr result (λ e. IsDueWith (λ name place. IsTrue D.tells
+        ensures due { IfErr result (λ e. ErrorIsDueWith (λ name place. IsTrue D.tells
             → IsCorruptAt (non_zero_u32_get limit) (D.files devices.old.disk.now) name place
             × IsCorruptAt (non_zero_u32_get limit) (D.files devices.new.disk.now) name place) e
             (Rose (D.faults devices.old.disk.now) (D.faults devices.new.disk.now))
@@ -547,7 +547,7 @@ impl<Dir: Drop> Store<Dir> {
         ensures dealings { IfOk result (λ made. IfSome made (λ player. map.entries player.dealings ≡ at_epoch epoch self.now.dealings)) }
         ensures checked { IfOk result (λ made. IfSome made (λ player. AreChecked (C.dealing_of round.now me) player.dealings)) }
         ensures passes { IfOk result (λ made. IfSome made (λ player. first_refused (C.dealing_of round.now me) (of_epoch epoch self.now.dealings) ≡ None)) }
-        ensures kinds { IfErr result IsOfPlaying }
+        ensures error_kinds { IfErr result IsOfPlaying }
         ensures stored { IfErr result (λ e. (e ≡ StoreError.NoMemory) ⊎ ((dealer : ℕ) × (e ≡ StoreError.LocalState (LocalCause.StoredDealing epoch dealer))
             × (first_refused (C.dealing_of round.now me) (of_epoch epoch self.now.dealings) ≡ Some dealer)
             × (has_orphan (λ dealer log. C.bears_ack_of round.now dealer log me)
@@ -581,7 +581,7 @@ impl<Dir: Drop> Store<Dir> {
         ensures dealings { IfOk result (λ made. IfSome made (λ player. map.entries player.dealings ≡ at_epoch epoch self.now.dealings)) }
         ensures checked { IfOk result (λ made. IfSome made (λ player. AreChecked (C.dealing_of round.now me) player.dealings)) }
         ensures passes { IfOk result (λ made. IfSome made (λ player. first_refused (C.dealing_of round.now me) (of_epoch epoch self.now.dealings) ≡ None)) }
-        ensures kinds { IfErr result IsOfPlaying }
+        ensures error_kinds { IfErr result IsOfPlaying }
         ensures stored { IfErr result (λ e. (e ≡ StoreError.NoMemory) ⊎ ((dealer : ℕ) × (e ≡ StoreError.LocalState (LocalCause.StoredDealing epoch dealer))
             × (first_refused (C.dealing_of round.now me) (of_epoch epoch self.now.dealings) ≡ Some dealer)
             × (has_orphan (λ dealer log. C.bears_ack_of round.now dealer log me) (at_epoch epoch self.now.dealings) logs.now ≡ false))) }
@@ -622,7 +622,7 @@ impl<Dir: Drop> Store<Dir> {
         ensures open { IfOk result (λ made. IfSome made (λ dealer. dealer.is_open ≡ true)) }
         ensures finalized { IfOk result (λ made. IfSome made (λ dealer. dealer.finalized ≡ None)) }
         ensures dealer { IfOk result (λ made. IfSome made (λ dealer. IsDealerOf C.deal_of C.check_ack_of dealer)) }
-        ensures kinds { IfErr result IsOfDealing }
+        ensures error_kinds { IfErr result IsOfDealing }
         ensures refused { IfErr result (λ e. (e ≡ StoreError.NoMemory) ⊎ ((e ≡ StoreError.LocalState (LocalCause.ShareRefused epoch))
             × (C.deal_of round.now (C.Signer.key_of signer.now) (option_copied share.entry) seed.now ≡ Err DealError.ShareRefused)
             × (map.contains_key self.now.logs (epoch, C.Signer.key_of signer.now) ≡ false))) }
@@ -668,7 +668,7 @@ impl<Dir: Drop> Store<Dir> {
             (ended result) devices.old devices.new out out }
         ensures called { Called ⊤ D.made X.made D.faults X.faults (made_in false result)
             [] devices.old devices.new }
-        ensures due { IfErr result (λ e. IsDue e ⊥ (Rose (X.faults devices.old.secrets.now) (X.faults devices.new.secrets.now)) ⊥
+        ensures due { IfErr result (λ e. ErrorIsDue e ⊥ (Rose (X.faults devices.old.secrets.now) (X.faults devices.new.secrets.now)) ⊥
             (Rose (X.wants devices.old.secrets.now) (X.wants devices.new.secrets.now))) }
     {
         match devices.secrets.get_share(alloc, epoch) {
@@ -695,7 +695,7 @@ impl<Dir: Drop> Store<Dir> {
             (ended result) devices.old devices.new out out }
         ensures called { Called ⊤ D.made X.made D.faults X.faults (made_in false result)
             [] devices.old devices.new }
-        ensures due { IfErr result (λ e. IsDue e ⊥ (Rose (X.faults devices.old.secrets.now) (X.faults devices.new.secrets.now)) ⊥
+        ensures due { IfErr result (λ e. ErrorIsDue e ⊥ (Rose (X.faults devices.old.secrets.now) (X.faults devices.new.secrets.now)) ⊥
             (Rose (X.wants devices.old.secrets.now) (X.wants devices.new.secrets.now))) }
     {
         match devices.secrets.get_seed(alloc, epoch) {
@@ -718,15 +718,15 @@ impl<Dir: Drop> Store<Dir> {
         ensures done { OnOk result (IsTrue X.tells → X.held devices.new.secrets.now ≡ committed info.epoch seed share (X.held devices.old.secrets.now)) }
         ensures disk { devices.new.disk.now ≡ devices.old.disk.now }
         // Wherever it stops, each image with the secrets is whole as before, and gives the same dealings.
-        ensures holds { (pairs : Pairs) → Holds pairs (D.image devices.old.disk.now) (X.held devices.old.secrets.now)
-            → Holds pairs (D.image devices.new.disk.now) (X.held devices.new.secrets.now) }
+        ensures holds { (pairs : Pairs) → HoldsDealings pairs (D.image devices.old.disk.now) (X.held devices.old.secrets.now)
+            → HoldsDealings pairs (D.image devices.new.disk.now) (X.held devices.new.secrets.now) }
         // The share, if there is one, and then the seed: both at Ok, and at any other exit a part.
         ensures acts { IsTrue D.tells → IsTrue X.tells → (out : List Line) → MadeOn D.files D.image X.held
             (committing info.epoch seed share)
             (ended result) devices.old devices.new out out }
         ensures called { Called ⊤ D.made X.made D.faults X.faults (made_in true result)
             (list_map on_secrets (commit_calls info.epoch seed share)) devices.old devices.new }
-        ensures due { IfErr result (λ e. IsDue e ⊥ (Rose (X.faults devices.old.secrets.now) (X.faults devices.new.secrets.now))
+        ensures due { IfErr result (λ e. ErrorIsDue e ⊥ (Rose (X.faults devices.old.secrets.now) (X.faults devices.new.secrets.now))
             (Reached devices.old.fuse devices.new.fuse) (Rose (X.wants devices.old.secrets.now) (X.wants devices.new.secrets.now))) }
     {
         put_both(
@@ -772,7 +772,7 @@ impl<Dir: Drop> Store<Dir> {
         ensures called { Called (IsTrue D.tells) D.made X.made D.faults X.faults (made_in true result)
             (prune_both min (keys (D.files devices.old.disk.now))) devices.old devices.new }
         // The disk comes first: where it failed, the secrets are as they were. After a cut nothing of the disk is loose, where nothing was.
-        ensures due { IfErr result (λ e. IsDue e
+        ensures due { IfErr result (λ e. ErrorIsDue e
             (Rose (D.faults devices.old.disk.now) (D.faults devices.new.disk.now) × (devices.new.secrets.now ≡ devices.old.secrets.now))
             (Rose (X.faults devices.old.secrets.now) (X.faults devices.new.secrets.now))
             (Reached devices.old.fuse devices.new.fuse × (IsTrue D.tells → StaysFirm D.files D.image devices.old.disk.now devices.new.disk.now))
@@ -821,7 +821,7 @@ impl<Dir: Drop> Store<Dir> {
         ensures called { Called ⊤ D.made X.made D.faults X.faults (result_ok result)
             (dealing_calls self.old.journal epoch dealer public private) devices.old devices.new }
         // The secret store comes first: where it failed, the disk is as it was. After a cut nothing of the disk is loose, where nothing was.
-        ensures due { IfErr result (λ e. IsDue e (Rose (D.faults devices.old.disk.now) (D.faults devices.new.disk.now))
+        ensures due { IfErr result (λ e. ErrorIsDue e (Rose (D.faults devices.old.disk.now) (D.faults devices.new.disk.now))
             (Rose (X.faults devices.old.secrets.now) (X.faults devices.new.secrets.now) × (devices.new.disk.now ≡ devices.old.disk.now))
             (Reached devices.old.fuse devices.new.fuse × (IsTrue D.tells → StaysFirm D.files D.image devices.old.disk.now devices.new.disk.now))
             (IsWant ((self.new ≡ self.old) × (devices.new ≡ devices.old))
@@ -878,7 +878,7 @@ impl<Dir: Drop> Store<Dir> {
         ensures called { Called ⊤ D.made X.made D.faults X.faults (result_ok result)
             (list_map on_disk (append_calls self.old.journal (epoch, event_spelling (events.Ack player ack)))) devices.old devices.new }
         // The secret store is not called. After a cut nothing of the disk is loose.
-        ensures due { IfErr result (λ e. IsDue e (Rose (D.faults devices.old.disk.now) (D.faults devices.new.disk.now)) ⊥
+        ensures due { IfErr result (λ e. ErrorIsDue e (Rose (D.faults devices.old.disk.now) (D.faults devices.new.disk.now)) ⊥
             (Reached devices.old.fuse devices.new.fuse × (IsTrue D.tells → Lands (D.files devices.new.disk.now) (D.image devices.new.disk.now)))
             (((self.new ≡ self.old) × (devices.new ≡ devices.old))
             ⊎ Rose (D.wants devices.old.disk.now) (D.wants devices.new.disk.now))) }
@@ -936,7 +936,7 @@ impl<Dir: Drop> Store<Dir> {
         ensures called { Called ⊤ D.made X.made D.faults X.faults (result_ok result)
             (list_map on_disk (append_calls self.old.journal (epoch, event_spelling (events.LogAt dealer height log)))) devices.old devices.new }
         // The secret store is not called. After a cut nothing of the disk is loose.
-        ensures due { IfErr result (λ e. IsDue e (Rose (D.faults devices.old.disk.now) (D.faults devices.new.disk.now)) ⊥
+        ensures due { IfErr result (λ e. ErrorIsDue e (Rose (D.faults devices.old.disk.now) (D.faults devices.new.disk.now)) ⊥
             (Reached devices.old.fuse devices.new.fuse × (IsTrue D.tells → Lands (D.files devices.new.disk.now) (D.image devices.new.disk.now)))
             (((self.new ≡ self.old) × (devices.new ≡ devices.old))
             ⊎ Rose (D.wants devices.old.disk.now) (D.wants devices.new.disk.now))) }

@@ -1,7 +1,7 @@
 //! A player that is made, hears dealings and ends its round: what its clauses say of the whole, and what it takes from a round.
 ghost use Rattle.std.specs.Prelude.{◌≡◌, OnOk, IfOk, IsTrue, Contains};
 ghost use Rattle.std.specs.FinMap as map;
-ghost use Rattle.dkg_ceremony.specs.Finishes.{Finishes};
+ghost use Rattle.dkg_ceremony.specs.Finishes.{AnswersFinish};
 ghost use Rattle.dkg_journal.specs.Journals.{IsOpen};
 ghost use Rattle.dkg_store.specs.Recorded.{AreChecked, at_epoch};
 
@@ -108,7 +108,7 @@ fn played<C: Ceremony, D: Disk, X: SecretStore>(
 ) -> Result<Result<Option<(Output, Share)>, FinishError>, Fail>
     requires playing { Contains round.now.players (C.Signer.key_of signer.now) }
     requires open { IsTrue D.tells → IsOpen store.old.journal (D.files devices.old.disk.now) (D.image devices.old.disk.now) }
-    ensures { IfOk result (λ found. Finishes (C.finish_of round.now (C.Signer.key_of signer.now) (at_epoch epoch store.new.dealings) logs.now) found) }
+    ensures { IfOk result (λ found. AnswersFinish (C.finish_of round.now (C.Signer.key_of signer.now) (at_epoch epoch store.new.dealings) logs.now) found) }
 {
     let me = signer.public_key();
     let player = store.create_player(alloc, ceremony, epoch, me, round)?;

@@ -31,7 +31,7 @@ use Rattle.dkg_text.specs.Fields.{bytes_field, number_field}
 use Rattle.dkg_text.specs.Grammar.{absent_from, address_at, anchor_at, block_at, blocks_at, config_at, cut_at, end_at, event_after, event_at, events_at, held_at, is_eventful, life_at, lives_at, nothing_left, opening_at, players_at, probe_at, processed_from, reading_of, sync_at}
 use Rattle.dkg_text.specs.Laws.{Begins}
 use Rattle.dkg_text.specs.Lines.{Fails, Reading, begins, checked, checked_at, front_of, line_at, many_at, many_from, maybe_at, row_of, some_read, ◌>=>◌}
-use Rattle.dkg_text.specs.Rows.{Row, bytes_of, field, four, number_below, number_of, set_row, two, ◌>>=◌}
+use Rattle.dkg_text.specs.Rows.{Row, bytes_of, field, four, number_below, decimal_of, set_row, two, ◌>>=◌}
 use Rattle.dkg_text.specs.Spells.{FitAfter, IsLine}
 use Rattle.dkg_text.specs.Writing.{address_line, anchor_line, block_line, config_text, cut_line, ended, event_line, held_line, life_text, oneshot_line, players_line, probe_line, sync_line}
 use Rattle.dkg_text.proofs.ConfigLaws.{AreModes, addresses_law, blocks_law as per_epoch_law, limit_law, me_law, modes_law, modes_line, oneshot_law, players_law, probes_law, space_law, version_law}
@@ -118,11 +118,11 @@ refuses_sync addressed true blocks = refuses_if _ _ _ refuses_always (refuses_ne
 refuses_sync addressed false blocks = refuses_if _ _ _ (refuses_some _ (refuses_checked _ _ _)) (refuses_never _)
 
 -- a line of start material that isn't one is refused in each mode
-pub sync_refused : (addressed oneshot : Bool) (blocks : ℕ) (text : List ℕ) (stop : Stop) → begins (codes "sync") text ≡ true → Fails stop (line_at (codes "sync") (four bytes_of number_of number_of (number_below (2 ^ 32))) text)
+pub sync_refused : (addressed oneshot : Bool) (blocks : ℕ) (text : List ℕ) (stop : Stop) → begins (codes "sync") text ≡ true → Fails stop (line_at (codes "sync") (four bytes_of decimal_of decimal_of (number_below (2 ^ 32))) text)
     → Fails stop (sync_at addressed oneshot blocks text)
 unfolding sync_at
 sync_refused addressed oneshot blocks text NoMemory on is = tt
-sync_refused addressed true blocks text (Line left) on is = rw on (ap (λ (n : ℕ). let r : Reading (Option SyncLine) = Err n in r) (refuses_line (codes "sync") (four bytes_of number_of number_of (number_below (2 ^ 32))) text left is))
+sync_refused addressed true blocks text (Line left) on is = rw on (ap (λ (n : ℕ). let r : Reading (Option SyncLine) = Err n in r) (refuses_line (codes "sync") (four bytes_of decimal_of decimal_of (number_below (2 ^ 32))) text left is))
 sync_refused addressed false blocks text (Line left) on is = rw (on, is) refl
 
 refuses_event : (blocks : ℕ) (probe : Bool) (done : List Event) → Refuses (event_at blocks probe done)

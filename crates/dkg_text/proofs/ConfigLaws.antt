@@ -14,12 +14,12 @@ use Rattle.dkg_values.specs.Rising.{keys_of}
 use Rattle.dkg_text.specs.declared.script.PlayerLine.{PlayerLine}
 use Rattle.dkg_text.specs.declared.script.ProbeLine.{ProbeLine}
 use Rattle.dkg_text.specs.Allowed.{Is32, Is64, IsAddress, IsAddressLine, IsKeys, IsPlayerLine, IsProbeLine}
-use Rattle.dkg_text.specs.Carried.{is_info}
+use Rattle.dkg_text.specs.PayloadKinds.{is_info}
 use Rattle.dkg_text.specs.Fields.{bytes_field, hex_text, number_field}
 use Rattle.dkg_text.specs.Grammar.{address_after, address_at, is_above, limit_from, players_after, players_at, probe_at, probe_from, version_one}
 use Rattle.dkg_text.specs.Lines.{checked_at, line_at}
 use Rattle.dkg_text.specs.Positive.{positive_32, positive_64}
-use Rattle.dkg_text.specs.Rows.{address_row, beside, bytes_of, dash_or, field, four, mode_of, number_below, number_of, set_row, two, version_of}
+use Rattle.dkg_text.specs.Rows.{address_row, beside, bytes_of, dash_or, field, four, mode_of, number_below, decimal_of, set_row, two, version_of}
 use Rattle.dkg_text.specs.Spells.{IsFieldText, IsLastRow, IsLine}
 use Rattle.dkg_text.specs.Writing.{address_fields, address_line, ended, mode_number, number_or_dash, numbers_fields, oneshot_line, or_dash, players_line, probe_line}
 use Rattle.dkg_text.proofs.FieldLaws.{bytes_law, mode_law, number_law, number_or_dash_law, version_law as version_field_law}
@@ -45,8 +45,8 @@ plain_name (b ∷ bs) is =
 
 -- ONE FIELD
 
-pub number_row : IsLastRow Is64 number_field (field number_of)
-number_row = last Is64 number_field (field number_of) (field_law Is64 decimal number_of number_law)
+pub number_row : IsLastRow Is64 number_field (field decimal_of)
+number_row = last Is64 number_field (field decimal_of) (field_law Is64 decimal decimal_of number_law)
 
 pub number_32_row : IsLastRow Is32 number_field (field (number_below (2 ^ 32)))
 number_32_row = last Is32 number_field (field (number_below (2 ^ 32))) (field_law Is32 decimal (number_below (2 ^ 32)) key_law)
@@ -62,9 +62,9 @@ me_law = line_law (codes "me") (plain_name (codes "me") refl) Is32 number_field 
 is_one : (n : ℕ) (x : Unit {0}) → Is64 n → version_one n ≡ Some x → Unit {0} × (1 ≡ n)
 is_one n x fit e = let g = if_some (n == 1) (Some tt) x e in (tt, sym (eqb-true n 1 g.0))
 
-pub version_law : IsLine (λ (x : Unit {0}). Unit {0}) (λ x. ended (codes "dkg" ++ number_field 1)) (checked_at (codes "dkg") (field number_of) version_one)
+pub version_law : IsLine (λ (x : Unit {0}). Unit {0}) (λ x. ended (codes "dkg" ++ number_field 1)) (checked_at (codes "dkg") (field decimal_of) version_one)
 version_law =
-    checked_law Is64 (λ n. ended (codes "dkg" ++ number_field n)) (line_at (codes "dkg") (field number_of)) (line_law (codes "dkg") (plain_name (codes "dkg") refl) Is64 number_field (field number_of) number_row)
+    checked_law Is64 (λ n. ended (codes "dkg" ++ number_field n)) (line_at (codes "dkg") (field decimal_of)) (line_law (codes "dkg") (plain_name (codes "dkg") refl) Is64 number_field (field decimal_of) number_row)
     version_one (λ x. Unit {0}) (λ x. 1) is_one (λ x fit. (omega arith, refl))
 
 positive_64_is : (n : ℕ) (x : NonZeroU64) → positive_64 n ≡ Some x → non_zero_u64_get x ≡ n
@@ -75,9 +75,9 @@ positive_32_is : (n : ℕ) (x : NonZeroU32) → positive_32 n ≡ Some x → non
 positive_32_is zero x e = cc e
 positive_32_is (suc n) x e = ap non_zero_u32_get (sym (some_is _ x e))
 
-pub blocks_law : IsLine (λ x. Is64 (non_zero_u64_get x)) (λ x. ended (codes "blocks" ++ number_field (non_zero_u64_get x))) (checked_at (codes "blocks") (field number_of) positive_64)
+pub blocks_law : IsLine (λ x. Is64 (non_zero_u64_get x)) (λ x. ended (codes "blocks" ++ number_field (non_zero_u64_get x))) (checked_at (codes "blocks") (field decimal_of) positive_64)
 blocks_law =
-    checked_law Is64 (λ n. ended (codes "blocks" ++ number_field n)) (line_at (codes "blocks") (field number_of)) (line_law (codes "blocks") (plain_name (codes "blocks") refl) Is64 number_field (field number_of) number_row)
+    checked_law Is64 (λ n. ended (codes "blocks" ++ number_field n)) (line_at (codes "blocks") (field decimal_of)) (line_law (codes "blocks") (plain_name (codes "blocks") refl) Is64 number_field (field decimal_of) number_row)
     positive_64 (λ x. Is64 (non_zero_u64_get x)) non_zero_u64_get
     (λ n x fit e. let is = positive_64_is n x e in (subst Is64 (sym is) fit, is))
     (λ x fit. (fit, sym (is_64 x (non_zero_u64_get x) refl)))
@@ -135,8 +135,8 @@ players_text p = number_field p.0 ++ numbers_fields p.1
 abbrev ArePlayers : ℕ × List ℕ → Type 0
 ArePlayers p = Is64 p.0 × IsKeys p.1
 
-players_row : IsLastRow ArePlayers players_text (beside (field number_of) set_row)
-players_row = beside_law Is64 number_field (field number_of) (field_law Is64 decimal number_of number_law) IsKeys numbers_fields set_row set_law
+players_row : IsLastRow ArePlayers players_text (beside (field decimal_of) set_row)
+players_row = beside_law Is64 number_field (field decimal_of) (field_law Is64 decimal decimal_of number_law) IsKeys numbers_fields set_row set_law
 
 abbrev players_back : PlayerLine → ℕ × List ℕ
 players_back l = (l.epoch, l.players)
@@ -155,12 +155,12 @@ players_from done l fit = ((fit.epoch, fit.players), rw fit.above refl)
 pub players_law : (done : List PlayerLine) → IsLine (IsPlayerLine done) players_line (players_at done)
 unfolding players_at
 players_law done =
-    checked_law ArePlayers (λ p. ended (codes "players" ++ players_text p)) (line_at (codes "players") (beside (field number_of) set_row))
-    (line_law (codes "players") (plain_name (codes "players") refl) ArePlayers players_text (beside (field number_of) set_row) players_row)
+    checked_law ArePlayers (λ p. ended (codes "players" ++ players_text p)) (line_at (codes "players") (beside (field decimal_of) set_row))
+    (line_law (codes "players") (plain_name (codes "players") refl) ArePlayers players_text (beside (field decimal_of) set_row) players_row)
     (players_after done) (IsPlayerLine done) players_back (players_to done) (players_from done)
 
 pub players_named : (done : List PlayerLine) (l : PlayerLine) (rest : List ℕ) → IsPlayerLine done l → HasName (codes "players") (players_line l ++ rest)
-players_named done l rest fit = line_named (codes "players") (plain_name (codes "players") refl) ArePlayers players_text (beside (field number_of) set_row) players_row (players_back l) rest (fit.epoch, fit.players)
+players_named done l rest fit = line_named (codes "players") (plain_name (codes "players") refl) ArePlayers players_text (beside (field decimal_of) set_row) players_row (players_back l) rest (fit.epoch, fit.players)
 
 -- ADDRESSES
 
@@ -180,11 +180,11 @@ address_to done p l fit e =
     let g = if_some (above && few) (Some p) l e in
     let parts = and_parts above few g.0 in
     let same : p ≡ l = some_is p l g.1 in
-    let is : IsAddressLine done p = record { key = fit.0; address = fit.1; above = parts.0; few = ltb-true (length done + 1) (2 ^ 32) parts.1 } in
+    let is : IsAddressLine done p = record { key = fit.0; address = fit.1; above = parts.0; in_bound = ltb-true (length done + 1) (2 ^ 32) parts.1 } in
     (subst (IsAddressLine done) same is, sym same)
 
 address_from : (done : List (ℕ × Address)) (l : ℕ × Address) → IsAddressLine done l → IsReached l × (address_after done l ≡ Some l)
-address_from done l fit = ((fit.key, fit.address), rw (fit.above, lt-ltb (length done + 1) (2 ^ 32) fit.few) refl)
+address_from done l fit = ((fit.key, fit.address), rw (fit.above, lt-ltb (length done + 1) (2 ^ 32) fit.in_bound) refl)
 
 pub addresses_law : (done : List (ℕ × Address)) → IsLine (IsAddressLine done) address_line (address_at done)
 unfolding address_at
@@ -207,8 +207,8 @@ probe_text p = number_field p.0 ++ (number_or_dash p.1 ++ (bytes_field p.2 ++ by
 abbrev IsProbed : Probed → Type 0
 IsProbed p = Is64 p.0 × (IfSome p.1 Is64 × (IsBytes p.2 × IsBytes p.3))
 
-probe_row : IsLastRow IsProbed probe_text (four number_of (dash_or number_of) bytes_of bytes_of)
-probe_row = four_law Is64 decimal number_of number_law (λ o. IfSome o Is64) (or_dash decimal) (dash_or number_of) number_or_dash_law IsBytes hex_text bytes_of bytes_law IsBytes hex_text bytes_of bytes_law
+probe_row : IsLastRow IsProbed probe_text (four decimal_of (dash_or decimal_of) bytes_of bytes_of)
+probe_row = four_law Is64 decimal decimal_of number_law (λ o. IfSome o Is64) (or_dash decimal) (dash_or decimal_of) number_or_dash_law IsBytes hex_text bytes_of bytes_law IsBytes hex_text bytes_of bytes_law
 
 abbrev probe_back : ProbeLine → Probed
 probe_back l = (l.checkpoint, l.floor, l.checkpoint_info, l.genesis_info)
@@ -228,10 +228,10 @@ probe_of addressed l fit = ((fit.checkpoint, (fit.floor, (fit.checkpoint_bytes, 
 pub probes_law : (addressed : Bool) → IsLine (IsProbeLine addressed) probe_line (probe_at addressed)
 unfolding probe_at
 probes_law addressed =
-    checked_law IsProbed (λ p. ended (codes "probe" ++ probe_text p)) (line_at (codes "probe") (four number_of (dash_or number_of) bytes_of bytes_of))
-    (line_law (codes "probe") (plain_name (codes "probe") refl) IsProbed probe_text (four number_of (dash_or number_of) bytes_of bytes_of) probe_row)
+    checked_law IsProbed (λ p. ended (codes "probe" ++ probe_text p)) (line_at (codes "probe") (four decimal_of (dash_or decimal_of) bytes_of bytes_of))
+    (line_law (codes "probe") (plain_name (codes "probe") refl) IsProbed probe_text (four decimal_of (dash_or decimal_of) bytes_of bytes_of) probe_row)
     (probe_from addressed) (IsProbeLine addressed) probe_back (probe_to addressed) (probe_of addressed)
 
 pub probe_named : (addressed : Bool) (l : ProbeLine) (rest : List ℕ) → IsProbeLine addressed l → HasName (codes "probe") (probe_line l ++ rest)
 probe_named addressed l rest fit =
-    line_named (codes "probe") (plain_name (codes "probe") refl) IsProbed probe_text (four number_of (dash_or number_of) bytes_of bytes_of) probe_row (probe_back l) rest (fit.checkpoint, (fit.floor, (fit.checkpoint_bytes, fit.genesis_bytes)))
+    line_named (codes "probe") (plain_name (codes "probe") refl) IsProbed probe_text (four decimal_of (dash_or decimal_of) bytes_of bytes_of) probe_row (probe_back l) rest (fit.checkpoint, (fit.floor, (fit.checkpoint_bytes, fit.genesis_bytes)))

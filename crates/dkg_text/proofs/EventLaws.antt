@@ -11,7 +11,7 @@ use Rattle.dkg_text.specs.Allowed.{Is32, Is64, IsEventAfter, IsEventInRange}
 use Rattle.dkg_text.specs.Fields.{bytes_field, hex_text, number_field}
 use Rattle.dkg_text.specs.Grammar.{event_after, event_at, event_of, event_row, event_table, is_event, is_eventful}
 use Rattle.dkg_text.specs.Lines.{begins, front_of}
-use Rattle.dkg_text.specs.Rows.{Row, all, bytes_of, field, nothing, number_below, number_of, two, whole, ◌>>=◌}
+use Rattle.dkg_text.specs.Rows.{Row, all, bytes_of, field, nothing, number_below, decimal_of, two, whole, ◌>>=◌}
 use Rattle.dkg_text.specs.Spells.{AreFieldTexts, IsFieldText, IsLastRow, IsLine, spaced}
 use Rattle.dkg_text.specs.Writing.{ended, event_line, event_text, numbers_fields}
 use Rattle.dkg_text.proofs.ConfigLaws.{is_plain, number_32_row, number_row, plain_name}
@@ -33,20 +33,20 @@ message_row = two_law Is32 decimal (number_below (2 ^ 32)) key_law IsBytes hex_t
 abbrev AreTwo : ℕ × ℕ → Type 0
 AreTwo p = Is64 p.0 × Is64 p.1
 
-two_row : IsLastRow AreTwo (λ p. number_field p.0 ++ number_field p.1) (two number_of number_of)
-two_row = two_law Is64 decimal number_of number_law Is64 decimal number_of number_law
+two_row : IsLastRow AreTwo (λ p. number_field p.0 ++ number_field p.1) (two decimal_of decimal_of)
+two_row = two_law Is64 decimal decimal_of number_law Is64 decimal decimal_of number_law
 
 abbrev IsFed : ℕ × ℕ → Type 0
 IsFed p = Is64 p.0 × Is32 p.1
 
-fed_row : IsLastRow IsFed (λ p. number_field p.0 ++ number_field p.1) (two number_of (number_below (2 ^ 32)))
-fed_row = two_law Is64 decimal number_of number_law Is32 decimal (number_below (2 ^ 32)) key_law
+fed_row : IsLastRow IsFed (λ p. number_field p.0 ++ number_field p.1) (two decimal_of (number_below (2 ^ 32)))
+fed_row = two_law Is64 decimal decimal_of number_law Is32 decimal (number_below (2 ^ 32)) key_law
 
 abbrev IsFrom : ℕ × ℕ → Type 0
 IsFrom p = Is32 p.0 × Is64 p.1
 
-from_row : IsLastRow IsFrom (λ p. number_field p.0 ++ number_field p.1) (two (number_below (2 ^ 32)) number_of)
-from_row = two_law Is32 decimal (number_below (2 ^ 32)) key_law Is64 decimal number_of number_law
+from_row : IsLastRow IsFrom (λ p. number_field p.0 ++ number_field p.1) (two (number_below (2 ^ 32)) decimal_of)
+from_row = two_law Is32 decimal (number_below (2 ^ 32)) key_law Is64 decimal decimal_of number_law
 
 -- THE TABLE
 
@@ -104,17 +104,17 @@ unfolding event_table
 event_found name fields event e =
     or_named name (codes "peer") fields _ _ event (row_found (codes "peer") IsMessage (λ p. number_field p.0 ++ bytes_field p.1) (two (number_below (2 ^ 32)) bytes_of) message_row (λ x. Peer x.0 x.1) (λ x fit. fit) (λ x. refl) fields event) (λ e.
     or_named name (codes "final") fields _ _ event (row_found (codes "final") Is32 number_field (field (number_below (2 ^ 32))) number_32_row (λ x. Final x) (λ x fit. fit) (λ x. refl) fields event) (λ e.
-    or_named name (codes "next") fields _ _ event (row_found (codes "next") AreTwo (λ p. number_field p.0 ++ number_field p.1) (two number_of number_of) two_row (λ x. Next x.0 x.1) (λ x fit. fit) (λ x. refl) fields event) (λ e.
-    or_named name (codes "release") fields _ _ event (row_found (codes "release") Is64 number_field (field number_of) number_row (λ x. Release x) (λ x fit. fit) (λ x. refl) fields event) (λ e.
-    or_named name (codes "info") fields _ _ event (row_found (codes "info") Is64 number_field (field number_of) number_row (λ x. Info x) (λ x fit. fit) (λ x. refl) fields event) (λ e.
-    or_named name (codes "feed") fields _ _ event (row_found (codes "feed") IsFed (λ p. number_field p.0 ++ number_field p.1) (two number_of (number_below (2 ^ 32))) fed_row (λ x. Feed x.0 x.1) (λ x fit. fit) (λ x. refl) fields event) (λ e.
-    or_named name (codes "over") fields _ _ event (row_found (codes "over") Is64 number_field (field number_of) number_row (λ x. Over x) (λ x fit. fit) (λ x. refl) fields event) (λ e.
-    or_named name (codes "cancel") fields _ _ event (row_found (codes "cancel") Is64 number_field (field number_of) number_row (λ x. Cancel x) (λ x fit. fit) (λ x. refl) fields event) (λ e.
+    or_named name (codes "next") fields _ _ event (row_found (codes "next") AreTwo (λ p. number_field p.0 ++ number_field p.1) (two decimal_of decimal_of) two_row (λ x. Next x.0 x.1) (λ x fit. fit) (λ x. refl) fields event) (λ e.
+    or_named name (codes "release") fields _ _ event (row_found (codes "release") Is64 number_field (field decimal_of) number_row (λ x. Release x) (λ x fit. fit) (λ x. refl) fields event) (λ e.
+    or_named name (codes "info") fields _ _ event (row_found (codes "info") Is64 number_field (field decimal_of) number_row (λ x. Info x) (λ x fit. fit) (λ x. refl) fields event) (λ e.
+    or_named name (codes "feed") fields _ _ event (row_found (codes "feed") IsFed (λ p. number_field p.0 ++ number_field p.1) (two decimal_of (number_below (2 ^ 32))) fed_row (λ x. Feed x.0 x.1) (λ x fit. fit) (λ x. refl) fields event) (λ e.
+    or_named name (codes "over") fields _ _ event (row_found (codes "over") Is64 number_field (field decimal_of) number_row (λ x. Over x) (λ x fit. fit) (λ x. refl) fields event) (λ e.
+    or_named name (codes "cancel") fields _ _ event (row_found (codes "cancel") Is64 number_field (field decimal_of) number_row (λ x. Cancel x) (λ x fit. fit) (λ x. refl) fields event) (λ e.
     or_named name (codes "work") fields _ _ event (row_found (codes "work") (λ x. Unit {0}) (λ x. []) nothing nothing_law (λ x. Work) (λ x fit. fit) (λ x. refl) fields event) (λ e.
     or_named name (codes "prepare") fields _ _ event (row_found (codes "prepare") index_each numbers_fields (all (number_below (2 ^ 32))) indexes_row (λ x. Prepare x) (λ x fit. fit) (λ x. refl) fields event) (λ e.
     or_named name (codes "propose") fields _ _ event (row_found (codes "propose") index_each numbers_fields (all (number_below (2 ^ 32))) indexes_row (λ x. Propose x) (λ x fit. fit) (λ x. refl) fields event) (λ e.
     or_named name (codes "verify") fields _ _ event (row_found (codes "verify") index_each numbers_fields (all (number_below (2 ^ 32))) indexes_row (λ x. Verify x) (λ x fit. fit) (λ x. refl) fields event) (λ e.
-    or_named name (codes "later") fields _ _ event (row_found (codes "later") IsFrom (λ p. number_field p.0 ++ number_field p.1) (two (number_below (2 ^ 32)) number_of) from_row (λ x. Later x.0 x.1) (λ x fit. fit) (λ x. refl) fields event) (λ e.
+    or_named name (codes "later") fields _ _ event (row_found (codes "later") IsFrom (λ p. number_field p.0 ++ number_field p.1) (two (number_below (2 ^ 32)) decimal_of) from_row (λ x. Later x.0 x.1) (λ x fit. fit) (λ x. refl) fields event) (λ e.
     or_named name (codes "subscribe") fields _ _ event (row_found (codes "subscribe") (λ x. Unit {0}) (λ x. []) nothing nothing_law (λ x. Subscribe) (λ x fit. fit) (λ x. refl) fields event) (λ e.
     or_named name (codes "unsubscribe") fields _ _ event (row_found (codes "unsubscribe") (λ x. Unit {0}) (λ x. []) nothing nothing_law (λ x. Unsubscribe) (λ x fit. fit) (λ x. refl) fields event) (λ e.
     or_named name (codes "attach") fields _ _ event (row_found (codes "attach") (λ x. Unit {0}) (λ x. []) nothing nothing_law (λ x. Attach) (λ x fit. fit) (λ x. refl) fields event) (λ e.
@@ -147,23 +147,23 @@ event_spelt (Final block) fit =
     let s = row_again (codes "final") Is32 number_field (field (number_below (2 ^ 32))) number_32_row (λ x. Final x) (λ x f. f) (λ x. refl) block fit in
     spelt_as (codes "final") (field (number_below (2 ^ 32))) (λ x. Final x) (Final block) s.fields refl s.plain s.text_is refl s.reads refl refl refl
 event_spelt (Next request height) fit =
-    let s = row_again (codes "next") AreTwo (λ p. number_field p.0 ++ number_field p.1) (two number_of number_of) two_row (λ x. Next x.0 x.1) (λ x f. f) (λ x. refl) (request, height) fit in
-    spelt_as (codes "next") (two number_of number_of) (λ x. Next x.0 x.1) (Next request height) s.fields refl s.plain s.text_is refl s.reads refl refl refl
+    let s = row_again (codes "next") AreTwo (λ p. number_field p.0 ++ number_field p.1) (two decimal_of decimal_of) two_row (λ x. Next x.0 x.1) (λ x f. f) (λ x. refl) (request, height) fit in
+    spelt_as (codes "next") (two decimal_of decimal_of) (λ x. Next x.0 x.1) (Next request height) s.fields refl s.plain s.text_is refl s.reads refl refl refl
 event_spelt (Release height) fit =
-    let s = row_again (codes "release") Is64 number_field (field number_of) number_row (λ x. Release x) (λ x f. f) (λ x. refl) height fit in
-    spelt_as (codes "release") (field number_of) (λ x. Release x) (Release height) s.fields refl s.plain s.text_is refl s.reads refl refl refl
+    let s = row_again (codes "release") Is64 number_field (field decimal_of) number_row (λ x. Release x) (λ x f. f) (λ x. refl) height fit in
+    spelt_as (codes "release") (field decimal_of) (λ x. Release x) (Release height) s.fields refl s.plain s.text_is refl s.reads refl refl refl
 event_spelt (Info request) fit =
-    let s = row_again (codes "info") Is64 number_field (field number_of) number_row (λ x. Info x) (λ x f. f) (λ x. refl) request fit in
-    spelt_as (codes "info") (field number_of) (λ x. Info x) (Info request) s.fields refl s.plain s.text_is refl s.reads refl refl refl
+    let s = row_again (codes "info") Is64 number_field (field decimal_of) number_row (λ x. Info x) (λ x f. f) (λ x. refl) request fit in
+    spelt_as (codes "info") (field decimal_of) (λ x. Info x) (Info request) s.fields refl s.plain s.text_is refl s.reads refl refl refl
 event_spelt (Feed request block) fit =
-    let s = row_again (codes "feed") IsFed (λ p. number_field p.0 ++ number_field p.1) (two number_of (number_below (2 ^ 32))) fed_row (λ x. Feed x.0 x.1) (λ x f. f) (λ x. refl) (request, block) fit in
-    spelt_as (codes "feed") (two number_of (number_below (2 ^ 32))) (λ x. Feed x.0 x.1) (Feed request block) s.fields refl s.plain s.text_is refl s.reads refl refl refl
+    let s = row_again (codes "feed") IsFed (λ p. number_field p.0 ++ number_field p.1) (two decimal_of (number_below (2 ^ 32))) fed_row (λ x. Feed x.0 x.1) (λ x f. f) (λ x. refl) (request, block) fit in
+    spelt_as (codes "feed") (two decimal_of (number_below (2 ^ 32))) (λ x. Feed x.0 x.1) (Feed request block) s.fields refl s.plain s.text_is refl s.reads refl refl refl
 event_spelt (Over request) fit =
-    let s = row_again (codes "over") Is64 number_field (field number_of) number_row (λ x. Over x) (λ x f. f) (λ x. refl) request fit in
-    spelt_as (codes "over") (field number_of) (λ x. Over x) (Over request) s.fields refl s.plain s.text_is refl s.reads refl refl refl
+    let s = row_again (codes "over") Is64 number_field (field decimal_of) number_row (λ x. Over x) (λ x f. f) (λ x. refl) request fit in
+    spelt_as (codes "over") (field decimal_of) (λ x. Over x) (Over request) s.fields refl s.plain s.text_is refl s.reads refl refl refl
 event_spelt (Cancel request) fit =
-    let s = row_again (codes "cancel") Is64 number_field (field number_of) number_row (λ x. Cancel x) (λ x f. f) (λ x. refl) request fit in
-    spelt_as (codes "cancel") (field number_of) (λ x. Cancel x) (Cancel request) s.fields refl s.plain s.text_is refl s.reads refl refl refl
+    let s = row_again (codes "cancel") Is64 number_field (field decimal_of) number_row (λ x. Cancel x) (λ x f. f) (λ x. refl) request fit in
+    spelt_as (codes "cancel") (field decimal_of) (λ x. Cancel x) (Cancel request) s.fields refl s.plain s.text_is refl s.reads refl refl refl
 event_spelt Work fit =
     let s = row_again (codes "work") (λ x. Unit {0}) (λ x. []) nothing nothing_law (λ x. Work) (λ x f. f) (λ x. refl) tt fit in
     spelt_as (codes "work") nothing (λ x. Work) Work s.fields refl s.plain s.text_is refl s.reads refl refl refl
@@ -177,8 +177,8 @@ event_spelt (Verify ancestry) fit =
     let s = row_again (codes "verify") index_each numbers_fields (all (number_below (2 ^ 32))) indexes_row (λ x. Verify x) (λ x f. f) (λ x. refl) ancestry fit in
     spelt_as (codes "verify") (all (number_below (2 ^ 32))) (λ x. Verify x) (Verify ancestry) s.fields refl s.plain s.text_is refl s.reads refl refl refl
 event_spelt (Later from epoch) fit =
-    let s = row_again (codes "later") IsFrom (λ p. number_field p.0 ++ number_field p.1) (two (number_below (2 ^ 32)) number_of) from_row (λ x. Later x.0 x.1) (λ x f. f) (λ x. refl) (from, epoch) fit in
-    spelt_as (codes "later") (two (number_below (2 ^ 32)) number_of) (λ x. Later x.0 x.1) (Later from epoch) s.fields refl s.plain s.text_is refl s.reads refl refl refl
+    let s = row_again (codes "later") IsFrom (λ p. number_field p.0 ++ number_field p.1) (two (number_below (2 ^ 32)) decimal_of) from_row (λ x. Later x.0 x.1) (λ x f. f) (λ x. refl) (from, epoch) fit in
+    spelt_as (codes "later") (two (number_below (2 ^ 32)) decimal_of) (λ x. Later x.0 x.1) (Later from epoch) s.fields refl s.plain s.text_is refl s.reads refl refl refl
 event_spelt Subscribe fit =
     let s = row_again (codes "subscribe") (λ x. Unit {0}) (λ x. []) nothing nothing_law (λ x. Subscribe) (λ x f. f) (λ x. refl) tt fit in
     spelt_as (codes "subscribe") nothing (λ x. Subscribe) Subscribe s.fields refl s.plain s.text_is refl s.reads refl refl refl

@@ -17,7 +17,7 @@ use Rattle.dkg_ceremony.specs.declared.mode.Mode.TheVariants.{NonZeroCounter, Ro
 use Rattle.dkg_ceremony.specs.declared.mode.ModeVersion.{ModeVersion}
 use Rattle.dkg_text.specs.Allowed.{AreSomeBytes}
 use Rattle.dkg_text.specs.Fields.{IsLower, IsLowerDigit, hex_text}
-use Rattle.dkg_text.specs.Rows.{bytes_of, dash_or, mode_from, mode_of, number_below, number_of, version_of, ◌>>=◌}
+use Rattle.dkg_text.specs.Rows.{bytes_of, dash_or, mode_from, mode_of, number_below, decimal_of, version_of, ◌>>=◌}
 use Rattle.dkg_text.specs.Spells.{IsField, IsFieldText, IsInField}
 use Rattle.dkg_text.specs.Writing.{mode_number, or_dash}
 use Rattle.dkg_text.proofs.Guards.{bind_some, if_some, some_is}
@@ -36,8 +36,8 @@ digits_plain (c ∷ cs) all = ((not_digit c 32 all.0 (omega arith), not_digit c 
 decimal_plain : (n : ℕ) → n < 2 ^ 64 → IsFieldText (decimal n)
 decimal_plain n small = digits_plain (decimal n) (decimal_is_IsNumeral n small).0.1
 
-number_found : (text : List ℕ) (v : ℕ) → number_of text ≡ Some v → (v < 2 ^ 64) × (text ≡ decimal v)
-unfolding number_of
+number_found : (text : List ℕ) (v : ℕ) → decimal_of text ≡ Some v → (v < 2 ^ 64) × (text ≡ decimal v)
+unfolding decimal_of
 number_found text v e =
     let n = digits_value 10 text in
     let g = if_some (bytes_eq text (decimal n) && nat_lt n (2 ^ 64)) (Some n) v e in
@@ -47,7 +47,7 @@ number_found text v e =
     let is : text ≡ decimal n = (bytes_eq-Decides text (decimal n)).0 parts.0 in
     subst (λ m. (m < 2 ^ 64) × (text ≡ decimal m)) same (small, is)
 
-pub number_law : IsField (λ n. n < 2 ^ 64) decimal number_of
+pub number_law : IsField (λ n. n < 2 ^ 64) decimal decimal_of
 number_law = record {
   found = number_found;
   again = λ v fit. number_is (decimal v) v fit refl;
@@ -57,7 +57,7 @@ number_law = record {
 below_found : (limit : ℕ) (text : List ℕ) (v : ℕ) → number_below limit text ≡ Some v → (v < limit) × (text ≡ decimal v)
 unfolding number_below
 below_found limit text v e =
-    let b = bind_some (number_of text) (λ n. cond (nat_lt n limit) (Some n) None) v e in
+    let b = bind_some (decimal_of text) (λ n. cond (nat_lt n limit) (Some n) None) v e in
     let f = number_found text b.0 b.1 in
     let g = if_some (nat_lt b.0 limit) (Some b.0) v b.2 in
     let below : b.0 < limit = ltb-true b.0 limit g.0 in
@@ -66,7 +66,7 @@ below_found limit text v e =
 below_again : (limit : ℕ) → limit ≤ 2 ^ 64 → (v : ℕ) → v < limit → number_below limit (decimal v) ≡ Some v
 unfolding number_below
 below_again limit small v fit =
-    let is : number_of (decimal v) ≡ Some v = number_is (decimal v) v (omega (arith, small, fit)) refl in
+    let is : decimal_of (decimal v) ≡ Some v = number_is (decimal v) v (omega (arith, small, fit)) refl in
     rw (is, lt-ltb v limit fit) refl
 
 pub below_law : (limit : ℕ) → limit ≤ 2 ^ 64 → IsField (λ n. n < limit) decimal (number_below limit)
@@ -161,8 +161,8 @@ digit_no_dash (c ∷ cs) all is =
 decimal_no_dash : (n : ℕ) → n < 2 ^ 64 → decimal n ≡ codes "-" → ⊥
 decimal_no_dash n small is = digit_no_dash (decimal n) (decimal_is_IsNumeral n small).0.1 is
 
-pub number_or_dash_law : IsField (λ v. IfSome v (λ n. n < 2 ^ 64)) (or_dash decimal) (dash_or number_of)
-number_or_dash_law = dash_law (λ n. n < 2 ^ 64) (λ n. n < 2 ^ 64) decimal number_of number_law (λ n fit other. fit) (λ n fit. (fit, decimal_no_dash n fit))
+pub number_or_dash_law : IsField (λ v. IfSome v (λ n. n < 2 ^ 64)) (or_dash decimal) (dash_or decimal_of)
+number_or_dash_law = dash_law (λ n. n < 2 ^ 64) (λ n. n < 2 ^ 64) decimal decimal_of number_law (λ n fit other. fit) (λ n fit. (fit, decimal_no_dash n fit))
 
 pub below_or_dash_law : (limit : ℕ) → limit ≤ 2 ^ 64 → IsField (λ v. IfSome v (λ n. n < limit)) (or_dash decimal) (dash_or (number_below limit))
 below_or_dash_law limit small =
@@ -184,7 +184,7 @@ bytes_or_dash_law = dash_law IsBytes AreSomeBytes hex_text bytes_of bytes_law so
 mode_found : (text : List ℕ) (v : Mode) → mode_of text ≡ Some v → Unit {0} × (text ≡ decimal (mode_number v))
 unfolding mode_of
 mode_found text v e =
-    let b = bind_some (number_of text) mode_from v e in
+    let b = bind_some (decimal_of text) mode_from v e in
     by_case b.0 (number_found text b.0 b.1).1 b.2
   where
     by_case : (n : ℕ) → text ≡ decimal n → mode_from n ≡ Some v → Unit {0} × (text ≡ decimal (mode_number v))

@@ -14,11 +14,11 @@ use Rattle.dkg_text.specs.declared.script.Cut.{Cut}
 use Rattle.dkg_text.specs.declared.script.ScriptConfig.{ScriptConfig}
 use Rattle.dkg_text.specs.declared.script.SyncLine.{SyncLine}
 use Rattle.dkg_text.specs.Allowed.{AreHeld, AreSomeBytes, Is32, Is64, IsAnchor, IsBlockLine, IsCut, IsSyncLine}
-use Rattle.dkg_text.specs.Carried.{is_info}
+use Rattle.dkg_text.specs.PayloadKinds.{is_info}
 use Rattle.dkg_text.specs.Fields.{bytes_field, hex_text, number_field}
 use Rattle.dkg_text.specs.Grammar.{absent_from, anchor_at, are_blocks, block_after, block_at, cut_at, cut_from, held_at, held_from, is_parent, is_payload, limit_of, processed_from, sync_at, sync_from}
 use Rattle.dkg_text.specs.Lines.{Reading, begins, checked_at, line_at, some_read}
-use Rattle.dkg_text.specs.Rows.{all, bytes_of, dash_or, field, four, number_below, number_of, three}
+use Rattle.dkg_text.specs.Rows.{all, bytes_of, dash_or, field, four, number_below, decimal_of, three}
 use Rattle.dkg_text.specs.Spells.{IsLastRow, IsLine}
 use Rattle.dkg_text.specs.Writing.{anchor_line, block_line, bytes_or_dash, cut_line, ended, held_line, number_or_dash, numbers_fields, or_dash, sync_line, text_or_none}
 use Rattle.dkg_text.proofs.ConfigLaws.{is_plain, number_32_row, number_row, plain_name}
@@ -38,10 +38,10 @@ block_text p = number_field p.0 ++ (number_or_dash p.1 ++ (number_field p.2 ++ b
 abbrev IsBlocked : Blocked → Type 0
 IsBlocked p = Is64 p.0 × (IfSome p.1 Is32 × (Is64 p.2 × IfSome p.3 AreSomeBytes))
 
-block_row : IsLastRow IsBlocked block_text (four number_of (dash_or (number_below (2 ^ 32))) number_of (dash_or bytes_of))
+block_row : IsLastRow IsBlocked block_text (four decimal_of (dash_or (number_below (2 ^ 32))) decimal_of (dash_or bytes_of))
 block_row =
-    four_law Is64 decimal number_of number_law (λ o. IfSome o Is32) (or_dash decimal) (dash_or (number_below (2 ^ 32))) (below_or_dash_law (2 ^ 32) (omega arith))
-    Is64 decimal number_of number_law (λ o. IfSome o AreSomeBytes) (or_dash hex_text) (dash_or bytes_of) bytes_or_dash_law
+    four_law Is64 decimal decimal_of number_law (λ o. IfSome o Is32) (or_dash decimal) (dash_or (number_below (2 ^ 32))) (below_or_dash_law (2 ^ 32) (omega arith))
+    Is64 decimal decimal_of number_law (λ o. IfSome o AreSomeBytes) (or_dash hex_text) (dash_or bytes_of) bytes_or_dash_law
 
 abbrev block_back : BlockLine → Blocked
 block_back b = (b.height, b.parent, b.view, b.payload)
@@ -64,22 +64,22 @@ module _ (addressed : Bool) (config : ScriptConfig) where
   pub blocks_law : (done : List BlockLine) → IsLine (IsBlockLine addressed config done) block_line (block_at addressed config done)
   unfolding block_at
   blocks_law done =
-      checked_law IsBlocked (λ p. ended (codes "block" ++ block_text p)) (line_at (codes "block") (four number_of (dash_or (number_below (2 ^ 32))) number_of (dash_or bytes_of)))
-      (line_law (codes "block") (plain_name (codes "block") refl) IsBlocked block_text (four number_of (dash_or (number_below (2 ^ 32))) number_of (dash_or bytes_of)) block_row)
+      checked_law IsBlocked (λ p. ended (codes "block" ++ block_text p)) (line_at (codes "block") (four decimal_of (dash_or (number_below (2 ^ 32))) decimal_of (dash_or bytes_of)))
+      (line_law (codes "block") (plain_name (codes "block") refl) IsBlocked block_text (four decimal_of (dash_or (number_below (2 ^ 32))) decimal_of (dash_or bytes_of)) block_row)
       (block_after addressed config done) (IsBlockLine addressed config done) block_back (block_to done) (block_from done)
 
   pub block_named : (done : List BlockLine) (b : BlockLine) (rest : List ℕ) → IsBlockLine addressed config done b → HasName (codes "block") (block_line b ++ rest)
   block_named done b rest fit =
-      line_named (codes "block") (plain_name (codes "block") refl) IsBlocked block_text (four number_of (dash_or (number_below (2 ^ 32))) number_of (dash_or bytes_of)) block_row (block_back b) rest
+      line_named (codes "block") (plain_name (codes "block") refl) IsBlocked block_text (four decimal_of (dash_or (number_below (2 ^ 32))) decimal_of (dash_or bytes_of)) block_row (block_back b) rest
       (fit.height, (fit.parent, (fit.view, fit.payload)))
 
 -- A NAME AND A NUMBER
 
-pub number_line_law : (name : List ℕ) → (plain : is_plain name ≡ true) → IsLine Is64 (λ n. ended (name ++ number_field n)) (line_at name (field number_of))
-number_line_law name plain = line_law name (plain_name name plain) Is64 number_field (field number_of) number_row
+pub number_line_law : (name : List ℕ) → (plain : is_plain name ≡ true) → IsLine Is64 (λ n. ended (name ++ number_field n)) (line_at name (field decimal_of))
+number_line_law name plain = line_law name (plain_name name plain) Is64 number_field (field decimal_of) number_row
 
 pub number_line_named : (name : List ℕ) → (plain : is_plain name ≡ true) → (n : ℕ) (rest : List ℕ) → Is64 n → HasName name (ended (name ++ number_field n) ++ rest)
-number_line_named name plain = line_named name (plain_name name plain) Is64 number_field (field number_of) number_row
+number_line_named name plain = line_named name (plain_name name plain) Is64 number_field (field decimal_of) number_row
 
 -- ANCHORS
 
@@ -242,8 +242,8 @@ sync_text p = bytes_field p.0 ++ (number_field p.1 ++ (number_field p.2 ++ numbe
 abbrev IsSynced : Synced → Type 0
 IsSynced p = IsBytes p.0 × (Is64 p.1 × (Is64 p.2 × Is32 p.3))
 
-sync_row : IsLastRow IsSynced sync_text (four bytes_of number_of number_of (number_below (2 ^ 32)))
-sync_row = four_law IsBytes hex_text bytes_of bytes_law Is64 decimal number_of number_law Is64 decimal number_of number_law Is32 decimal (number_below (2 ^ 32)) key_law
+sync_row : IsLastRow IsSynced sync_text (four bytes_of decimal_of decimal_of (number_below (2 ^ 32)))
+sync_row = four_law IsBytes hex_text bytes_of bytes_law Is64 decimal decimal_of number_law Is64 decimal decimal_of number_law Is32 decimal (number_below (2 ^ 32)) key_law
 
 abbrev sync_back : SyncLine → Synced
 sync_back s = (s.info, s.epoch, s.view, s.block)
@@ -262,18 +262,18 @@ module _ (addressed : Bool) (blocks : ℕ) where
   sync_of : (s : SyncLine) → IsSyncLine addressed false blocks s → IsSynced (sync_back s) × (sync_from addressed blocks (sync_back s) ≡ Some s)
   sync_of s fit = ((fit.bytes, (fit.epoch, (fit.view, fit.block))), rw (lt-ltb s.block blocks fit.named, fit.info) refl)
 
-  syncs_law : IsLine (IsSyncLine addressed false blocks) sync_line (checked_at (codes "sync") (four bytes_of number_of number_of (number_below (2 ^ 32))) (sync_from addressed blocks))
+  syncs_law : IsLine (IsSyncLine addressed false blocks) sync_line (checked_at (codes "sync") (four bytes_of decimal_of decimal_of (number_below (2 ^ 32))) (sync_from addressed blocks))
   syncs_law =
-      checked_law IsSynced (λ p. ended (codes "sync" ++ sync_text p)) (line_at (codes "sync") (four bytes_of number_of number_of (number_below (2 ^ 32))))
-      (line_law (codes "sync") (plain_name (codes "sync") refl) IsSynced sync_text (four bytes_of number_of number_of (number_below (2 ^ 32))) sync_row)
+      checked_law IsSynced (λ p. ended (codes "sync" ++ sync_text p)) (line_at (codes "sync") (four bytes_of decimal_of decimal_of (number_below (2 ^ 32))))
+      (line_law (codes "sync") (plain_name (codes "sync") refl) IsSynced sync_text (four bytes_of decimal_of decimal_of (number_below (2 ^ 32))) sync_row)
       (sync_from addressed blocks) (IsSyncLine addressed false blocks) sync_back sync_to sync_of
 
   sync_named : (s : SyncLine) (rest : List ℕ) → IsSyncLine addressed false blocks s → HasName (codes "sync") (sync_line s ++ rest)
   sync_named s rest fit =
-      line_named (codes "sync") (plain_name (codes "sync") refl) IsSynced sync_text (four bytes_of number_of number_of (number_below (2 ^ 32))) sync_row (sync_back s) rest (fit.bytes, (fit.epoch, (fit.view, fit.block)))
+      line_named (codes "sync") (plain_name (codes "sync") refl) IsSynced sync_text (four bytes_of decimal_of decimal_of (number_below (2 ^ 32))) sync_row (sync_back s) rest (fit.bytes, (fit.epoch, (fit.view, fit.block)))
 
   abbrev sync_reader : List ℕ → Reading SyncLine
-  sync_reader text = checked_at (codes "sync") (four bytes_of number_of number_of (number_below (2 ^ 32))) (sync_from addressed blocks) text
+  sync_reader text = checked_at (codes "sync") (four bytes_of decimal_of decimal_of (number_below (2 ^ 32))) (sync_from addressed blocks) text
 
   pub sync_found : (oneshot : Bool) (text : List ℕ) (o : Option SyncLine) (rest : List ℕ) → sync_at addressed oneshot blocks text ≡ Ok (o, rest) → IfSome o (IsSyncLine addressed oneshot blocks) × (text ≡ text_or_none sync_line o ++ rest)
   unfolding sync_at
@@ -306,8 +306,8 @@ cut_text p = number_field p.0 ++ (number_field p.1 ++ number_field p.2)
 abbrev IsCuts : Cuts → Type 0
 IsCuts p = Is64 p.0 × (Is64 p.1 × Is64 p.2)
 
-cut_row : IsLastRow IsCuts cut_text (three number_of number_of number_of)
-cut_row = three_law Is64 decimal number_of number_law Is64 decimal number_of number_law Is64 decimal number_of number_law
+cut_row : IsLastRow IsCuts cut_text (three decimal_of decimal_of decimal_of)
+cut_row = three_law Is64 decimal decimal_of number_law Is64 decimal decimal_of number_law Is64 decimal decimal_of number_law
 
 abbrev cut_back : Cut → Cuts
 cut_back c = (c.step, c.call, c.pick)
@@ -334,17 +334,17 @@ module _ (events : ℕ) where
       let below : nat_lt events c.step ≡ false = grind (arith, nat_tests) in
       ((fit.step, (fit.call, fit.pick)), rw below refl)
 
-  cuts_law : IsLine (IsCut events) cut_line (checked_at (codes "cut") (three number_of number_of number_of) (cut_from events))
+  cuts_law : IsLine (IsCut events) cut_line (checked_at (codes "cut") (three decimal_of decimal_of decimal_of) (cut_from events))
   cuts_law =
-      checked_law IsCuts (λ p. ended (codes "cut" ++ cut_text p)) (line_at (codes "cut") (three number_of number_of number_of))
-      (line_law (codes "cut") (plain_name (codes "cut") refl) IsCuts cut_text (three number_of number_of number_of) cut_row)
+      checked_law IsCuts (λ p. ended (codes "cut" ++ cut_text p)) (line_at (codes "cut") (three decimal_of decimal_of decimal_of))
+      (line_law (codes "cut") (plain_name (codes "cut") refl) IsCuts cut_text (three decimal_of decimal_of decimal_of) cut_row)
       (cut_from events) (IsCut events) cut_back cut_to cut_of
 
   cut_named : (c : Cut) (rest : List ℕ) → IsCut events c → HasName (codes "cut") (cut_line c ++ rest)
-  cut_named c rest fit = line_named (codes "cut") (plain_name (codes "cut") refl) IsCuts cut_text (three number_of number_of number_of) cut_row (cut_back c) rest (fit.step, (fit.call, fit.pick))
+  cut_named c rest fit = line_named (codes "cut") (plain_name (codes "cut") refl) IsCuts cut_text (three decimal_of decimal_of decimal_of) cut_row (cut_back c) rest (fit.step, (fit.call, fit.pick))
 
   abbrev cut_reader : List ℕ → Reading Cut
-  cut_reader text = checked_at (codes "cut") (three number_of number_of number_of) (cut_from events) text
+  cut_reader text = checked_at (codes "cut") (three decimal_of decimal_of decimal_of) (cut_from events) text
 
   pub cut_found : (text : List ℕ) (o : Option Cut) (rest : List ℕ) → cut_at events text ≡ Ok (o, rest) → IfSome o (IsCut events) × (text ≡ text_or_none cut_line o ++ rest)
   unfolding cut_at

@@ -215,14 +215,14 @@ set_found fields keys rest e =
     let few : length b.0 < 2 ^ 32 = ltb-true (length b.0) (2 ^ 32) parts.0 in
     let same : b.0 ≡ s.0 = some_is b.0 s.0 g.1 in
     let f = each_found Is32 decimal (number_below (2 ^ 32)) key_law fields b.0 b.1 in
-    let is : IsKeys b.0 × (spaced fields ≡ numbers_fields b.0 ++ spaced []) = (record { small = f.0; rising = parts.1; few = few }, f.1 ∙ sym (append-nil (numbers_fields b.0))) in
+    let is : IsKeys b.0 × (spaced fields ≡ numbers_fields b.0 ++ spaced []) = (record { small = f.0; rising = parts.1; in_bound = few }, f.1 ∙ sym (append-nil (numbers_fields b.0))) in
     pair_is (λ (ks : List ℕ) (r : List (List ℕ)). IsKeys ks × (spaced fields ≡ numbers_fields ks ++ spaced r)) s.0 keys [] rest s.2
     (subst (λ (ks : List ℕ). IsKeys ks × (spaced fields ≡ numbers_fields ks ++ spaced [])) same is)
 
 set_reads : (keys : List ℕ) → IsKeys keys → set_row (texts Is32 decimal (number_below (2 ^ 32)) key_law keys) ≡ Some (keys, [])
 unfolding set_row
 set_reads keys fit =
-    rw (texts_read Is32 decimal (number_below (2 ^ 32)) key_law keys fit.small, lt-ltb (length keys) (2 ^ 32) fit.few, fit.rising) refl
+    rw (texts_read Is32 decimal (number_below (2 ^ 32)) key_law keys fit.small, lt-ltb (length keys) (2 ^ 32) fit.in_bound, fit.rising) refl
 
 pub set_law : IsLastRow IsKeys numbers_fields set_row
 set_law = record {

@@ -24,7 +24,7 @@ use Rattle.dkg_text.specs.Grammar.{address_at, anchor_at, block_at, blocks_at, c
 use Rattle.dkg_text.specs.Laws.{IsReadAgain, IsWrittenAgain}
 use Rattle.dkg_text.specs.Lines.{begins, checked_at, line_at, many_at, maybe_at}
 use Rattle.dkg_text.specs.Positive.{positive_64}
-use Rattle.dkg_text.specs.Rows.{bytes_of, field, mode_of, nothing, number_below, number_of, set_row, two, version_of}
+use Rattle.dkg_text.specs.Rows.{bytes_of, field, mode_of, nothing, number_below, decimal_of, set_row, two, version_of}
 use Rattle.dkg_text.specs.Spells.{FitAfter, IsLine}
 use Rattle.dkg_text.specs.Writing.{address_fields, address_line, bytes_or_dash, anchor_line, block_line, config_text, cut_line, ended, event_line, held_line, life_text, number_or_dash, numbers_fields, oneshot_line, opening_text, players_line, probe_line, sync_line, text_of, text_or_none}
 use Rattle.dkg_text.proofs.ConfigLaws.{address_named, addresses_law, blocks_law as per_epoch_law, limit_law, me_law, modes_law, modes_line, oneshot_law, oneshot_named, plain_name, players_law, players_named, probe_named, probes_law, space_law, version_law}
@@ -82,9 +82,9 @@ lines_of o = (dkg_line ++ (me_line o ++ blocks_line o)) ++ (limit_line o ++ (mod
 pub opening_found : (text : List ℕ) (o : Opening) (rest : List ℕ) → opening_at text ≡ Ok (o, rest) → FitsOpening o × (text ≡ lines_of o ++ rest)
 unfolding opening_at
 opening_found text o rest e =
-    let v = bind_ok (checked_at (codes "dkg") (field number_of) version_one text) _ (o, rest) e in
+    let v = bind_ok (checked_at (codes "dkg") (field decimal_of) version_one text) _ (o, rest) e in
     let m = bind_ok (line_at (codes "me") (field (number_below (2 ^ 32))) v.0.1) _ (o, rest) v.2 in
-    let b = bind_ok (checked_at (codes "blocks") (field number_of) positive_64 m.0.1) _ (o, rest) m.2 in
+    let b = bind_ok (checked_at (codes "blocks") (field decimal_of) positive_64 m.0.1) _ (o, rest) m.2 in
     let l = bind_ok (checked_at (codes "limit") (field (number_below (2 ^ 32))) limit_from b.0.1) _ (o, rest) b.2 in
     let d = bind_ok (line_at (codes "mode") (two mode_of version_of) l.0.1) _ (o, rest) l.2 in
     let s = bind_ok (line_at (codes "space") (field bytes_of) d.0.1) _ (o, rest) d.2 in
@@ -236,13 +236,13 @@ module _ (addressed : Bool) (config : ScriptConfig) (blocks : List BlockLine) wh
   life_found : (text : List ℕ) (life : Life) (rest : List ℕ) → life_at addressed config blocks text ≡ Ok (life, rest) → IsLife addressed config blocks life × (text ≡ life_text life ++ rest)
   unfolding life_at events_at
   life_found text life rest e =
-      let w = bind_ok (line_at (codes "life") (field number_of) text) _ (life, rest) e in
+      let w = bind_ok (line_at (codes "life") (field decimal_of) text) _ (life, rest) e in
       let a = bind_ok (anchor_at blocks w.0.1) _ (life, rest) w.2 in
       let h = bind_ok (held_at (length blocks) a.0.1) _ (life, rest) a.2 in
       let s = bind_ok (sync_at addressed (is_some config.oneshot) (length blocks) h.0.1) _ (life, rest) h.2 in
       let v = bind_ok (many_at is_eventful (event_at (length blocks) (is_some config.probe)) s.0.1) _ (life, rest) s.2 in
       let c = bind_ok (cut_at (length v.0.0) v.0.1) _ (life, rest) v.2 in
-      let p = bind_ok (line_at (codes "stop") (field number_of) c.0.1) _ (life, rest) c.2 in
+      let p = bind_ok (line_at (codes "stop") (field decimal_of) c.0.1) _ (life, rest) c.2 in
       let fw = (number_line_law (codes "life") refl).found text w.0.0 w.0.1 w.1 in
       let fa = anchor_found blocks w.0.1 a.0.0 a.0.1 a.1 in
       let fh = held_found (length blocks) a.0.1 h.0.0 h.0.1 h.1 in

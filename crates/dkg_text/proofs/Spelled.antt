@@ -12,7 +12,7 @@ use Rattle.hex.specs.declared.error.FromHexError.{FromHexError}
 use Rattle.hex.specs.Hex.{decode_of}
 use Rattle.hex.proofs.HexLemmas.{decode_of-ok}
 use Rattle.dkg_text.specs.Fields.{IsCutAt, IsLower, IsLowerDigit, hex_text}
-use Rattle.dkg_text.specs.Rows.{bytes_of, cut_of, number_of, ◌>>=◌}
+use Rattle.dkg_text.specs.Rows.{bytes_of, cut_of, decimal_of, ◌>>=◌}
 use Rattle.dkg_text.proofs.Hex.{Decoded, digits, text_back}
 use Rattle.dkg_text.proofs.Numbers.{Parses, spells}
 
@@ -28,8 +28,8 @@ other_text xs ys not_so = is_false (bytes_eq xs ys) (bytes_eq-Decides xs ys) not
 
 -- NUMBERS
 
-pub number_is : (text : List ℕ) (n : ℕ) → n < 2 ^ 64 → text ≡ decimal n → number_of text ≡ Some n
-unfolding number_of
+pub number_is : (text : List ℕ) (n : ℕ) → n < 2 ^ 64 → text ≡ decimal n → decimal_of text ≡ Some n
+unfolding decimal_of
 number_is text n small is =
     let value = (spells text n small is).1 in
     rw (value, same_text text (decimal n) is, lt-ltb n (2 ^ 64) small) refl
@@ -38,15 +38,15 @@ none_where : (b : Bool) (n : ℕ) → (b ≡ true → ⊥) → (if b then Some n
 none_where true n not_so = absurd (not_so refl)
 none_where false n not_so = refl
 
-pub no_number : (text : List ℕ) → ((n : ℕ) → n < 2 ^ 64 → text ≡ decimal n → ⊥) → number_of text ≡ None
-unfolding number_of
+pub no_number : (text : List ℕ) → ((n : ℕ) → n < 2 ^ 64 → text ≡ decimal n → ⊥) → decimal_of text ≡ None
+unfolding decimal_of
 no_number text not_so =
     let n = digits_value 10 text in
     none_where (bytes_eq text (decimal n) && nat_lt n (2 ^ 64)) n (λ is.
     let parts = and_parts (bytes_eq text (decimal n)) (nat_lt n (2 ^ 64)) is in
     not_so n (ltb-true n (2 ^ 64) parts.1) ((bytes_eq-Decides text (decimal n)).0 parts.0))
 
-pub number_value : (text : List ℕ) (r : Option ℕ) → Parses text r → IfSome r (λ n. text ≡ decimal n) → ((n : ℕ) → n < 2 ^ 64 → text ≡ decimal n → r ≡ Some n) → r ≡ number_of text
+pub number_value : (text : List ℕ) (r : Option ℕ) → Parses text r → IfSome r (λ n. text ≡ decimal n) → ((n : ℕ) → n < 2 ^ 64 → text ≡ decimal n → r ≡ Some n) → r ≡ decimal_of text
 number_value text (Some n) parses is only = sym (number_is text n (rw parses.1 parses.0.1) is)
 number_value text None parses is only = sym (no_number text (λ n small same. cc (only n small same)))
 

@@ -19,7 +19,7 @@ use Rattle.dkg_text.specs.declared.script.ProbeLine.{ProbeLine}
 use Rattle.dkg_text.specs.declared.script.Script.{Script}
 use Rattle.dkg_text.specs.declared.script.ScriptConfig.{ScriptConfig}
 use Rattle.dkg_text.specs.declared.script.SyncLine.{SyncLine}
-use Rattle.dkg_text.specs.Carried.{is_info}
+use Rattle.dkg_text.specs.PayloadKinds.{is_info}
 use Rattle.dkg_text.specs.Grammar.{absent_from, are_blocks, is_above, is_event, is_parent, is_payload, limit_of}
 use Rattle.dkg_text.specs.Spells.{FitAfter}
 
@@ -42,7 +42,7 @@ AreSomeBytes bytes = IsBytes bytes × (0 < length bytes)
 pub record IsKeys (keys : List ℕ) : Type 0 where
   pub small : AllByRecursion Is32 keys
   pub rising : rises keys ≡ true
-  pub few : length keys < 2 ^ 32
+  pub in_bound : length keys < 2 ^ 32
 
 abbrev pub IsSocket : Socket → Type 0
 IsSocket s = Is32 s.ip × Is16 s.port
@@ -71,7 +71,7 @@ pub record IsAddressLine (done : List (ℕ × Address)) (line : ℕ × Address) 
   pub key : Is32 line.0
   pub address : IsAddress line.1
   pub above : is_above (keys_of done) line.0 ≡ true
-  pub few : length done + 1 < 2 ^ 32
+  pub in_bound : length done + 1 < 2 ^ 32
 
 pub record IsProbeLine (addressed : Bool) (probe : ProbeLine) : Type 0 where
   pub checkpoint : Is64 probe.checkpoint

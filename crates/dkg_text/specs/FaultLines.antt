@@ -14,7 +14,7 @@ use Rattle.dkg_types.specs.declared.fault.Fault.{Fault}
 use Rattle.dkg_types.specs.declared.fault.Fault.TheVariants as fault
 use Rattle.dkg_types.specs.declared.participants.ParticipantsError.{ParticipantsError}
 use Rattle.dkg_types.specs.declared.participants.ParticipantsError.TheVariants as refused
-use Rattle.dkg_types.specs.Faults.{number_of}
+use Rattle.dkg_types.specs.Faults.{fault_number}
 use Rattle.dkg_values.specs.Lists.{public_spelling}
 use Rattle.dkg_text.specs.Fields.{bytes_field, number_field, word_field}
 
@@ -74,4 +74,4 @@ fault_fields (fault.LocalState cause) = local_fields cause
 fault_fields _ = []
 
 abbrev pub fault_line : Fault → List ℕ
-fault_line fault = codes "fault" ++ number_field (number_of fault) ++ fault_fields fault
+fault_line fault = codes "fault" ++ number_field (fault_number fault) ++ fault_fields fault

@@ -22,10 +22,10 @@ use Rattle.dkg_text.specs.declared.script.Script.{Script}
 use Rattle.dkg_text.specs.declared.script.ScriptConfig.{ScriptConfig}
 use Rattle.dkg_text.specs.declared.script.SyncLine.{SyncLine}
 use Rattle.dkg_text.specs.Asked.{is_asked}
-use Rattle.dkg_text.specs.Carried.{carried, is_info}
+use Rattle.dkg_text.specs.PayloadKinds.{payload_kind, is_info}
 use Rattle.dkg_text.specs.Lines.{Reading, allowed, begins, by_name, checked_at, front_of, line_at, many_at, maybe_at, some_read, Front, ◌>=>◌}
 use Rattle.dkg_text.specs.Positive.{positive_32, positive_64}
-use Rattle.dkg_text.specs.Rows.{Row, address_row, all, beside, bytes_of, dash_or, field, four, mode_of, nothing, number_below, number_of, set_row, three, two, version_of, whole, ◌>>=◌}
+use Rattle.dkg_text.specs.Rows.{Row, address_row, all, beside, bytes_of, dash_or, field, four, mode_of, nothing, number_below, decimal_of, set_row, three, two, version_of, whole, ◌>>=◌}
 
 -- FIELDS
 
@@ -65,19 +65,19 @@ probe_from addressed line =
     else None
 
 unfoldable pub players_at : List PlayerLine → List ℕ → Reading PlayerLine
-players_at done = checked_at (codes "players") (beside (field number_of) set_row) (players_after done)
+players_at done = checked_at (codes "players") (beside (field decimal_of) set_row) (players_after done)
 
 unfoldable pub address_at : List (ℕ × Address) → List ℕ → Reading (ℕ × Address)
 address_at done = checked_at (codes "address") (beside (field key_of) address_row) (address_after done)
 
 unfoldable pub probe_at : (addressed : Bool) → List ℕ → Reading ProbeLine
-probe_at addressed = checked_at (codes "probe") (four number_of (dash_or number_of) bytes_of bytes_of) (probe_from addressed)
+probe_at addressed = checked_at (codes "probe") (four decimal_of (dash_or decimal_of) bytes_of bytes_of) (probe_from addressed)
 
 unfoldable pub opening_at : List ℕ → Reading Opening
 opening_at text =
-    checked_at (codes "dkg") (field number_of) version_one text >=> λ version.
+    checked_at (codes "dkg") (field decimal_of) version_one text >=> λ version.
     line_at (codes "me") (field key_of) version.1 >=> λ me.
-    checked_at (codes "blocks") (field number_of) positive_64 me.1 >=> λ blocks.
+    checked_at (codes "blocks") (field decimal_of) positive_64 me.1 >=> λ blocks.
     checked_at (codes "limit") (field (number_below (2 ^ 32))) limit_from blocks.1 >=> λ limit.
     line_at (codes "mode") (two mode_of version_of) limit.1 >=> λ modes.
     line_at (codes "space") (field bytes_of) modes.1 >=> λ space.
@@ -116,7 +116,7 @@ abbrev pub is_parent : (before : ℕ) → Option ℕ → Bool
 is_parent before parent = option_map_or (λ n. nat_lt n before) parent true
 
 abbrev pub is_payload : (addressed : Bool) (limit version : ℕ) → Option (List ℕ) → Bool
-is_payload addressed limit version payload = option_map_or (λ bytes. is_some (carried addressed limit version bytes)) payload true
+is_payload addressed limit version payload = option_map_or (λ bytes. is_some (payload_kind addressed limit version bytes)) payload true
 
 -- a block after others: its parent is one of them, and what it carries is read under the limits
 abbrev pub block_after : (addressed : Bool) → ScriptConfig → List BlockLine → ℕ × Option ℕ × ℕ × Option (List ℕ) → Option BlockLine
@@ -126,7 +126,7 @@ block_after addressed config done line =
     else None
 
 unfoldable pub block_at : (addressed : Bool) → ScriptConfig → List BlockLine → List ℕ → Reading BlockLine
-block_at addressed config done = checked_at (codes "block") (four number_of (dash_or index_of) number_of (dash_or bytes_of)) (block_after addressed config done)
+block_at addressed config done = checked_at (codes "block") (four decimal_of (dash_or index_of) decimal_of (dash_or bytes_of)) (block_after addressed config done)
 
 unfoldable pub blocks_at : (addressed : Bool) → ScriptConfig → List ℕ → Reading (List BlockLine)
 blocks_at addressed config = many_at (begins (codes "block")) (block_at addressed config)
@@ -142,17 +142,17 @@ unfoldable pub event_table : List (List ℕ × (List (List ℕ) → Option Event
 event_table =
     (codes "peer", event_row (two key_of bytes_of) (λ x. Peer x.0 x.1))
     ∷ (codes "final", event_row (field index_of) Final)
-    ∷ (codes "next", event_row (two number_of number_of) (λ x. Next x.0 x.1))
-    ∷ (codes "release", event_row (field number_of) Release)
-    ∷ (codes "info", event_row (field number_of) Info)
-    ∷ (codes "feed", event_row (two number_of index_of) (λ x. Feed x.0 x.1))
-    ∷ (codes "over", event_row (field number_of) Over)
-    ∷ (codes "cancel", event_row (field number_of) Cancel)
+    ∷ (codes "next", event_row (two decimal_of decimal_of) (λ x. Next x.0 x.1))
+    ∷ (codes "release", event_row (field decimal_of) Release)
+    ∷ (codes "info", event_row (field decimal_of) Info)
+    ∷ (codes "feed", event_row (two decimal_of index_of) (λ x. Feed x.0 x.1))
+    ∷ (codes "over", event_row (field decimal_of) Over)
+    ∷ (codes "cancel", event_row (field decimal_of) Cancel)
     ∷ (codes "work", event_row nothing (λ x. Work))
     ∷ (codes "prepare", event_row (all index_of) Prepare)
     ∷ (codes "propose", event_row (all index_of) Propose)
     ∷ (codes "verify", event_row (all index_of) Verify)
-    ∷ (codes "later", event_row (two key_of number_of) (λ x. Later x.0 x.1))
+    ∷ (codes "later", event_row (two key_of decimal_of) (λ x. Later x.0 x.1))
     ∷ (codes "subscribe", event_row nothing (λ x. Subscribe))
     ∷ (codes "unsubscribe", event_row nothing (λ x. Unsubscribe))
     ∷ (codes "attach", event_row nothing (λ x. Attach))
@@ -222,7 +222,7 @@ sync_from addressed blocks line =
 unfoldable pub sync_at : (addressed oneshot : Bool) (blocks : ℕ) → List ℕ → Reading (Option SyncLine)
 sync_at addressed oneshot blocks text =
     if begins (codes "sync") text
-    then (if oneshot then Err (length text) else some_read (checked_at (codes "sync") (four bytes_of number_of number_of index_of) (sync_from addressed blocks) text))
+    then (if oneshot then Err (length text) else some_read (checked_at (codes "sync") (four bytes_of decimal_of decimal_of index_of) (sync_from addressed blocks) text))
     else Ok (None, text)
 
 -- the events of a life go on up to its cut or its stop
@@ -237,17 +237,17 @@ abbrev pub cut_from : (events : ℕ) → ℕ × ℕ × ℕ → Option Cut
 cut_from events line = if nat_lt events line.0 then None else Some (record { step = line.0; call = line.1; pick = line.2 })
 
 unfoldable pub cut_at : (events : ℕ) → List ℕ → Reading (Option Cut)
-cut_at events = maybe_at (codes "cut") (checked_at (codes "cut") (three number_of number_of number_of) (cut_from events))
+cut_at events = maybe_at (codes "cut") (checked_at (codes "cut") (three decimal_of decimal_of decimal_of) (cut_from events))
 
 unfoldable pub life_at : (addressed : Bool) → ScriptConfig → List BlockLine → List ℕ → Reading Life
 life_at addressed config blocks text =
-    line_at (codes "life") (field number_of) text >=> λ word.
+    line_at (codes "life") (field decimal_of) text >=> λ word.
     anchor_at blocks word.1 >=> λ anchor.
     held_at (length blocks) anchor.1 >=> λ held.
     sync_at addressed (is_some config.oneshot) (length blocks) held.1 >=> λ sync.
     events_at (length blocks) (is_some config.probe) sync.1 >=> λ events.
     cut_at (length events.0) events.1 >=> λ cut.
-    line_at (codes "stop") (field number_of) cut.1 >=> λ pick.
+    line_at (codes "stop") (field decimal_of) cut.1 >=> λ pick.
     Ok (record { word = word.0; anchor = anchor.0; held = held.0; sync = sync.0; events = events.0; cut = cut.0; pick = pick.0 }, pick.1)
 
 unfoldable pub lives_at : (addressed : Bool) → ScriptConfig → List BlockLine → List ℕ → Reading (List Life)
@@ -284,7 +284,7 @@ unfoldable pub script_of : (addressed : Bool) → List ℕ → Option Script
 script_of addressed bytes = result_ok (reading_of addressed bytes)
 
 -- what a call answered is that; want of memory tells nothing
-abbrev pub Answers : Result Script ℕ → Result Script ScriptError → Type 0
-Answers read (Ok script) = read ≡ Ok script
-Answers read (Err (Bad place)) = read ≡ Err place
-Answers read (Err NoMemory) = Unit {0}
+abbrev pub AnswersScript : Result Script ℕ → Result Script ScriptError → Type 0
+AnswersScript read (Ok script) = read ≡ Ok script
+AnswersScript read (Err (Bad place)) = read ≡ Err place
+AnswersScript read (Err NoMemory) = Unit {0}

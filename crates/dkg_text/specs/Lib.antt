@@ -1,6 +1,6 @@
 pub mod Allowed
 pub mod Asked
-pub mod Carried
+pub mod PayloadKinds
 pub mod FaultLines
 pub mod Fields
 pub mod Grammar

@@ -26,9 +26,9 @@ Reads reading (Ok x) left = reading ≡ Ok (x, left)
 Reads reading (Err stop) left = Fails stop reading
 
 -- the same where nothing is left
-abbrev pub Gives : {A : Type 0} → Result A ℕ → Result A Stop → Type 0
-Gives reading (Ok x) = reading ≡ Ok x
-Gives reading (Err stop) = Fails stop reading
+abbrev pub ReadsAll : {A : Type 0} → Result A ℕ → Result A Stop → Type 0
+ReadsAll reading (Ok x) = reading ≡ Ok x
+ReadsAll reading (Err stop) = Fails stop reading
 
 -- what a call answered and left that reads on where the text goes on so, and else reads nothing
 abbrev pub ReadsIf : {A : Type 0} → (goes_on : List ℕ → Bool) → (read : List ℕ → Reading A) → (text : List ℕ) → Result (Option A) Stop → (left : List ℕ) → Type 0

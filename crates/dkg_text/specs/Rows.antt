@@ -39,12 +39,12 @@ fields_in (b ∷ bs) = if b == 32 then [] ∷ fields_in bs else byte_before b (f
 -- WHAT A FIELD SPELLS
 
 -- the number below 2^64 whose decimal digits the text is
-unfoldable pub number_of : List ℕ → Option ℕ
-number_of text = let n = digits_value 10 text in if bytes_eq text (decimal n) && nat_lt n (2 ^ 64) then Some n else None
+unfoldable pub decimal_of : List ℕ → Option ℕ
+decimal_of text = let n = digits_value 10 text in if bytes_eq text (decimal n) && nat_lt n (2 ^ 64) then Some n else None
 
 -- such a number below a limit
 unfoldable pub number_below : (limit : ℕ) → List ℕ → Option ℕ
-number_below limit text = number_of text >>= λ n. if nat_lt n limit then Some n else None
+number_below limit text = decimal_of text >>= λ n. if nat_lt n limit then Some n else None
 
 -- the bytes whose pairs of digits the text is, or none where it is a dash
 unfoldable pub bytes_of : List ℕ → Option (List ℕ)
@@ -61,7 +61,7 @@ mode_from (suc zero) = Some RootsOfUnity
 mode_from _ = None
 
 unfoldable pub mode_of : List ℕ → Option Mode
-mode_of text = number_of text >>= mode_from
+mode_of text = decimal_of text >>= mode_from
 
 unfoldable pub version_of : List ℕ → Option ModeVersion
 version_of text = number_below 2 text >>= λ n. Some (record { 0 = n })
@@ -71,9 +71,9 @@ version_of text = number_below 2 text >>= λ n. Some (record { 0 = n })
 abbrev pub Row : Type 0 → Type 0
 Row A = List (List ℕ) → Option (A × List (List ℕ))
 
-abbrev pub Took : {A : Type 0} → Option (A × List (List ℕ)) → Option A → List (List ℕ) → Type 0
-Took row (Some x) left = row ≡ Some (x, left)
-Took row None left = row ≡ None
+abbrev pub TookFields : {A : Type 0} → Option (A × List (List ℕ)) → Option A → List (List ℕ) → Type 0
+TookFields row (Some x) left = row ≡ Some (x, left)
+TookFields row None left = row ≡ None
 
 unfoldable pub field : {A : Type 0} → (List ℕ → Option A) → Row A
 field of [] = None

@@ -146,7 +146,7 @@ fn read_address_after(
     ensures reads { ReadsIf (begins (codes "address")) (address_at done.now) lines.old.rest.now result lines.new.rest.now }
     ensures on { IfOk result (λ made. IfSome made (λ _. length lines.new.rest.now < length lines.old.rest.now)) }
     ensures above { IfOk result (λ made. IfSome made (λ line. IsTrue (is_above (keys_of done.now) line.0))) }
-    ensures few { IfOk result (λ made. IfSome made (λ _. length done.now + 1 < 2 ^ 32)) }
+    ensures in_bound { IfOk result (λ made. IfSome made (λ _. length done.now + 1 < 2 ^ 32)) }
 {
     let Some((key, address)) = lines.take_if(alloc, b"address")? else {
         return Ok(None);
@@ -161,7 +161,7 @@ fn read_address_after(
 fn read_address_pairs(alloc: Global, lines: &mut Lines<'_>) -> Result<Vec<(Key, Address)>, Stop>
     ensures reads { ReadsBy (λ pairs. pairs.items) (many_at (begins (codes "address")) address_at lines.old.rest.now) result lines.new.rest.now }
     ensures rising { IfOk result (λ pairs. IsStrictlyIncreasing (keys_of pairs.items)) }
-    ensures few { IfOk result (λ pairs. length pairs.items < 2 ^ 32) }
+    ensures in_bound { IfOk result (λ pairs. length pairs.items < 2 ^ 32) }
 {
     let mut pairs = Vec::new(alloc);
     'pairs: while let Some(pair) = read_address_after(alloc, &pairs, lines)? {

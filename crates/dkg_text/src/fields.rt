@@ -5,7 +5,7 @@ ghost use Rattle.std.specs.Prelude.{◌≡◌, ◌≢◌, ℕ, ◌+◌, ◌<◌,
 ghost use Rattle.std.specs.Str.Parse.{IsNumeral, digits_value};
 ghost use Rattle.hex.specs.Hex.{IsBytes, decode_of};
 ghost use Rattle.dkg_text.specs.Fields.{hex_text, IsPlain, IsLower, SpellsNumber, IsCutAt};
-ghost use Rattle.dkg_text.specs.Rows.{Took, all_of, as_set, bytes_of, cut_of, field as field_row, fields_in, is_over_of, mode_of, number_below, number_of, version_of, whole as whole_of};
+ghost use Rattle.dkg_text.specs.Rows.{TookFields, all_of, as_set, bytes_of, cut_of, field as field_row, fields_in, is_over_of, mode_of, number_below, decimal_of, version_of, whole as whole_of};
 
 use crate::script::Indexes;
 use dkg_ceremony::{Blob, Epoch, Height, Key, Mem, Mode, ModeVersion, NoMemory, Set};
@@ -46,7 +46,7 @@ fn parsed(text: &[u8]) -> Option<u64>
 pub fn number(text: &[u8]) -> Option<u64>
     ensures found { IfSome result (λ n. text.now ≡ decimal n) }
     ensures only { (n : ℕ) → n < 2 ^ 64 → text.now ≡ decimal n → result ≡ Some n }
-    ensures value { result ≡ number_of text.now }
+    ensures value { result ≡ decimal_of text.now }
 {
     if is_plain(text) { parsed(text) } else { None }
 }
@@ -183,9 +183,9 @@ pub(crate) trait Field: Sized {
 }
 
 impl Field for u64 {
-    ghost use Rattle.dkg_text.specs.Rows.{number_of};
+    ghost use Rattle.dkg_text.specs.Rows.{decimal_of};
 
-    ghost of = { number_of };
+    ghost of = { decimal_of };
 
     fn of_field(_alloc: Global, text: &[u8]) -> Mem<Option<u64>> {
         Ok(number(text))
@@ -193,9 +193,9 @@ impl Field for u64 {
 }
 
 impl Field for Epoch {
-    ghost use Rattle.dkg_text.specs.Rows.{number_of};
+    ghost use Rattle.dkg_text.specs.Rows.{decimal_of};
 
-    ghost of = { number_of };
+    ghost of = { decimal_of };
 
     fn of_field(_alloc: Global, text: &[u8]) -> Mem<Option<Epoch>> {
         Ok(number(text).map(|n| Epoch(n)))
@@ -203,9 +203,9 @@ impl Field for Epoch {
 }
 
 impl Field for Height {
-    ghost use Rattle.dkg_text.specs.Rows.{number_of};
+    ghost use Rattle.dkg_text.specs.Rows.{decimal_of};
 
-    ghost of = { number_of };
+    ghost of = { decimal_of };
 
     fn of_field(_alloc: Global, text: &[u8]) -> Mem<Option<Height>> {
         Ok(number(text).map(|n| Height(n)))
@@ -311,19 +311,19 @@ impl<T: Field> Field for Option<T> {
 
 /// What the fields of a line spell, one after another.
 pub(crate) trait Row: Sized {
-    ghost use Rattle.dkg_text.specs.Rows.{Row as RowOf, Took};
+    ghost use Rattle.dkg_text.specs.Rows.{Row as RowOf, TookFields};
 
     /// What the first fields spell, and the fields behind them.
     ghost spells: { RowOf Self };
 
     fn read(alloc: Global, fields: &mut Fields<'_>) -> Mem<Option<Self>>
-        ensures { IfOk result (λ made. Took (spells fields.old) made fields.new) };
+        ensures { IfOk result (λ made. TookFields (spells fields.old) made fields.new) };
 }
 
 /// The next field.
 #[tactic(auto, unfolding(crate::specs::Rows::field))]
 fn one<T: Field>(alloc: Global, fields: &mut Fields<'_>) -> Mem<Option<T>>
-    ensures { IfOk result (λ made. Took (field_row T.of fields.old) made fields.new) }
+    ensures { IfOk result (λ made. TookFields (field_row T.of fields.old) made fields.new) }
 {
     match fields.next() {
         Some(text) => T::of_field(alloc, text),
@@ -356,9 +356,9 @@ impl Row for () {
 }
 
 impl Row for u64 {
-    ghost use Rattle.dkg_text.specs.Rows.{field as field_row, number_of};
+    ghost use Rattle.dkg_text.specs.Rows.{field as field_row, decimal_of};
 
-    ghost spells = { field_row number_of };
+    ghost spells = { field_row decimal_of };
 
     fn read(alloc: Global, fields: &mut Fields<'_>) -> Mem<Option<u64>> {
         one(alloc, fields)
@@ -366,9 +366,9 @@ impl Row for u64 {
 }
 
 impl Row for Height {
-    ghost use Rattle.dkg_text.specs.Rows.{field as field_row, number_of};
+    ghost use Rattle.dkg_text.specs.Rows.{field as field_row, decimal_of};
 
-    ghost spells = { field_row number_of };
+    ghost spells = { field_row decimal_of };
 
     fn read(alloc: Global, fields: &mut Fields<'_>) -> Mem<Option<Height>> {
         one(alloc, fields)
@@ -522,9 +522,9 @@ impl Row for Indexes {
 
 /// An epoch and its players.
 impl Row for (Epoch, Set) {
-    ghost use Rattle.dkg_text.specs.Rows.{beside, field as field_row, number_of, set_row};
+    ghost use Rattle.dkg_text.specs.Rows.{beside, field as field_row, decimal_of, set_row};
 
-    ghost spells = { beside (field_row number_of) set_row };
+    ghost spells = { beside (field_row decimal_of) set_row };
 
     fn read(alloc: Global, fields: &mut Fields<'_>) -> Mem<Option<(Epoch, Set)>> {
         let Some(epoch) = one(alloc, fields)? else {

@@ -9,7 +9,7 @@ use std::marker::Model;
 
 /// Items that lie here, or that are lent.
 #[derive(Debug, Drop)]
-pub(crate) enum Held<'a, O, T> {
+pub(crate) enum OwnOrLent<'a, O, T> {
     Own(O),
     Lent(&'a [T]),
 }
@@ -17,7 +17,7 @@ pub(crate) enum Held<'a, O, T> {
 /// The bytes of a message, which contracts see as a list.
 #[derive(Debug, Drop)]
 pub struct MessageBytes<'a> {
-    held: Held<'a, Blob, u8>,
+    held: OwnOrLent<'a, Blob, u8>,
 }
 
 impl<'a> Model for MessageBytes<'a> {
@@ -34,7 +34,7 @@ impl<'a> MessageBytes<'a> {
         ensures { result ≡ bytes }
     {
         MessageBytes {
-            held: Held::Own(bytes),
+            held: OwnOrLent::Own(bytes),
         }
     }
 
@@ -43,7 +43,7 @@ impl<'a> MessageBytes<'a> {
         ensures { result ≡ bytes.now }
     {
         MessageBytes {
-            held: Held::Lent(bytes),
+            held: OwnOrLent::Lent(bytes),
         }
     }
 
@@ -51,8 +51,8 @@ impl<'a> MessageBytes<'a> {
         ensures { result.now ≡ self.now }
     {
         match &self.held {
-            Held::Own(bytes) => bytes.as_slice(),
-            Held::Lent(bytes) => bytes,
+            OwnOrLent::Own(bytes) => bytes.as_slice(),
+            OwnOrLent::Lent(bytes) => bytes,
         }
     }
 }
@@ -60,7 +60,7 @@ impl<'a> MessageBytes<'a> {
 /// The numbers of an ancestry's blocks, which contracts see as a list.
 #[derive(Debug, Drop)]
 pub struct Ancestry<'a> {
-    held: Held<'a, Indexes, u32>,
+    held: OwnOrLent<'a, Indexes, u32>,
 }
 
 impl<'a> Model for Ancestry<'a> {
@@ -77,7 +77,7 @@ impl<'a> Ancestry<'a> {
         ensures { result ≡ numbers }
     {
         Ancestry {
-            held: Held::Own(numbers),
+            held: OwnOrLent::Own(numbers),
         }
     }
 
@@ -86,7 +86,7 @@ impl<'a> Ancestry<'a> {
         ensures { result ≡ numbers.now }
     {
         Ancestry {
-            held: Held::Lent(numbers),
+            held: OwnOrLent::Lent(numbers),
         }
     }
 
@@ -94,8 +94,8 @@ impl<'a> Ancestry<'a> {
         ensures { result.now ≡ self.now }
     {
         match &self.held {
-            Held::Own(numbers) => numbers.as_slice(),
-            Held::Lent(numbers) => numbers,
+            OwnOrLent::Own(numbers) => numbers.as_slice(),
+            OwnOrLent::Lent(numbers) => numbers,
         }
     }
 }

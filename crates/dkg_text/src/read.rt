@@ -1,8 +1,8 @@
 //! The reading of a script's text, line by line; the program calls it on the bytes that it was given.
 ghost use Rattle.std.specs.Prelude.{◌≡◌, length};
-ghost use Rattle.dkg_text.specs.Grammar.{Answers, end_at, reading_of, script_or_place};
+ghost use Rattle.dkg_text.specs.Grammar.{AnswersScript, end_at, reading_of, script_or_place};
 ghost use Rattle.dkg_text.specs.Laws.{TellsPlace};
-ghost use Rattle.dkg_text.specs.Lines.{Gives};
+ghost use Rattle.dkg_text.specs.Lines.{ReadsAll};
 
 use crate::block_lines::read_blocks;
 use crate::config_lines::read_config;
@@ -16,7 +16,7 @@ use std::alloc::Global;
 /// Reads the last line, after which no byte is left.
 #[tactic(auto, unfolding(crate::specs::Grammar::end_at))]
 fn read_end(alloc: Global, lines: &mut Lines<'_>) -> Result<(), Stop>
-    ensures { Gives (end_at lines.old.rest.now) result }
+    ensures { ReadsAll (end_at lines.old.rest.now) result }
 {
     lines.take::<()>(alloc, b"end")?;
     match lines.rest {
@@ -27,7 +27,7 @@ fn read_end(alloc: Global, lines: &mut Lines<'_>) -> Result<(), Stop>
 
 #[tactic(auto, unfolding(crate::specs::Grammar::reading_of))]
 fn read_lines(alloc: Global, addressed: bool, lines: &mut Lines<'_>) -> Result<Script, Stop>
-    ensures { Gives (reading_of addressed lines.old.rest.now) result }
+    ensures { ReadsAll (reading_of addressed lines.old.rest.now) result }
 {
     let config = read_config(alloc, addressed, lines)?;
     let blocks = read_blocks(alloc, addressed, &config, lines)?;
@@ -55,7 +55,7 @@ fn read_lines(alloc: Global, addressed: bool, lines: &mut Lines<'_>) -> Result<S
 /// `Bad` names the first line that no script has after the lines before it.
 #[tactic(auto, unfolding(crate::specs::Grammar::script_or_place))]
 pub fn read_script(alloc: Global, bytes: &[u8], addressed: bool) -> Result<Script, ScriptError>
-    ensures reads { Answers (script_or_place addressed bytes.now) result }
+    ensures reads { AnswersScript (script_or_place addressed bytes.now) result }
     // Some script's text begins with the lines before the place that is told, and none's goes on with the line there.
     ensures place { TellsPlace addressed bytes.now result }
 {

@@ -133,7 +133,7 @@ addresses_grammar count = map_grammar AddressFits address_spelling address_at ad
 
 -- a directory of so many peers is a map of at most as many as any more
 widened : (count most : ℕ) (pairs : Pairs) → AddressesFit count pairs → count ≤ most → MapFits AddressFits 0 most pairs
-widened count most pairs fit le = record { many = omega arith; few = omega (arith, fit.few, le); small = fit.small; rising = fit.rising; values = fit.values }
+widened count most pairs fit le = record { many = omega arith; in_bound = omega (arith, fit.in_bound, le); small = fit.small; rising = fit.rising; values = fit.values }
 
 -- No directory's spelling begins another's, of however many peers each is.
 pub addresses_no_prefix : (m n : ℕ) (a b : Pairs) (x y : List ℕ) → AddressesFit m a → AddressesFit n b → addresses_spelling a ++ x ≡ addresses_spelling b ++ y → (a ≡ b) × (x ≡ y)
@@ -156,10 +156,10 @@ each_has_size [] = tt
 each_has_size (p ∷ ps) = (tt, each_has_size ps)
 
 pub addresses_size : (pairs : Pairs) → IsMap pairs → MapSizes address_spelling (Always {A = Address}) pairs
-addresses_size pairs kept = record { total = omega (arith, addresses_short pairs kept.few, kept.few); each = each_has_size pairs }
+addresses_size pairs kept = record { total = omega (arith, addresses_short pairs kept.in_bound, kept.in_bound); each = each_has_size pairs }
 
 pub addresses_within : (peers : List ℕ) (pairs : Pairs) → AddressesFit (length peers) pairs → length (addresses_spelling pairs) ≤ 10 + 17 * length peers
-addresses_within peers pairs fit = omega (arith, addresses_short pairs fit.small, fit.few)
+addresses_within peers pairs fit = omega (arith, addresses_short pairs fit.small, fit.in_bound)
 
 pub addresses_rising : (few many : ℕ) → few ≤ many → 10 + 17 * few ≤ 10 + 17 * many
 addresses_rising few many le = omega arith

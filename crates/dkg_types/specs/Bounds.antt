@@ -44,10 +44,10 @@ longer fits spelling bound more b le = record { within = λ a fit. omega (arith,
 -- ---- sets and lists of elements
 
 pub set_bound : (most : ℕ) (keys : List ℕ) → SetFits most keys → length (set_spelling keys) ≤ 5 + 4 * most
-set_bound most keys fit = omega (arith, fit.few, uint_narrow (length keys) fit.small, set_size keys (length (uint (length keys))) (length keys) refl refl)
+set_bound most keys fit = omega (arith, fit.in_bound, uint_narrow (length keys) fit.small, set_size keys (length (uint (length keys))) (length keys) refl refl)
 
 pub public_bound : (most : ℕ) (xs : List ℕ) → PublicFits most xs → length (public_spelling xs) ≤ 5 + 2 * most
-public_bound most xs fit = omega (arith, fit.few, uint_narrow (length xs) fit.small, public_size xs (length (uint (length xs))) (length xs) refl refl)
+public_bound most xs fit = omega (arith, fit.in_bound, uint_narrow (length xs) fit.small, public_size xs (length (uint (length xs))) (length xs) refl refl)
 
 length_with_key : (x : ℕ) (xs : List ℕ) → length (with_key x xs) ≤ length xs + 1
 length_with_key x [] = omega arith
@@ -88,7 +88,7 @@ each_bound [] all = omega arith
 each_bound (e ∷ es) all = omega (arith, ap length (flat_map-cons entry_spelling e es), length-append (entry_spelling e) (flat_map entry_spelling es), entry_bound e all.0, each_bound es all.1)
 
 entries_bound : (most : ℕ) (es : List LogEntry) → EntriesFit most es → length (entries_spelling es) ≤ 5 + 9 * most
-entries_bound most es fit = omega (arith, fit.few, length-append (uint (length es)) (flat_map entry_spelling es), uint_narrow (length es) fit.small, each_bound es fit.each)
+entries_bound most es fit = omega (arith, fit.in_bound, length-append (uint (length es)) (flat_map entry_spelling es), uint_narrow (length es) fit.small, each_bound es fit.each)
 
 log_bound : (most : ℕ) (log : log.DealerLog) → LogFits most log → length (log_spelling log) ≤ 10 + 11 * most
 log_bound most log fit = omega (arith, length-append (public_spelling log.public) (entries_spelling log.entries), public_bound most log.public fit.one, entries_bound most log.entries fit.other)
@@ -117,7 +117,7 @@ info_bound fits spelling matches bound within rising most version = record {
       let rest = parts.other.other in
       let holders = rest.one.other.other.other.one in
       let peers = peers_of i.output.players i.players i.next_players in
-      let few : length peers ≤ 3 * most = omega (arith, length_peers_of i.output.players i.players i.next_players, holders.few, rest.other.one.few, rest.other.other.few) in
+      let few : length peers ≤ 3 * most = omega (arith, length_peers_of i.output.players i.players i.next_players, holders.in_bound, rest.other.one.in_bound, rest.other.other.in_bound) in
       omega (
         arith,
         length_six (outcome_spelling i.outcome) (uint i.epoch) (output_bytes i.output) (set_spelling i.players) (set_spelling i.next_players) (spelling i.directory),

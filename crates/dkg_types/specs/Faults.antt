@@ -3,23 +3,23 @@ use Rattle.std.specs.Prelude.{ℕ}
 use Rattle.dkg_types.specs.declared.fault.Fault.{Fault}
 use Rattle.dkg_types.specs.declared.fault.Fault.TheVariants as faults
 
-abbrev pub number_of : Fault → ℕ
-number_of faults.NoMemory = 1
-number_of faults.Disk = 2
-number_of faults.Secrets = 3
-number_of (faults.Corrupt name place) = 4
-number_of (faults.InvalidConfig cause) = 5
-number_of (faults.StateSyncEpochs info floor) = 6
-number_of faults.StateSyncMaterial = 7
-number_of (faults.ConflictingBlock height) = 8
-number_of (faults.DetachedBlock height) = 9
-number_of (faults.SkippedHeight awaited got) = 10
-number_of (faults.OutOfWindow height) = 11
-number_of faults.HeightRange = 12
-number_of (faults.MissingEpochInfo height) = 13
-number_of (faults.WrongEpoch expected got) = 14
-number_of (faults.InvalidParticipants cause) = 15
-number_of (faults.DirectoryMismatch epoch) = 16
-number_of (faults.LocalState cause) = 17
-number_of faults.FinalBlockMissing = 18
-number_of faults.FloorBlockMissing = 19
+abbrev pub fault_number : Fault → ℕ
+fault_number faults.NoMemory = 1
+fault_number faults.Disk = 2
+fault_number faults.Secrets = 3
+fault_number (faults.Corrupt name place) = 4
+fault_number (faults.InvalidConfig cause) = 5
+fault_number (faults.StateSyncEpochs info floor) = 6
+fault_number faults.StateSyncMaterial = 7
+fault_number (faults.ConflictingBlock height) = 8
+fault_number (faults.DetachedBlock height) = 9
+fault_number (faults.SkippedHeight awaited got) = 10
+fault_number (faults.OutOfWindow height) = 11
+fault_number faults.HeightRange = 12
+fault_number (faults.MissingEpochInfo height) = 13
+fault_number (faults.WrongEpoch expected got) = 14
+fault_number (faults.InvalidParticipants cause) = 15
+fault_number (faults.DirectoryMismatch epoch) = 16
+fault_number (faults.LocalState cause) = 17
+fault_number faults.FinalBlockMissing = 18
+fault_number faults.FloorBlockMissing = 19

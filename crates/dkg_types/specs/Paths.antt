@@ -10,12 +10,12 @@ use Rattle.dkg_types.specs.PayloadCodes.{its_log}
 
 -- Whether a log at a height counts in a round: its height is from the epoch's midpoint on and below the epoch's last, its dealer is one
 -- of the round's, and the check of logs accepts it.
-abbrev pub counts : (check_log_of : Round → SignedDealerLog → Bool) → (midpoint last : ℕ) → Round → ℕ × SignedDealerLog → Bool
-counts check_log_of midpoint last round p = nat_le midpoint p.0 && nat_lt p.0 last && is_some (place_of p.1.dealer round.dealers) && check_log_of round p.1
+abbrev pub log_counts : (check_log_of : Round → SignedDealerLog → Bool) → (midpoint last : ℕ) → Round → ℕ × SignedDealerLog → Bool
+log_counts check_log_of midpoint last round p = nat_le midpoint p.0 && nat_lt p.0 last && is_some (place_of p.1.dealer round.dealers) && check_log_of round p.1
 
 -- of each dealer the first log that counts, of some at their heights
 unfoldable pub logs_from : (check_log_of : Round → SignedDealerLog → Bool) → (midpoint last : ℕ) → Round → List (ℕ × SignedDealerLog) → LogMap
-logs_from check_log_of midpoint last round placed = map_of (map (λ p. (p.1.dealer, p.1.log)) (filter (counts check_log_of midpoint last round) placed))
+logs_from check_log_of midpoint last round placed = map_of (map (λ p. (p.1.dealer, p.1.log)) (filter (log_counts check_log_of midpoint last round) placed))
 
 -- the log that a block carries, at the block's height
 abbrev pub log_of_block : {Dir : Type 0} → Block Dir → Option (ℕ × SignedDealerLog)

@@ -1,6 +1,6 @@
 //! Why a node stops. Setup and the steps answer these, and the top call prints them by number.
 ghost use Rattle.std.specs.Prelude.{◌≡◌};
-ghost use Rattle.dkg_types.specs.Faults.{number_of};
+ghost use Rattle.dkg_types.specs.Faults.{fault_number};
 ghost use Rattle.dkg_types.specs.declared.fault.Fault.TheVariants.{NoMemory as OutOfMemory};
 
 use crate::boxed_public::BoxedPublic;
@@ -149,7 +149,7 @@ pub enum Fault {
 impl Fault {
     /// The number by which a fault is printed, from 1 to 19.
     pub fn number(&self) -> u8
-        ensures { result ≡ number_of self.now }
+        ensures { result ≡ fault_number self.now }
     {
         match self {
             Fault::NoMemory => 1,

@@ -33,4 +33,4 @@ pairs_done {V} read front keys i bytes total le so_far =
     sym so_far ∙ one
 
 pub is_map : {V : Type 0} (keys : List ℕ) (pairs : List (ℕ × V)) (count : ℕ) → keys_of pairs ≡ keys → length keys ≡ count → count < 2 ^ 32 → IsStrictlyIncreasing keys → ((i : ℕ) → slice_index (keys_of pairs) i < 2 ^ 32) → IsMap pairs
-is_map {V} keys pairs count are long small rising each = record { rising = subst IsStrictlyIncreasing (sym are) rising; few = omega (arith, length-map pairs (λ (p : ℕ × V). p.0), ap length are, long); small = each }
+is_map {V} keys pairs count are long small rising each = record { rising = subst IsStrictlyIncreasing (sym are) rising; in_bound = omega (arith, length-map pairs (λ (p : ℕ × V). p.0), ap length are, long); small = each }

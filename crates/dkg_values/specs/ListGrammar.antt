@@ -216,11 +216,11 @@ set_grammar most = record {
       let b = bind_ok (count_at 0 most bytes) (λ n. keys_at n.0 0 n.1) (keys, rest) e in
       let c = count_found 0 most bytes b.0.0 b.0.1 are b.1 in
       let k = keys_found b.0.0 0 b.0.1 keys rest c.left b.2 in (
-        record { few = omega (arith, k.count, c.below); small = omega (arith, k.count, c.small); rising = k.rising },
+        record { in_bound = omega (arith, k.count, c.below); small = omega (arith, k.count, c.small); rising = k.rising },
         c.parts ∙ ap (λ (x : List ℕ). uint b.0.0 ++ x) k.parts ∙ sym (append_assoc (uint b.0.0) (keys_spelling keys) rest) ∙ ap (λ (n : ℕ). (uint n ++ keys_spelling keys) ++ rest) (sym k.count),
       );
   again = λ keys rest fits.
-      ap (set_at most) (append_assoc (uint (length keys)) (keys_spelling keys) rest) ∙ rw (count_again 0 most (length keys) (keys_spelling keys ++ rest) (omega arith) fits.few fits.small, keys_again keys 0 rest fits.rising) refl;
+      ap (set_at most) (append_assoc (uint (length keys)) (keys_spelling keys) rest) ∙ rw (count_again 0 most (length keys) (keys_spelling keys ++ rest) (omega arith) fits.in_bound fits.small, keys_again keys 0 rest fits.rising) refl;
 }
 
 -- ---- things one after another
@@ -273,12 +273,12 @@ public_grammar most = record {
       let b = bind_ok (count_at 1 most bytes) (λ n. many_at element_at n.0 n.1) (xs, rest) e in
       let c = count_found 1 most bytes b.0.0 b.0.1 are b.1 in
       let k = many_found (λ n. n < 65521) (to_be_bytes w16) element_at element_grammar b.0.0 b.0.1 xs rest c.left b.2 in (
-        record { some = omega (arith, k.count, c.above); few = omega (arith, k.count, c.below); small = omega (arith, k.count, c.small); elements = k.fit },
+        record { some = omega (arith, k.count, c.above); in_bound = omega (arith, k.count, c.below); small = omega (arith, k.count, c.small); elements = k.fit },
         c.parts ∙ ap (λ (x : List ℕ). uint b.0.0 ++ x) k.parts ∙ sym (append_assoc (uint b.0.0) (flat_map (to_be_bytes w16) xs) rest) ∙ ap (λ (n : ℕ). (uint n ++ flat_map (to_be_bytes w16) xs) ++ rest) (sym k.count),
       );
   again = λ xs rest fits.
       ap (public_at most) (append_assoc (uint (length xs)) (flat_map (to_be_bytes w16) xs) rest)
-      ∙ rw (count_again 1 most (length xs) (flat_map (to_be_bytes w16) xs ++ rest) fits.some fits.few fits.small, many_again (λ n. n < 65521) (to_be_bytes w16) element_at element_grammar xs rest fits.elements) refl;
+      ∙ rw (count_again 1 most (length xs) (flat_map (to_be_bytes w16) xs ++ rest) fits.some fits.in_bound fits.small, many_again (λ n. n < 65521) (to_be_bytes w16) element_at element_grammar xs rest fits.elements) refl;
 }
 
 -- ---- maps
@@ -328,7 +328,7 @@ map_made {V} fits spelling least most n m keys pairs bytes r1 r2 r3 rest c k sec
     let whole = joined bytes r1 r2 r3 rest (flat_map spelling (values_of pairs)) keys n m c k second p.parts in (
       record {
         many = omega (arith, long, c.above, k.count);
-        few = omega (arith, long, c.below, k.count);
+        in_bound = omega (arith, long, c.below, k.count);
         small = omega (arith, long, c.small, k.count);
         rising = subst (RiseFrom 0) (sym p.keys_are) k.rising;
         values = p.fit;
@@ -358,7 +358,7 @@ map_grammar {V} fits spelling read law least most = record {
       let lk : length pairs ≡ length keys = sym (length-map pairs (λ (p : ℕ × V). p.0)) in
       let spelled : map_spelling spelling pairs ++ rest ≡ uint (length keys) ++ (keys_spelling keys ++ (uint (length pairs) ++ (values ++ rest))) = simp append_assoc in
       ap (map_at read least most) spelled ∙ rw (
-        count_again least most (length keys) (keys_spelling keys ++ (uint (length pairs) ++ (values ++ rest))) (omega (arith, lk, fit.many)) (omega (arith, lk, fit.few)) (omega (arith, lk, fit.small)),
+        count_again least most (length keys) (keys_spelling keys ++ (uint (length pairs) ++ (values ++ rest))) (omega (arith, lk, fit.many)) (omega (arith, lk, fit.in_bound)) (omega (arith, lk, fit.small)),
         keys_again keys 0 (uint (length pairs) ++ (values ++ rest)) fit.rising,
         (uint_grammar (2 ^ 32 - 1) most32 (omega arith)).again (length pairs) (values ++ rest) (omega (arith, fit.small)),
         eq-eqb (length pairs) (length keys) lk,

@@ -32,7 +32,7 @@ RiseFrom least [] = Unit {0}
 RiseFrom least (key ∷ keys) = (least ≤ key) × (key < 2 ^ 32) × RiseFrom (key + 1) keys
 
 pub record SetFits (most : ℕ) (keys : List ℕ) : Type 0 where
-  pub few : length keys ≤ most
+  pub in_bound : length keys ≤ most
   pub small : length keys < 2 ^ 32
   pub rising : RiseFrom 0 keys
 
@@ -48,7 +48,7 @@ public_spelling elements = uint (length elements) ++ flat_map (to_be_bytes w16) 
 
 pub record PublicFits (most : ℕ) (xs : List ℕ) : Type 0 where
   pub some : 1 ≤ length xs
-  pub few : length xs ≤ most
+  pub in_bound : length xs ≤ most
   pub small : length xs < 2 ^ 32
   pub elements : AllByRecursion (λ e. e < 65521) xs
 
@@ -71,7 +71,7 @@ map_at read least most bytes =
 
 pub record MapFits {V : Type 0} (fits : V → Type 0) (least most : ℕ) (pairs : List (ℕ × V)) : Type 0 where
   pub many : least ≤ length pairs
-  pub few : length pairs ≤ most
+  pub in_bound : length pairs ≤ most
   pub small : length pairs < 2 ^ 32
   pub rising : RiseFrom 0 (keys_of pairs)
   pub values : AllByRecursion fits (values_of pairs)

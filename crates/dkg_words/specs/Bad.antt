@@ -2,7 +2,7 @@
 use Rattle.std.specs.Prelude.{ℕ, ◌&&◌, ◌||◌, nat_lt, not, is_some, Bool, true, false, if◌then◌else◌, List, [], ◌∷◌, ◌++◌, take, drop, Option, Some, None, codes}
 use Rattle.std.specs.Str.{bytes_eq}
 use Rattle.std.specs.Option.{option_map_or}
-use Rattle.dkg_text.specs.Rows.{number_of}
+use Rattle.dkg_text.specs.Rows.{decimal_of}
 use Rattle.dkg_words.specs.declared.before.Before.{Before}
 use Rattle.dkg_words.specs.declared.names.Name.{Name}
 use Rattle.dkg_words.specs.declared.names.Name.TheVariants.{Block}
@@ -17,11 +17,11 @@ use Rattle.dkg_words.specs.Told.{line_told}
 -- A PAYLOAD
 
 abbrev pub is_number : List ℕ → Bool
-is_number field = is_some (number_of field)
+is_number field = is_some (decimal_of field)
 
 -- whether a field names one of so many blocks, or none
 abbrev pub is_parent : (blocks : ℕ) → List ℕ → Bool
-is_parent blocks field = bytes_eq field (codes "-") || option_map_or (λ n. nat_lt n blocks) (number_of field) false
+is_parent blocks field = bytes_eq field (codes "-") || option_map_or (λ n. nat_lt n blocks) (decimal_of field) false
 
 abbrev pub payload_alone : (blocks : ℕ) (height parent view payload : List ℕ) → Bool
 payload_alone blocks height parent view payload =

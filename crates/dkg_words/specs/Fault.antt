@@ -3,11 +3,11 @@ use Rattle.std.specs.Prelude.{ℕ, ◌≡◌, List, [], ◌∷◌, ◌++◌, Opt
 use Rattle.dkg_types.specs.declared.entry.Entry.{Entry}
 use Rattle.dkg_types.specs.declared.entry.Entry.TheVariants as entry
 use Rattle.dkg_types.specs.declared.fault.Fault.{Fault}
-use Rattle.dkg_types.specs.Faults.{number_of}
+use Rattle.dkg_types.specs.Faults.{fault_number}
 use Rattle.dkg_words.specs.declared.fault.Spot.{Spot}
 use Rattle.dkg_words.specs.declared.fault.Step.{Step}
 use Rattle.dkg_words.specs.Before.{counted}
-use Rattle.dkg_words.specs.Seek.{place_of}
+use Rattle.dkg_words.specs.Seek.{place_of_step}
 use Rattle.dkg_words.specs.Told.{line_told}
 
 abbrev pub opening : (life : ℕ) → Step
@@ -34,10 +34,10 @@ next_spot its next None = record { step = its; place = None }
 
 abbrev pub spot_or_next : List ℕ → Step → Option ℕ → Spot
 spot_or_next text its (Some place) = record { step = its; place = Some place }
-spot_or_next text its None = next_spot its (opening (counted its.life)) (place_of text (counted its.life) 0)
+spot_or_next text its None = next_spot its (opening (counted its.life)) (place_of_step text (counted its.life) 0)
 
 abbrev pub spot_of : List ℕ → Step → Spot
-spot_of text its = spot_or_next text its (place_of text its.life its.step)
+spot_of text its = spot_or_next text its (place_of_step text its.life its.step)
 
 abbrev pub step_told : Step → List ℕ
 step_told its = codes "life " ++ decimal its.life ++ codes ", step " ++ decimal its.step
@@ -52,4 +52,4 @@ spot_told text spot = step_told spot.step ++ place_told text spot.place
 -- the spot of the step in hand, some message, and the fault's number
 pub record IsFaultLine (text : List ℕ) (entries : List Entry) (fault : Fault) (line : List ℕ) : Type 0 where
   pub message : List ℕ
-  pub parts : line ≡ spot_told text (spot_of text (behind_entries entries)) ++ codes ": " ++ message ++ codes " (fault " ++ decimal (number_of fault) ++ codes ")\n"
+  pub parts : line ≡ spot_told text (spot_of text (behind_entries entries)) ++ codes ": " ++ message ++ codes " (fault " ++ decimal (fault_number fault) ++ codes ")\n"

@@ -1,6 +1,6 @@
 -- The parts of a text: its lines, and a line's fields.
 use Rattle.std.specs.Prelude.{◌≡◌, ℕ, ◌+◌, ◌==◌, suc, if◌then◌else◌, List, [], ◌∷◌, ◌++◌, take, Option, Some, None, unwrap_or}
-use Rattle.dkg_text.specs.Rows.{number_of}
+use Rattle.dkg_text.specs.Rows.{decimal_of}
 
 -- what stands before the first such byte, or all of a text that has none
 abbrev pub until : (at : ℕ) → List ℕ → List ℕ
@@ -27,7 +27,7 @@ name_in line = until 32 line
 
 -- the number that a field spells, and 0 where it spells none
 abbrev pub number_or_zero : List ℕ → ℕ
-number_or_zero field = unwrap_or (number_of field) 0
+number_or_zero field = unwrap_or (decimal_of field) 0
 
 abbrev pub first_of : Option (List ℕ) → ℕ
 first_of (Some fields) = number_or_zero (until 32 fields)

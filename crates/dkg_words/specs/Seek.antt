@@ -30,5 +30,5 @@ abbrev pub sought_after : Seek → (line : List ℕ) → Seek
 sought_after seek line = named_after seek (name_by (name_in line)) line
 
 -- where the line of a life's step begins, if a text has it
-abbrev pub place_of : (text : List ℕ) (life step : ℕ) → Option ℕ
-place_of text life step = (over_lines sought_after (record { life = life; step = step; at = 0; lives = 0; events = 0; found = None }) [] text).found
+abbrev pub place_of_step : (text : List ℕ) (life step : ℕ) → Option ℕ
+place_of_step text life step = (over_lines sought_after (record { life = life; step = step; at = 0; lives = 0; events = 0; found = None }) [] text).found

@@ -1,6 +1,6 @@
 //! The line of a life's step: its event's, or the one that begins the life.
 ghost use Rattle.std.specs.Prelude.{◌≡◌, None};
-ghost use Rattle.dkg_words.specs.Seek.{is_sought as is_sought_of, lives_after, place_of};
+ghost use Rattle.dkg_words.specs.Seek.{is_sought as is_sought_of, lives_after, place_of_step};
 
 use crate::before::events_behind;
 use crate::lines::{Walk, go_over, until};
@@ -63,7 +63,7 @@ impl Walk for Seek {
 
 /// Where the line of a life's step begins, if a text has it.
 pub(crate) fn place(text: &[u8], life: u64, step: u64) -> Option<u64>
-    ensures { result ≡ place_of text.now life step }
+    ensures { result ≡ place_of_step text.now life step }
 {
     let mut seek = Seek {
         life,

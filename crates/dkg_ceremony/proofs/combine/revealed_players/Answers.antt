@@ -17,7 +17,7 @@ loop-place-preserved c =
           cc (same)
     ]
 
-pub returns-clause-few : goal.returns-clause-few
-returns-clause-few c =
+pub returns-clause-in_bound : goal.returns-clause-in_bound
+returns-clause-in_bound c =
     let all = ap length (c.loop-place.invariant ∙ ap (revealed_from c.args.logs.now c.args.selected.now 0) (take_all c.loop-place.place c.as_slice-keys.result.now (omega (arith, ap length c.as_slice-keys.ensures.items)))) in
-    omega (arith, all, revealed_few c.args.logs.now c.args.selected.now 0 c.as_slice-keys.result.now, c.as_slice-keys.ensures.kept.few, ap length c.as_slice-keys.ensures.items, c.loop-place.revealed.ok)
+    omega (arith, all, revealed_few c.args.logs.now c.args.selected.now 0 c.as_slice-keys.result.now, c.as_slice-keys.ensures.kept.in_bound, ap length c.as_slice-keys.ensures.items, c.loop-place.revealed.ok)

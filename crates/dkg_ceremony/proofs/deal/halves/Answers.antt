@@ -5,7 +5,7 @@ use Rattle.dkg_ceremony.proofs.deal.halves.Goals as goal
 pub from_sorted-requires : goal.from_sorted-requires
 from_sorted-requires c =
     let h = are_halves c.args.poly.now c.as_slice-keys.result.now c.loop-place.pairs.items c.loop-place.place (rw (← c.as_slice-keys.ensures.items) at c.as_slice-keys.ensures.kept) (omega (arith, c.loop-place-test.false, c.len-place-end.ensures, ap length c.as_slice-keys.ensures.items)) c.loop-place.invariant in
-    omega (arith, h.few, c.loop-place.pairs.ok)
+    omega (arith, h.in_bound, c.loop-place.pairs.ok)
 
 pub unreachable-requires : goal.unreachable-requires
 unreachable-requires c =

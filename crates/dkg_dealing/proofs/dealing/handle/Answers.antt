@@ -17,7 +17,7 @@ use Rattle.dkg_dealing.proofs.Short.{event_short}
 use Rattle.dkg_dealing.proofs.dealing.handle.Goals as goal
 
 pub handle-requires-clause-short : goal.handle-requires-clause-short
-handle-requires-clause-short g c = event_short c.args.from c.args.public c.requires.few
+handle-requires-clause-short g c = event_short c.args.from c.args.public c.requires.in_bound
 
 pub handle-requires-clause-seat : goal.handle-requires-clause-seat
 handle-requires-clause-seat g c = (sym c.requires.sits.sits.me_is, subst (λ (k : ℕ). Contains c.args.player.now.round.players k) (sym c.requires.sits.sits.me_is) c.requires.sits.sits.plays)

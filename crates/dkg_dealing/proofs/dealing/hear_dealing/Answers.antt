@@ -28,12 +28,12 @@ returns-clause-tells g c = λ fixed round beside fence of by has.
 pub returns-clause-fit : goal.returns-clause-fit
 returns-clause-fit g c = λ told fit.
     let most = non_zero_u32_get c.args.terms.now.limit in
-    c.handle.ensures.fit told most c.requires.fits.one.few fit
+    c.handle.ensures.fit told most c.requires.fits.one.in_bound fit
 
 pub returns-in_err-answer-clause-fit : goal.returns-in_err-answer-clause-fit
 returns-in_err-answer-clause-fit g c = λ told fit.
     let most = non_zero_u32_get c.args.terms.now.limit in
-    c.handle.ensures.fit told most c.requires.fits.one.few fit
+    c.handle.ensures.fit told most c.requires.fits.one.in_bound fit
 
 pub returns-in_err-answer-clause-acts : goal.returns-in_err-answer-clause-acts
 returns-in_err-answer-clause-acts g c = λ disk secrets fixed round beside fence of by has.

@@ -63,12 +63,12 @@ returns-in_err-check_own-clause-stays g c = halves_some c.args.life.now.dealer c
 
 -- THE PLAYER
 
-pub handle-requires-clause-few : goal.handle-requires-clause-few
-handle-requires-clause-few g c =
+pub handle-requires-clause-in_bound : goal.handle-requires-clause-in_bound
+handle-requires-clause-in_bound g c =
     let few : length c.args.public ≤ non_zero_u32_get c.args.terms.now.limit = own_few g.C.Ceremony.dealing_of g.C.Ceremony.ack_of g.C.Ceremony.deal_of g.C.Ceremony.check_ack_of _ c.args.terms.now c.args.life.now c.in-Some.dealer c.in-Some-player.player c.args.epoch c.args.public c.args.private
     c.in-Some.is c.in-Some-player.is c.requires.ready.seated c.requires.ready.dealing c.requires.me c.requires.dealt c.requires.half g.met.C.Ceremony.deals_pass
     g.met.C.Ceremony.deals_are_short c.requires.ready.within in
-    omega (arith, few, c.args.terms.now.few)
+    omega (arith, few, c.args.terms.now.in_bound)
 
 pub handle-requires-clause-sits : goal.handle-requires-clause-sits
 handle-requires-clause-sits g c = own_seat g.C.Ceremony.dealing_of g.C.Ceremony.ack_of g.C.Ceremony.deal_of g.C.Ceremony.check_ack_of _ c.args.terms.now c.args.life.now c.in-Some.dealer c.in-Some-player.player c.args.epoch c.args.public c.args.private

@@ -22,7 +22,7 @@ returns-in_err-dealer-clause-made g c = λ fixed st mine deals records.
 pub returns-in_err-dealer-clause-causes : goal.returns-in_err-dealer-clause-causes
 returns-in_err-dealer-clause-causes g c =
     let p = err_from_is_err_and c.from_residual.result c.from_residual.ensures.1 in
-    rw (p.1, p.2) (of_dealing c.in_err-dealer.field-0.0 c.in_err-dealer.ensures.kinds)
+    rw (p.1, p.2) (of_dealing c.in_err-dealer.field-0.0 c.in_err-dealer.ensures.error_kinds)
 
 pub returns-clause-made : goal.returns-clause-made
 returns-clause-made g c = λ fixed st mine deals records.

@@ -8,7 +8,7 @@ use Rattle.dkg_types.specs.declared.entry.Part.{Part}
 use Rattle.dkg_core.specs.Setup as setup
 use Rattle.dkg_dealing.specs.declared.life.Life.{Life}
 use Rattle.dkg_dealing.specs.declared.stop.Stop.TheVariants.{Fault as Faulted}
-use Rattle.dkg_dealing.specs.LiveOf.{IsSeated, IsWithin, dealer_of, live_of}
+use Rattle.dkg_dealing.specs.LiveOf.{PlayerSits, IsWithin, dealer_of, live_of}
 use Rattle.dkg_dealing.proofs.Speaking.{wants_speaks}
 use Rattle.dkg_dealing.proofs.Caused.{of_round}
 use Rattle.dkg_dealing.proofs.Dealers.{not_signed, to_sign}
@@ -66,7 +66,7 @@ pub returns-clause-sits : goal.returns-clause-sits
 returns-clause-sits g c =
     let round = c.in_ok-round.round in
     sits_drawn g.C.Ceremony.ack_of g.C.Ceremony.deal_of g.C.Ceremony.check_ack_of c.args.terms.now.me (g.C.Signer.Signer.key_of c.args.signer.now) c.requires.me (non_zero_u32_get c.args.terms.now.limit) c.args.phase c.begin_stage.new.life c.begin_stage.result
-    (subst (λ (l : Life g.row.Dir.Denot). IsSeated g.C.Ceremony.ack_of c.args.terms.now.me l) (sym c.begin_stage.ensures.rest)
+    (subst (λ (l : Life g.row.Dir.Denot). PlayerSits g.C.Ceremony.ack_of c.args.terms.now.me l) (sym c.begin_stage.ensures.rest)
     (seated_in g.C.Ceremony.ack_of c.args.terms.now.me (record c.args.life.now { stage = c.begin_stage.new.life.stage; round = Some round; dealer = c.begin_stage.new.life.dealer; player = c.in_ok-player.player }) round refl
     c.in_ok-player.player c.in_ok-player.ensures.sits))
     c.begin_stage.ensures.dealing

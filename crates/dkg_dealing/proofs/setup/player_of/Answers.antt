@@ -30,4 +30,4 @@ returns-clause-made g c = λ fixed phase dealer st mine seats records.
 pub returns-in_err-create_player-clause-causes : goal.returns-in_err-create_player-clause-causes
 returns-in_err-create_player-clause-causes g c =
     let p = err_from_is_err_and c.from_residual.result c.from_residual.ensures.1 in
-    rw (p.1, p.2) (of_playing c.in_err-create_player.field-0.0 c.in_err-create_player.ensures.kinds)
+    rw (p.1, p.2) (of_playing c.in_err-create_player.field-0.0 c.in_err-create_player.ensures.error_kinds)

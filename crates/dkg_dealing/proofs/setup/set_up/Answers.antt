@@ -18,7 +18,7 @@ use Rattle.dkg_dealing.specs.Ends.{by_stop, ends, ends_in}
 use Rattle.dkg_dealing.specs.LiveOf.{Beside, live_of, nothing_beside, records_of}
 use Rattle.dkg_dealing.specs.Made.{UnlessBroken}
 use Rattle.dkg_dealing.specs.Moved.{StaysAbove, StaysFrom}
-use Rattle.dkg_dealing.proofs.Beginning.{makes_as, tells_as}
+use Rattle.dkg_dealing.proofs.OpeningCourses.{makes_as, tells_as}
 use Rattle.dkg_dealing.proofs.Beside.{beside_as, none_beside, nothing_fresh, took_none, then_well}
 use Rattle.dkg_dealing.proofs.Burning.{speaks_makes, unless}
 use Rattle.dkg_dealing.proofs.Caused.{of_result}

@@ -9,7 +9,7 @@ use Rattle.dkg_dealing.specs.declared.life.Life.{Life}
 use Rattle.dkg_dealing.specs.declared.stop.Stop.TheVariants.{Fault as Faulted}
 use Rattle.dkg_dealing.specs.Ends.{by_stop, ends_in}
 use Rattle.dkg_dealing.specs.LiveOf.{live_of}
-use Rattle.dkg_dealing.proofs.Beginning.{makes_as, tells_as}
+use Rattle.dkg_dealing.proofs.OpeningCourses.{makes_as, tells_as}
 use Rattle.dkg_dealing.proofs.Beside.{beside_as, none_beside}
 use Rattle.dkg_dealing.proofs.Burning.{speaks_makes}
 use Rattle.dkg_dealing.proofs.Kept.{moved_none}

@@ -13,7 +13,7 @@ use Rattle.dkg_dealing.specs.declared.tip.Judged.{Judged}
 use Rattle.dkg_dealing.specs.Ends.{IsCaused, by_stop, ends_in}
 use Rattle.dkg_dealing.specs.LiveOf.{live_of}
 use Rattle.dkg_dealing.specs.Steps.{AreBoundsAt}
-use Rattle.dkg_dealing.proofs.Beginning.{makes_as, tells_as}
+use Rattle.dkg_dealing.proofs.OpeningCourses.{makes_as, tells_as}
 use Rattle.dkg_dealing.proofs.Beside.{none_with, took_none, with_as}
 use Rattle.dkg_dealing.proofs.Burning.{speaks_makes}
 use Rattle.dkg_dealing.proofs.Caused.{caused_around}

@@ -10,7 +10,7 @@ use Rattle.dkg_inclusion.specs.Including.{derives_by, derives_final}
 use Rattle.dkg_inclusion.specs.InclusionOf.{artifact_of}
 use Rattle.dkg_dealing.specs.LiveOf.{live_of}
 use Rattle.dkg_dealing.specs.declared.life.Life.{Life}
-use Rattle.dkg_dealing.proofs.Beginning.{makes_as, tells_as}
+use Rattle.dkg_dealing.proofs.OpeningCourses.{makes_as, tells_as}
 use Rattle.dkg_dealing.proofs.Beside.{then_well, with_then}
 use Rattle.dkg_dealing.proofs.Blamed.{blamed_behind}
 use Rattle.dkg_inclusion.proofs.Caching.{same_provided}

@@ -10,7 +10,7 @@ use Rattle.dkg_store.specs.Acts.{broken, by_want, went}
 use Rattle.dkg_store.specs.declared.store.Store.{Store}
 use Rattle.dkg_types.specs.PayloadCodes.{its_log}
 use Rattle.dkg_core.specs.Blocks as blocks
-use Rattle.dkg_reshare.specs.Carried.{cleared_of}
+use Rattle.dkg_reshare.specs.CarriedLogs.{cleared_of}
 use Rattle.dkg_dealing.specs.LiveOf.{live_of}
 use Rattle.dkg_dealing.proofs.Burning.{speaks_makes}
 use Rattle.dkg_dealing.proofs.Kept.{moved_none}

@@ -57,8 +57,8 @@ returns-clause-blamed g c =
     blamed _ _ _ _ _ _ _ _ _ _ c.report-2.ensures.told c.run-status.ensures.read_fault (λ is. device_rose _ _ _ its.0 _ is its.2)
     (c.report-2.ensures.write_fault (λ same. rw same at its.2)) c.run-status.ensures.too_long
 
-pub returns-clause-few : goal.returns-clause-few
-returns-clause-few g c = c.run-status.ensures.few
+pub returns-clause-in_bound : goal.returns-clause-in_bound
+returns-clause-in_bound g c = c.run-status.ensures.in_bound
 
 pub returns-clause-complete : goal.returns-clause-complete
 returns-clause-complete g c is tells script spelled built short sound no_read no_write =

@@ -27,7 +27,7 @@ use Rattle.dkg_store.proofs.devices.prune_devices.Goals as goal
 
 pub returns-in-Err-clause-acts : goal.returns-in-Err-clause-acts
 returns-in-Err-clause-acts g c = λ told told_secrets out.
-    let of_devices : IsOfDevices (store_error_of c.in-Err.error) = of_journal_too c.in-Err.error c.in-Err.ensures.kinds in
+    let of_devices : IsOfDevices (store_error_of c.in-Err.error) = of_journal_too c.in-Err.error c.in-Err.ensures.error_kinds in
     journal_torn c.args.min (cause_of c.of_journal.result) (breaks_off c.of_journal.result (subst IsOfDevices (sym c.of_journal.ensures) of_devices))
     (λ stands. same_tried c.min.view_is ((c.prune.ensures.does told).tried stands.lands))
     (subst (λ (e : StoreError). EndsBy (cause_of e) c.args.devices.now.fuse c.prune.new.fuse) (sym c.of_journal.ensures) (journal_end _ c.in-Err.error refl c.in-Err.ensures.caused.fused))
@@ -170,7 +170,7 @@ returns-clause-called g c =
 
 pub returns-in-Err-clause-due : goal.returns-in-Err-clause-due
 returns-in-Err-clause-due g c =
-    rw c.of_journal.ensures (due_journal c.in-Err.error _ _ _ _ c.in-Err.ensures.kinds (λ is. (c.in-Err.ensures.caused.counts.disk is, refl))
+    rw c.of_journal.ensures (due_journal c.in-Err.error _ _ _ _ c.in-Err.ensures.error_kinds (λ is. (c.in-Err.ensures.caused.counts.disk is, refl))
     (λ is. (cut_reached _ _ _ _ _ c.in-Err.ensures.caused.fused is, λ told lands. c.in-Err.ensures.caused.lands is told))
     (λ is. record { so = ⊎_elim (λ same. inl (same.0, same.1, same.2, refl, same.3)) (λ rose. inr (record { so = inl rose })) (c.in-Err.ensures.memory is) }))
 

@@ -32,7 +32,7 @@ returns-in_err-perform_secret-clause-acts g c = λ told_disk told_secrets out.
 pub returns-in-Err-clause-acts : goal.returns-in-Err-clause-acts
 returns-in-Err-clause-acts g c = λ told_disk told_secrets out.
     append_torn c.args.put.now (c.args.section, c.args.body.now) tt (cause_of c.of_journal.result)
-    (breaks_off c.of_journal.result (subst IsOfDevices (sym c.of_journal.ensures) (of_journal_too c.in-Err.error c.in-Err.ensures.kinds)))
+    (breaks_off c.of_journal.result (subst IsOfDevices (sym c.of_journal.ensures) (of_journal_too c.in-Err.error c.in-Err.ensures.error_kinds)))
     (c.in_ok-perform_secret.ensures.done told_secrets) c.perform_secret.ensures.counted (λ stands. (c.append_ready.ensures.does told_disk).tried stands.lands)
     (subst (λ (e : StoreError). EndsBy (cause_of e) c.perform_secret.new.fuse c.append_ready.new.fuse) (sym c.of_journal.ensures) (journal_end _ c.in-Err.error refl c.in-Err.ensures.caused.fused))
 
@@ -84,7 +84,7 @@ returns-in-Err-clause-called g c = record {
 
 pub returns-in-Err-clause-due : goal.returns-in-Err-clause-due
 returns-in-Err-clause-due g c =
-    rw c.of_journal.ensures (due_journal c.in-Err.error _ _ _ _ c.in-Err.ensures.kinds (λ is. c.in-Err.ensures.caused.counts.disk is)
+    rw c.of_journal.ensures (due_journal c.in-Err.error _ _ _ _ c.in-Err.ensures.error_kinds (λ is. c.in-Err.ensures.caused.counts.disk is)
     (λ is. (reached_behind _ _ _ (counts_burned (c.args.put.now ∷ []) _ _ c.perform_secret.ensures.counted) (cut_reached _ _ _ _ _ c.in-Err.ensures.caused.fused is), λ told lands. c.in-Err.ensures.caused.lands is told))
     (λ is. record { so = inl (c.in-Err.ensures.wanted is) }))
 

@@ -6,7 +6,7 @@ use Rattle.dkg_store.specs.Events.{no_event_at}
 use Rattle.dkg_store.specs.declared.call.StoreError.{StoreError}
 use Rattle.dkg_store.specs.declared.call.StoreError.TheVariants.{Corrupt, Secrets as OfSecrets}
 use Rattle.dkg_secrets.specs.Secrets.{Secrets}
-use Rattle.dkg_store.specs.Pairs.{Pairs, with_dealing, dealing_of}
+use Rattle.dkg_store.specs.Pairs.{Pairs, with_dealing, recorded_dealing}
 use Rattle.dkg_journal.specs.Views.{view}
 use Rattle.dkg_store.proofs.Corrupt.{same_error}
 use Rattle.dkg_store.specs.Noted.{Notes, with_note, noted_ack, noted_log}
@@ -22,8 +22,8 @@ pub loop-entry-preserved : goal.loop-entry-preserved
 loop-entry-preserved g c = record {
   given = λ told.
       c.in_ok-restore_one.ensures.given told
-      ∙ ap (λ (s : Secrets). with_dealing s c.loop-entry.recorded.dealings (dealing_of (view c.entry-item.result))) c.loop-entry.invariant.same
-      ∙ ap (λ (m : Pairs). with_dealing (g.X.SecretStore.held c.args.secrets.now) m (dealing_of (view c.entry-item.result))) (c.loop-entry.invariant.given told)
+      ∙ ap (λ (s : Secrets). with_dealing s c.loop-entry.recorded.dealings (recorded_dealing (view c.entry-item.result))) c.loop-entry.invariant.same
+      ∙ ap (λ (m : Pairs). with_dealing (g.X.SecretStore.held c.args.secrets.now) m (recorded_dealing (view c.entry-item.result))) (c.loop-entry.invariant.given told)
       ∙ sym (one_more c.args.entries.now c.loop-entry.entry-index c.entry-item.result (g.X.SecretStore.held c.args.secrets.now) c.loop-entry-test.true c.entry-item.is);
   acks = c.in_ok-restore_one.ensures.acks
       ∙ ap (λ (m : Notes (List ℕ)). with_note m (noted_ack (view c.entry-item.result))) c.loop-entry.invariant.acks

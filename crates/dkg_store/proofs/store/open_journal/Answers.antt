@@ -29,7 +29,7 @@ use Rattle.dkg_store.proofs.store.open_journal.Goals as goal
 pub returns-in-Err-clause-acts : goal.returns-in-Err-clause-acts
 returns-in-Err-clause-acts g c = λ told whole out s.
     bar_torn None (length (open_calls (g.D.Disk.files c.args.disk.now))) (cause_of c.of_journal.result)
-    (breaks_off c.of_journal.result (subst IsOfDevices (sym c.of_journal.ensures) (of_journal_too c.in-Err.error c.in-Err.ensures.kinds))) c.perform.ensures.crash c.perform.ensures.counted
+    (breaks_off c.of_journal.result (subst IsOfDevices (sym c.of_journal.ensures) (of_journal_too c.in-Err.error c.in-Err.ensures.error_kinds))) c.perform.ensures.crash c.perform.ensures.counted
     (subst (λ (e : StoreError). EndsBy (cause_of e) c.args.fuse.now c.perform.new.fuse) (sym c.of_journal.ensures) (journal_end _ c.in-Err.error refl c.in-Err.ensures.caused.fused))
 
 pub returns-in-Err-open-clause-acts : goal.returns-in-Err-open-clause-acts
@@ -122,7 +122,7 @@ returns-in-Ok-clause-not_cut g c = uncut_then _ _ _ (counts_fused _ _ _ _ _ c.op
 
 pub returns-in-Err-clause-due : goal.returns-in-Err-clause-due
 returns-in-Err-clause-due g c =
-    rw c.of_journal.ensures (due_around (store_error_of c.in-Err.error) (due_journal c.in-Err.error _ ⊥ _ _ c.in-Err.ensures.kinds (λ is. c.in-Err.ensures.caused.counts.disk is)
+    rw c.of_journal.ensures (due_around (store_error_of c.in-Err.error) (due_journal c.in-Err.error _ ⊥ _ _ c.in-Err.ensures.error_kinds (λ is. c.in-Err.ensures.caused.counts.disk is)
     (λ is. (cut_reached _ _ _ _ _ c.in-Err.ensures.caused.fused is, λ told. c.in-Err.ensures.caused.lands is told)) (λ is. tt))
     (λ name place none. absurd none) (λ rose. rose) (λ none. none) (λ cut. cut) (λ want. want))
 

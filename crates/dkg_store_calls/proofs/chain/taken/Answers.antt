@@ -4,7 +4,7 @@ use Rattle.std.specs.FinMap as map
 use Rattle.std.specs.FinMap.{FinMap}
 use Rattle.dkg_secrets.specs.Keys.{key_cmp}
 use Rattle.std.specs.Option.{is_some}
-use Rattle.dkg_journal.specs.Records.{Entry}
+use Rattle.dkg_journal.specs.Records.{SectionEntry}
 use Rattle.dkg_store.specs.Acts.{Acts, Goes, bind}
 use Rattle.dkg_store.specs.Calls.{sharing, recording, noting, pruning}
 use Rattle.dkg_store.specs.Chain.{taken_by}
@@ -20,7 +20,7 @@ returns-in_err-share-clause-acts g c = λ disk secrets out.
     let p = err_from_is_err_and c.from_residual.result c.from_residual.ensures.1 in
     let dealing = recording (map.contains_key c.args.store.now.dealings (c.args.epoch, c.args.dealer)) c.args.epoch c.args.dealer c.args.public c.args.private in
     let known = map.contains_key c.args.store.now.acks (c.args.epoch, c.args.dealer) in
-    let e : Entry = (c.args.epoch, event_spelling (events.Ack c.args.dealer c.args.ack)) in
+    let e : SectionEntry = (c.args.epoch, event_spelling (events.Ack c.args.dealer c.args.ack)) in
     rw (p.1, p.2) (ends_early {acts = sharing c.args.epoch} (λ (had : Option ℕ). taken_by (is_some had) dealing known e c.args.epoch) _ (c.in_err-share.ensures.acts disk secrets out))
 
 pub returns-in_err-new-clause-acts : goal.returns-in_err-new-clause-acts
@@ -28,7 +28,7 @@ returns-in_err-new-clause-acts g c = λ disk secrets out.
     let p = err_from_is_err_and c.from_residual-in_err-new.result c.from_residual-in_err-new.ensures.1 in
     let dealing = recording (map.contains_key c.share.new.self.dealings (c.args.epoch, c.args.dealer)) c.args.epoch c.args.dealer c.args.public c.args.private in
     let known = map.contains_key c.share.new.self.acks (c.args.epoch, c.args.dealer) in
-    let e : Entry = (c.args.epoch, event_spelling (events.Ack c.args.dealer c.args.ack)) in
+    let e : SectionEntry = (c.args.epoch, event_spelling (events.Ack c.args.dealer c.args.ack)) in
     rw (p.1, p.2, ← c.share.ensures.store) (made_next {acts = sharing c.args.epoch} (λ (had : Option ℕ). taken_by (is_some had) dealing known e c.args.epoch) (c.in_ok-share.ensures.acts disk secrets out)
     (not_had dealing known e c.args.epoch _ (sym c.is_some.ensures ∙ c.if-is_some.false)
     (ends_early {acts = dealing} (λ (new : Bool). bind (noting known e) (λ (noted : Bool). bind (pruning c.args.epoch) (λ gone. Goes new))) _ (c.in_err-new.ensures.acts disk secrets out))))
@@ -38,7 +38,7 @@ returns-in_err-append_ack-clause-acts g c = λ disk secrets out.
     let p = err_from_is_err_and c.from_residual-in_err-append_ack.result c.from_residual-in_err-append_ack.ensures.1 in
     let dealing = recording (map.contains_key c.share.new.self.dealings (c.args.epoch, c.args.dealer)) c.args.epoch c.args.dealer c.args.public c.args.private in
     let known = map.contains_key c.share.new.self.acks (c.args.epoch, c.args.dealer) in
-    let e : Entry = (c.args.epoch, event_spelling (events.Ack c.args.dealer c.args.ack)) in
+    let e : SectionEntry = (c.args.epoch, event_spelling (events.Ack c.args.dealer c.args.ack)) in
     rw (p.1, p.2, ← c.share.ensures.store) (made_next {acts = sharing c.args.epoch} (λ (had : Option ℕ). taken_by (is_some had) dealing known e c.args.epoch) (c.in_ok-share.ensures.acts disk secrets out)
     (not_had dealing known e c.args.epoch _ (sym c.is_some.ensures ∙ c.if-is_some.false)
     (made_next {acts = dealing} (λ (new : Bool). bind (noting known e) (λ (noted : Bool). bind (pruning c.args.epoch) (λ gone. Goes new))) (c.in_ok-new.ensures.acts disk secrets out)
@@ -51,7 +51,7 @@ returns-in_err-prune-clause-acts g c = λ disk secrets out.
     let p = err_from_is_err_and c.from_residual-in_err-prune.result c.from_residual-in_err-prune.ensures.1 in
     let dealing = recording (map.contains_key c.share.new.self.dealings (c.args.epoch, c.args.dealer)) c.args.epoch c.args.dealer c.args.public c.args.private in
     let known = map.contains_key c.share.new.self.acks (c.args.epoch, c.args.dealer) in
-    let e : Entry = (c.args.epoch, event_spelling (events.Ack c.args.dealer c.args.ack)) in
+    let e : SectionEntry = (c.args.epoch, event_spelling (events.Ack c.args.dealer c.args.ack)) in
     rw (p.1, p.2, ← c.share.ensures.store) (made_next {acts = sharing c.args.epoch} (λ (had : Option ℕ). taken_by (is_some had) dealing known e c.args.epoch) (c.in_ok-share.ensures.acts disk secrets out)
     (not_had dealing known e c.args.epoch _ (sym c.is_some.ensures ∙ c.if-is_some.false)
     (made_next {acts = dealing} (λ (new : Bool). bind (noting known e) (λ (noted : Bool). bind (pruning c.args.epoch) (λ gone. Goes new))) (c.in_ok-new.ensures.acts disk secrets out)
@@ -64,7 +64,7 @@ pub returns-clause-acts : goal.returns-clause-acts
 returns-clause-acts g c = λ disk secrets out.
     let dealing = recording (map.contains_key c.share.new.self.dealings (c.args.epoch, c.args.dealer)) c.args.epoch c.args.dealer c.args.public c.args.private in
     let known = map.contains_key c.share.new.self.acks (c.args.epoch, c.args.dealer) in
-    let e : Entry = (c.args.epoch, event_spelling (events.Ack c.args.dealer c.args.ack)) in
+    let e : SectionEntry = (c.args.epoch, event_spelling (events.Ack c.args.dealer c.args.ack)) in
     rw (← c.share.ensures.store) (made_next {acts = sharing c.args.epoch} (λ (had : Option ℕ). taken_by (is_some had) dealing known e c.args.epoch) (c.in_ok-share.ensures.acts disk secrets out)
     (not_had dealing known e c.args.epoch _ (sym c.is_some.ensures ∙ c.if-is_some.false)
     (made_next {acts = dealing} (λ (new : Bool). bind (noting known e) (λ (noted : Bool). bind (pruning c.args.epoch) (λ gone. Goes new))) (c.in_ok-new.ensures.acts disk secrets out)

@@ -19,12 +19,12 @@ pairs-preserved c =
     let reads = subst (λ (d : List (ℕ × Address)). ReadsIf (begins (codes "address")) (address_at d) text (Ok c.in_ok-pair.field-0) rest) c.deref.ensures.value c.in_ok-pair.ensures.reads in
     let at = more_if (begins (codes "address")) address_at done text rest c.in_ok-pair.field-0 pair _ c.pairs.invariant.at c.in-Some.is reads c.in_ok-pair.ensures.on in
     let is_over = subst (λ (o : Option (ℕ × Address)). IfSome o (λ line. IsTrue (is_above (keys_of c.deref.result.now) line.0))) c.in-Some.is c.in_ok-pair.ensures.above in
-    let has_room = subst (λ (o : Option (ℕ × Address)). IfSome o (λ _. length c.deref.result.now + 1 < 2 ^ 32)) c.in-Some.is c.in_ok-pair.ensures.few in
+    let has_room = subst (λ (o : Option (ℕ × Address)). IfSome o (λ _. length c.deref.result.now + 1 < 2 ^ 32)) c.in-Some.is c.in_ok-pair.ensures.in_bound in
     let above : is_above (keys_of done) pair.0 ≡ true = subst (λ (d : List (ℕ × Address)). is_above (keys_of d) pair.0 ≡ true) c.deref.ensures.value is_over in
     let room : length done + 1 < 2 ^ 32 = subst (λ (d : List (ℕ × Address)). length d + 1 < 2 ^ 32) c.deref.ensures.value has_room in
     let size = length-append done (pair ∷ []) in
     let few : length (done ++ pair ∷ []) < 2 ^ 32 = omega (arith, size, room) in
-    record { at = rw c.in_ok-push.ensures.items at; rising = rw c.in_ok-push.ensures.items (pair_above done pair c.pairs.invariant.rising above); few = rw c.in_ok-push.ensures.items few }
+    record { at = rw c.in_ok-push.ensures.items at; rising = rw c.in_ok-push.ensures.items (pair_above done pair c.pairs.invariant.rising above); in_bound = rw c.in_ok-push.ensures.items few }
 
 pub returns-clause-reads : goal.returns-clause-reads
 returns-clause-reads c =

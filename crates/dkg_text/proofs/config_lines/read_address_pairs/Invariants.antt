@@ -11,7 +11,7 @@ abbrev pub invariant-pairs : goal.invariant-pairs
 invariant-pairs l = record {
   at : IsLeft (begins (codes "address")) (address_at) l.pairs.items l.lines.rest.now (many_at (begins (codes "address")) (address_at) l.initial.lines.rest.now);
   rising : IsStrictlyIncreasing (keys_of l.pairs.items);
-  few : length l.pairs.items < 2 ^ 32;
+  in_bound : length l.pairs.items < 2 ^ 32;
 }
 
 abbrev pub decreases-pairs : goal.decreases-pairs

@@ -11,7 +11,7 @@ invariant_of-result c =
     let is = dedup_is _ _ _ c.dedup.ensures.filtered in
     let moved = length_permutation _ _ c.sort_unstable.ensures.permutation in
     let bound : vec_len c.dedup.new.self ≤ vec_len c.sort_unstable.new.self = c.dedup.ensures.bound in
-    record { rising = rw is (IsStrictlyIncreasing-dedup _ c.sort_unstable.ensures.sorted); few = omega (arith, moved, bound, c.requires); small = λ i. rw (← c.deref.ensures.value) (c.known.ensures i) }
+    record { rising = rw is (IsStrictlyIncreasing-dedup _ c.sort_unstable.ensures.sorted); in_bound = omega (arith, moved, bound, c.requires); small = λ i. rw (← c.deref.ensures.value) (c.known.ensures i) }
 
 pub returns-clause-members : goal.returns-clause-members
 returns-clause-members c =

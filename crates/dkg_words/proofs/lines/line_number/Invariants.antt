@@ -5,5 +5,5 @@ use Rattle.dkg_words.proofs.lines.line_number.Given as goal
 abbrev pub invariant-loop-byte : goal.invariant-loop-byte
 invariant-loop-byte l = record {
   counted : l.number + feeds (drop l.byte-index l.byte-items) ≡ 1 + feeds l.byte-items;
-  few : l.number ≤ 1 + l.byte-index;
+  in_bound : l.number ≤ 1 + l.byte-index;
 }

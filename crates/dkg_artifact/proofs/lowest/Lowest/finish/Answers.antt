@@ -12,10 +12,10 @@ pairs_of-requires-clause-enough c =
     let same : c.replace-logs.result.entries ≡ with_log c.args.log c.args.self.now = ap (λ (m : BTreeMap ℕ DealerLog). m.entries) c.replace-logs.ensures.value ∙ c.self.view_is ∙ c.in_ok-add.ensures.done in
     subst (λ (l : LogMap). length l ≤ vec_capacity c.in_ok-room.room) (sym same) (omega arith)
 
-pub in_order-requires-clause-few : goal.in_order-requires-clause-few
-in_order-requires-clause-few c =
+pub in_order-requires-clause-in_bound : goal.in_order-requires-clause-in_bound
+in_order-requires-clause-in_bound c =
     let long = log_length c.args.log c.args.self.now in
-    let few = c.in_ok-room.ensures.few in
+    let few = c.in_ok-room.ensures.in_bound in
     let same : c.replace-logs.result.entries ≡ with_log c.args.log c.args.self.now = ap (λ (m : BTreeMap ℕ DealerLog). m.entries) c.replace-logs.ensures.value ∙ c.self.view_is ∙ c.in_ok-add.ensures.done in
     let size : length c.replace-logs.result.entries ≡ length (with_log c.args.log c.args.self.now) = ap (λ (l : LogMap). length l) same in
     omega (arith, c.pairs_of.ensures.count)

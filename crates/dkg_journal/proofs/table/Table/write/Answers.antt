@@ -1,7 +1,7 @@
 use Rattle.std.proofs.Common.{◌≡◌, ◌≤◌, length, Some, sym, ◌∙◌, ap, subst, rules}
 use Rattle.std.specs.Option.{option_copied_mut}
 use Rattle.std.proofs.lemmas.Option.{same_Some, none-some}
-use Rattle.dkg_journal.specs.Kept.{Kept, AreWithin, wrote}
+use Rattle.dkg_journal.specs.Kept.{KeptBytes, AreWithin, wrote}
 use Rattle.dkg_journal.proofs.Rows.{found_file, found_some, found_update, found_same, missing_file, as_update}
 use Rattle.dkg_journal.proofs.Synced.{kept_wrote, update_synced, same_synced}
 use Rattle.dkg_journal.proofs.table.Table.write.Goals as goal
@@ -9,7 +9,7 @@ use Rattle.dkg_journal.proofs.table.Table.write.Goals as goal
 pub write-requires : goal.write-requires
 write-requires c =
     let found = found_file c.args.name c.self.inside.held.entries c.args.self.now c.in-Some.file.now c.self.view_is (ap option_copied_mut (sym c.in-Some.is) ∙ c.get_mut.ensures.value) in
-    subst (λ (f : Kept). c.args.place ≤ length f.bytes) (same_Some c.requires.0 c.in-Some.file.now (sym c.requires.1 ∙ found)) c.requires.2
+    subst (λ (f : KeptBytes). c.args.place ≤ length f.bytes) (same_Some c.requires.0 c.in-Some.file.now (sym c.requires.1 ∙ found)) c.requires.2
 
 pub unreachable-requires : goal.unreachable-requires
 unreachable-requires c =
@@ -36,8 +36,8 @@ returns-clause-done c = λ f there.
     let found = ap option_copied_mut (sym c.in-Some.is) ∙ c.get_mut.ensures.value in
     let same : c.in-Some.file.now ≡ f = same_Some c.in-Some.file.now f (sym (found_file c.args.name es rows c.in-Some.file.now c.self.view_is found) ∙ there) in
     let update = found_update c.args.name es rows c.in-Some.file.now c.self.view_is found g (c.get_mut.follows.lender g).entries ((c.get_mut.follows.holds g).3 (found_some c.args.name es rows c.in-Some.file.now c.self.view_is found)).0 in (
-      subst (λ (k : Kept). k.synced ≤ length k.bytes) same c.write.ensures.sound,
-      as_update _ _ c.args.name _ _ (ap (λ (k : Kept). Some k) c.in_ok-write-in-Some.ensures.done ∙ ap (λ (k : Kept). Some (wrote c.args.place c.args.bytes.now k)) same) update,
+      subst (λ (k : KeptBytes). k.synced ≤ length k.bytes) same c.write.ensures.sound,
+      as_update _ _ c.args.name _ _ (ap (λ (k : KeptBytes). Some k) c.in_ok-write-in-Some.ensures.done ∙ ap (λ (k : KeptBytes). Some (wrote c.args.place c.args.bytes.now k)) same) update,
     )
 
 pub returns-clause-synced : goal.returns-clause-synced
@@ -45,6 +45,6 @@ returns-clause-synced c =
     let f = c.requires.0 in
     let found = found_file c.args.name c.self.inside.held.entries c.args.self.now c.in-Some.file.now c.self.view_is (ap option_copied_mut (sym c.in-Some.is) ∙ c.get_mut.ensures.value) in
     let same : c.in-Some.file.now ≡ f = same_Some c.in-Some.file.now f (sym found ∙ c.requires.1) in
-    let sound = subst (λ (k : Kept). k.synced ≤ length k.bytes) same c.write.ensures.sound in
-    let within = subst (λ (k : Kept). AreWithin k.undo (length k.bytes)) same c.write.ensures.within in
+    let sound = subst (λ (k : KeptBytes). k.synced ≤ length k.bytes) same c.write.ensures.sound in
+    let within = subst (λ (k : KeptBytes). AreWithin k.undo (length k.bytes)) same c.write.ensures.within in
     update_synced c.args.name f (wrote c.args.place c.args.bytes.now f) _ _ c.requires.1 (kept_wrote c.args.place c.args.bytes.now f sound within c.requires.2) (returns-clause-done c f c.requires.1).1

@@ -228,4 +228,4 @@ pub config_of-requires : goal.config_of-requires
 config_of-requires g c = c.requires.here.form.rising
 
 pub new-requires : goal.new-requires
-new-requires g c = record { few = subst (λ (n : NonZeroU32). non_zero_u32_get n ≤ 2 ^ 30) (sym c.in_ok-config.ensures.5) c.requires.here.form.few }
+new-requires g c = record { in_bound = subst (λ (n : NonZeroU32). non_zero_u32_get n ≤ 2 ^ 30) (sym c.in_ok-config.ensures.5) c.requires.here.form.in_bound }

@@ -3,7 +3,7 @@ use Rattle.std.specs.Prelude.{◌||◌, ⊤, not}
 use Rattle.std.specs.Cmp.{nat_cmp_total}
 use Rattle.std.specs.FinMap as map
 use Rattle.std.proofs.lemmas.Result.{err_from_is_err_and}
-use Rattle.dkg_store.specs.Dealer.{AckMap, IsDealerOf, outcome_of}
+use Rattle.dkg_store.specs.Dealer.{AckMap, IsDealerOf, ack_outcome_of}
 use Rattle.dkg_store.specs.Events.{event_spelling}
 use Rattle.dkg_store.specs.Noted.{noted_ack, noted_log}
 use Rattle.dkg_store.specs.declared.event.Event.TheVariants as events
@@ -123,7 +123,7 @@ returns-in_err-keep_ack-clause-due g c =
 
 pub returns-then-is_some-clause-handled : goal.returns-then-is_some-clause-handled
 returns-then-is_some-clause-handled g c = record {
-  answers = (c.in_ok-check.ensures.passed, ap (λ (b : Bool). outcome_of b (map.contains_key c.args.store.now.acks (c.args.epoch, c.args.player))) (sym (ap is_some (sym c.kept_ack.ensures) ∙ sym c.is_some.ensures ∙ c.if-is_some.true)));
+  answers = (c.in_ok-check.ensures.passed, ap (λ (b : Bool). ack_outcome_of b (map.contains_key c.args.store.now.acks (c.args.epoch, c.args.player))) (sym (ap is_some (sym c.kept_ack.ensures) ∙ sym c.is_some.ensures ∙ c.if-is_some.true)));
   rest = refl;
   counted = made_old _ _ _ (ap not (ap is_some (sym c.kept_ack.ensures) ∙ sym c.is_some.ensures ∙ c.if-is_some.true));
   recorded = record { acks = made_old _ _ _ (ap (λ (b : Bool). not (b || (map.contains_key c.args.store.now.acks (c.args.epoch, c.args.player)))) (ap is_some (sym c.kept_ack.ensures) ∙ sym c.is_some.ensures ∙ c.if-is_some.true)); logs = refl; dealings = refl; restored = refl; current = refl };

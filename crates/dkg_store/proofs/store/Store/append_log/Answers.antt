@@ -6,7 +6,7 @@ use Rattle.dkg_store.specs.Both.{on_disk}
 use Rattle.dkg_store.specs.declared.event.Event.TheVariants as events
 use Rattle.dkg_store.specs.Errors.{IsOfDevices}
 use Rattle.dkg_store.specs.Noted.{noted_ack, noted_log}
-use Rattle.dkg_store.specs.Pairs.{dealing_of}
+use Rattle.dkg_store.specs.Pairs.{recorded_dealing}
 use Rattle.dkg_store.specs.Acts.{IsBetween, broken}
 use Rattle.dkg_store.specs.Calls.{cause_of}
 use Rattle.dkg_store.specs.declared.call.StoreError.{StoreError}
@@ -83,7 +83,7 @@ returns-in_err-append_event-clause-gives g c told =
     let p = err_from_is_err_and c.from_residual-in_err-append_event.result c.from_residual-in_err-append_event.ensures.1 in
     let fresh = unknown c.args.self.now.logs (c.args.epoch, c.args.dealer) c.get.result c.is_some.result c.get.ensures c.is_some.ensures c.if-is_some.false in
     rw p.1 (note_put noted_log noted_ack c.args.self.now.logs (c.args.epoch, c.args.dealer) (record { height = Some c.args.height; log = c.args.log }) (c.args.epoch, c.deref.result.now) (none_there c.args.self.now.logs (c.args.epoch, c.args.dealer) fresh)
-    (ap (λ (b : List ℕ). noted_log (c.args.epoch, b)) (c.deref.ensures.value ∙ c.in_ok-body.ensures) ∙ says_log c.args.epoch (events.LogAt c.args.dealer c.args.height c.args.log) c.log_fits.ensures) (ap (λ (b : List ℕ). noted_ack (c.args.epoch, b)) (c.deref.ensures.value ∙ c.in_ok-body.ensures) ∙ says_ack c.args.epoch (events.LogAt c.args.dealer c.args.height c.args.log) c.log_fits.ensures) (ap (λ (b : List ℕ). dealing_of (c.args.epoch, b)) (c.deref.ensures.value ∙ c.in_ok-body.ensures) ∙ says_dealing c.args.epoch (events.LogAt c.args.dealer c.args.height c.args.log) c.log_fits.ensures) _ _ (ap (λ (s : _). g.X.SecretStore.held s) c.append_event.ensures.secrets) _ _ (c.append_event.ensures.images told))
+    (ap (λ (b : List ℕ). noted_log (c.args.epoch, b)) (c.deref.ensures.value ∙ c.in_ok-body.ensures) ∙ says_log c.args.epoch (events.LogAt c.args.dealer c.args.height c.args.log) c.log_fits.ensures) (ap (λ (b : List ℕ). noted_ack (c.args.epoch, b)) (c.deref.ensures.value ∙ c.in_ok-body.ensures) ∙ says_ack c.args.epoch (events.LogAt c.args.dealer c.args.height c.args.log) c.log_fits.ensures) (ap (λ (b : List ℕ). recorded_dealing (c.args.epoch, b)) (c.deref.ensures.value ∙ c.in_ok-body.ensures) ∙ says_dealing c.args.epoch (events.LogAt c.args.dealer c.args.height c.args.log) c.log_fits.ensures) _ _ (ap (λ (s : _). g.X.SecretStore.held s) c.append_event.ensures.secrets) _ _ (c.append_event.ensures.images told))
 
 pub returns-in_err-append_event-clause-extends : goal.returns-in_err-append_event-clause-extends
 returns-in_err-append_event-clause-extends g c told =
@@ -108,7 +108,7 @@ pub returns-clause-gives : goal.returns-clause-gives
 returns-clause-gives g c told =
     let fresh = unknown c.args.self.now.logs (c.args.epoch, c.args.dealer) c.get.result c.is_some.result c.get.ensures c.is_some.ensures c.if-is_some.false in
     note_done noted_log noted_ack c.args.self.now.logs (c.args.epoch, c.args.dealer) (record { height = Some c.args.height; log = c.args.log }) (c.args.epoch, c.deref.result.now) (none_there c.args.self.now.logs (c.args.epoch, c.args.dealer) fresh)
-    (ap (λ (b : List ℕ). noted_log (c.args.epoch, b)) (c.deref.ensures.value ∙ c.in_ok-body.ensures) ∙ says_log c.args.epoch (events.LogAt c.args.dealer c.args.height c.args.log) c.log_fits.ensures) (ap (λ (b : List ℕ). noted_ack (c.args.epoch, b)) (c.deref.ensures.value ∙ c.in_ok-body.ensures) ∙ says_ack c.args.epoch (events.LogAt c.args.dealer c.args.height c.args.log) c.log_fits.ensures) (ap (λ (b : List ℕ). dealing_of (c.args.epoch, b)) (c.deref.ensures.value ∙ c.in_ok-body.ensures) ∙ says_dealing c.args.epoch (events.LogAt c.args.dealer c.args.height c.args.log) c.log_fits.ensures) _ _ (ap (λ (s : _). g.X.SecretStore.held s) c.append_event.ensures.secrets) _ _ (c.append_event.ensures.images told) (c.in_ok-append_event.ensures.added told)
+    (ap (λ (b : List ℕ). noted_log (c.args.epoch, b)) (c.deref.ensures.value ∙ c.in_ok-body.ensures) ∙ says_log c.args.epoch (events.LogAt c.args.dealer c.args.height c.args.log) c.log_fits.ensures) (ap (λ (b : List ℕ). noted_ack (c.args.epoch, b)) (c.deref.ensures.value ∙ c.in_ok-body.ensures) ∙ says_ack c.args.epoch (events.LogAt c.args.dealer c.args.height c.args.log) c.log_fits.ensures) (ap (λ (b : List ℕ). recorded_dealing (c.args.epoch, b)) (c.deref.ensures.value ∙ c.in_ok-body.ensures) ∙ says_dealing c.args.epoch (events.LogAt c.args.dealer c.args.height c.args.log) c.log_fits.ensures) _ _ (ap (λ (s : _). g.X.SecretStore.held s) c.append_event.ensures.secrets) _ _ (c.append_event.ensures.images told) (c.in_ok-append_event.ensures.added told)
 
 pub returns-clause-extends : goal.returns-clause-extends
 returns-clause-extends g c told = extends_alike refl (c.deref.ensures.value ∙ c.in_ok-body.ensures) (c.in_ok-append_event.ensures.extends told)

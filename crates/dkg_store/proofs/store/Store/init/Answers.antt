@@ -3,7 +3,7 @@ use Rattle.dkg_values.specs.declared.name.Name.{Name}
 use Rattle.dkg_journal.specs.Names.{Files}
 use Rattle.dkg_journal.specs.Gated.{gated, gated_entries}
 use Rattle.std.specs.Int.NonZero.{non_zero_u32_get}
-use Rattle.dkg_journal.specs.Records.{Entry, entries}
+use Rattle.dkg_journal.specs.Records.{SectionEntry, entries}
 use Rattle.dkg_journal.specs.declared.opening.JournalEntry.{JournalEntry}
 use Rattle.dkg_store.specs.Corrupt.{AreEvents, BeginsWithEvent, IsAlien}
 use Rattle.dkg_store.specs.Events.{no_event_at}
@@ -54,7 +54,7 @@ returns-in_err-recorded-clause-acts g c = λ told_disk told_secrets whole alien 
     let p = err_from_is_err_and c.from_residual-in_err-recorded.result c.from_residual-in_err-recorded.ensures.1 in
     let ends = ap (λ (r : Result (Store g.row.Dir.Denot) StoreError). ended_as (λ (store : Store g.row.Dir.Denot). (store.dealings, store.acks, store.logs)) r) (p.1 ∙ ap (λ (e : StoreError). Err e) p.2) in
     made_next (λ (u : Unit {0}). reading alien) (c.in_ok-journal.ensures.acts told_disk whole out (g.X.SecretStore.held c.args.devices.now.secrets.now))
-    (read_ends (non_zero_u32_get c.args.limit) (g.D.Disk.files c.args.devices.now.disk.now) alien c.in_err-recorded.field-0.0 c.in_err-recorded.ensures.kinds
+    (read_ends (non_zero_u32_get c.args.limit) (g.D.Disk.files c.args.devices.now.disk.now) alien c.in_err-recorded.field-0.0 c.in_err-recorded.ensures.error_kinds
     (λ name q is.
     let here = c.in_err-recorded.ensures.corrupt name q (ap (λ (e : StoreError). Err e) is) in
     corrupt_at (non_zero_u32_get c.args.limit) (g.D.Disk.files c.args.devices.now.disk.now) c.in_ok-journal.journal.waiting.items name q whole ((c.in_ok-journal.ensures.opens told_disk).gated)
@@ -62,7 +62,7 @@ returns-in_err-recorded-clause-acts g c = λ told_disk told_secrets whole alien 
     (λ events name q is.
     let here = c.in_err-recorded.ensures.corrupt name q (ap (λ (e : StoreError). Err e) is) in
     no_place (no_event_at (non_zero_u32_get c.args.limit) c.in_ok-journal.journal.waiting.items) (name, q) (sym (first_there c.get.ensures.value c.deref.ensures.value c.replay-entries.ensures.listed) ∙ here)
-    (no_other (non_zero_u32_get c.args.limit) c.in_ok-journal.journal.waiting.items (subst (λ (es : List Entry). AreEvents (non_zero_u32_get c.args.limit) es) (sym (c.in_ok-journal.ensures.opens told_disk).listed) events)))
+    (no_other (non_zero_u32_get c.args.limit) c.in_ok-journal.journal.waiting.items (subst (λ (es : List SectionEntry). AreEvents (non_zero_u32_get c.args.limit) es) (sym (c.in_ok-journal.ensures.opens told_disk).listed) events)))
     is_alien ends c.restore.ensures.same)
 
 pub returns-in_err-restored-clause-acts : goal.returns-in_err-restored-clause-acts
@@ -79,7 +79,7 @@ returns-clause-acts g c = λ told_disk told_secrets whole alien is_alien out.
     let read : c.deref.result.now ≡ c.in_ok-journal.journal.waiting.items = c.deref.ensures.value ∙ c.replay-entries.ensures.listed in
     let stands : views c.in_ok-journal.journal.waiting.items ≡ entries (g.D.Disk.files c.open_journal.new.disk) = (c.in_ok-journal.ensures.opens told_disk).listed ∙ sym ((c.in_ok-journal.ensures.opens told_disk).settled (g.D.Disk.files c.open_journal.new.disk) (g.met.D.Disk.reads _ told_disk)) in
     let es : views c.deref.result.now ≡ entries (g.D.Disk.files c.open_journal.new.disk) = ap views read ∙ stands in
-    let dealings = c.in_ok-recorded.ensures.given told_secrets ∙ ap (λ (l : List Entry). recovered l (g.X.SecretStore.held c.args.devices.now.secrets.now)) es in
+    let dealings = c.in_ok-recorded.ensures.given told_secrets ∙ ap (λ (l : List SectionEntry). recovered l (g.X.SecretStore.held c.args.devices.now.secrets.now)) es in
     let acks = c.in_ok-recorded.ensures.acks ∙ ap acks_in es in
     let logs = c.in_ok-recorded.ensures.logs ∙ ap logs_in es in
     λ i. (dealings i, acks i, logs i)))
@@ -95,7 +95,7 @@ pub returns-in_err-recorded-clause-answer : goal.returns-in_err-recorded-clause-
 returns-in_err-recorded-clause-answer g c = λ name place told at.
     let p = err_from_is_err_and c.from_residual-in_err-recorded.result c.from_residual-in_err-recorded.ensures.1 in
     answered (non_zero_u32_get c.args.limit) (g.D.Disk.files c.args.devices.now.disk.now) c.from_residual-in_err-recorded.result p.0 p.1
-    (subst IsOfOpening (sym p.2) (of_restoring_too c.in_err-recorded.field-0.0 c.in_err-recorded.ensures.kinds))
+    (subst IsOfOpening (sym p.2) (of_restoring_too c.in_err-recorded.field-0.0 c.in_err-recorded.ensures.error_kinds))
     (λ name q is. let here = c.in_err-recorded.ensures.corrupt name q (ap (λ (e : StoreError). Err e) (sym p.2 ∙ is)) in
     corrupt_at (non_zero_u32_get c.args.limit) (g.D.Disk.files c.args.devices.now.disk.now) c.in_ok-journal.journal.waiting.items name q (c.in_ok-journal.ensures.opens told).whole (c.in_ok-journal.ensures.opens told).gated
     (sym (first_there c.get.ensures.value c.deref.ensures.value c.replay-entries.ensures.listed) ∙ here)) name place at
@@ -125,8 +125,8 @@ returns-in_err-recorded-clause-opens g c = λ told fit.
     let none : no_event_at c.get.result c.deref.result.now ≡ None =
     ap (λ (n : ℕ). no_event_at n c.deref.result.now) c.get.ensures.value
     ∙ ap (λ (es : List JournalEntry). no_event_at (non_zero_u32_get c.args.limit) es) (c.deref.ensures.value ∙ c.replay-entries.ensures.listed)
-    ∙ no_other (non_zero_u32_get c.args.limit) c.in_ok-journal.journal.waiting.items (subst (λ (es : List Entry). AreEvents (non_zero_u32_get c.args.limit) es) (sym (c.in_ok-journal.ensures.opens told).listed) events) in
-    let of_devices : IsOfDevices c.in_err-recorded.field-0.0 = not_corrupt c.in_err-recorded.field-0.0 (of_restoring_too c.in_err-recorded.field-0.0 c.in_err-recorded.ensures.kinds)
+    ∙ no_other (non_zero_u32_get c.args.limit) c.in_ok-journal.journal.waiting.items (subst (λ (es : List SectionEntry). AreEvents (non_zero_u32_get c.args.limit) es) (sym (c.in_ok-journal.ensures.opens told).listed) events) in
+    let of_devices : IsOfDevices c.in_err-recorded.field-0.0 = not_corrupt c.in_err-recorded.field-0.0 (of_restoring_too c.in_err-recorded.field-0.0 c.in_err-recorded.ensures.error_kinds)
     (λ name place is. no_place (no_event_at c.get.result c.deref.result.now) (name, place) (c.in_err-recorded.ensures.corrupt name place (ap (λ (e : StoreError). Err e) is)) none) in
     rw p.1 (subst IsOfDevices (sym p.2) of_devices)
 
@@ -168,11 +168,11 @@ returns-clause-restores g c =
       current = refl;
       listed = c.in_ok-restored.ensures;
       opened = λ told. is_open_there c.in_ok-journal.journal c.replay-entries.new.self _ _ (c.in_ok-journal.ensures.opens told).opened c.replay-entries.ensures.places;
-      dealings = λ told told_secrets. let its = c.in_ok-journal.ensures.opens told in c.in_ok-recorded.ensures.given told_secrets ∙ ap (λ (es : List Entry). recovered es (g.X.SecretStore.held c.args.devices.now.secrets.now)) (ap views (c.deref.ensures.value ∙ c.replay-entries.ensures.listed) ∙ its.listed);
+      dealings = λ told told_secrets. let its = c.in_ok-journal.ensures.opens told in c.in_ok-recorded.ensures.given told_secrets ∙ ap (λ (es : List SectionEntry). recovered es (g.X.SecretStore.held c.args.devices.now.secrets.now)) (ap views (c.deref.ensures.value ∙ c.replay-entries.ensures.listed) ∙ its.listed);
       acks = λ told. let its = c.in_ok-journal.ensures.opens told in c.in_ok-recorded.ensures.acks ∙ ap acks_in (ap views (c.deref.ensures.value ∙ c.replay-entries.ensures.listed) ∙ its.listed);
       logs = λ told. let its = c.in_ok-journal.ensures.opens told in c.in_ok-recorded.ensures.logs ∙ ap logs_in (ap views (c.deref.ensures.value ∙ c.replay-entries.ensures.listed) ∙ its.listed);
       holds = λ told told_secrets whole. let its = c.in_ok-journal.ensures.opens told in
-          restored_holds _ (g.D.Disk.files c.args.devices.now.disk.now) _ _ _ its.settled c.restore.ensures.same (c.in_ok-recorded.ensures.given told_secrets ∙ ap (λ (es : List Entry). recovered es (g.X.SecretStore.held c.args.devices.now.secrets.now)) (ap views (c.deref.ensures.value ∙ c.replay-entries.ensures.listed) ∙ its.listed)) whole;
+          restored_holds _ (g.D.Disk.files c.args.devices.now.disk.now) _ _ _ its.settled c.restore.ensures.same (c.in_ok-recorded.ensures.given told_secrets ∙ ap (λ (es : List SectionEntry). recovered es (g.X.SecretStore.held c.args.devices.now.secrets.now)) (ap views (c.deref.ensures.value ∙ c.replay-entries.ensures.listed) ∙ its.listed)) whole;
       gives_acks = λ told. let its = c.in_ok-journal.ensures.opens told in record { each = λ m here. ap acks_in (its.settled m here) ∙ sym (c.in_ok-recorded.ensures.acks ∙ ap acks_in (ap views (c.deref.ensures.value ∙ c.replay-entries.ensures.listed) ∙ its.listed)) };
       gives_logs = λ told. let its = c.in_ok-journal.ensures.opens told in record { each = λ m here. ap logs_in (its.settled m here) ∙ sym (c.in_ok-recorded.ensures.logs ∙ ap logs_in (ap views (c.deref.ensures.value ∙ c.replay-entries.ensures.listed) ∙ its.listed)) };
       settled = λ told. (c.in_ok-journal.ensures.opens told).settled;
@@ -183,7 +183,7 @@ returns-clause-restores g c =
           ∙ ap (λ (es : List JournalEntry). no_event_at c.get.result es) (sym c.replay-entries.ensures.listed ∙ sym c.deref.ensures.value)
           ∙ c.in_ok-recorded.ensures.events in (
             (c.in_ok-journal.ensures.opens told).whole,
-            subst (λ (es : List Entry). AreEvents (non_zero_u32_get c.args.limit) es) (c.in_ok-journal.ensures.opens told).listed (all_events (non_zero_u32_get c.args.limit) c.in_ok-journal.journal.waiting.items none),
+            subst (λ (es : List SectionEntry). AreEvents (non_zero_u32_get c.args.limit) es) (c.in_ok-journal.ensures.opens told).listed (all_events (non_zero_u32_get c.args.limit) c.in_ok-journal.journal.waiting.items none),
           );
     }
 
@@ -196,7 +196,7 @@ returns-in_err-journal-clause-due g c =
 pub returns-in_err-recorded-clause-due : goal.returns-in_err-recorded-clause-due
 returns-in_err-recorded-clause-due g c =
     let p = err_from_is_err_and c.from_residual-in_err-recorded.result c.from_residual-in_err-recorded.ensures.1 in
-    rw (p.1, p.2) (due_restoring c.in_err-recorded.field-0.0 _ _ _ _ _ c.in_err-recorded.ensures.kinds
+    rw (p.1, p.2) (due_restoring c.in_err-recorded.field-0.0 _ _ _ _ _ c.in_err-recorded.ensures.error_kinds
     (λ name q is told.
     let here = c.in_err-recorded.ensures.corrupt name q (ap (λ (e : StoreError). Err e) is) in
     let at = corrupt_at (non_zero_u32_get c.args.limit) (g.D.Disk.files c.args.devices.now.disk.now) c.in_ok-journal.journal.waiting.items name q (c.in_ok-journal.ensures.opens told).whole (c.in_ok-journal.ensures.opens told).gated
@@ -207,7 +207,7 @@ returns-in_err-recorded-clause-due g c =
       λ told.
           let begins = c.in_err-recorded.ensures.half (ap (λ (e : StoreError). Err e) is) in
           let read : views c.deref.result.now ≡ entries (g.D.Disk.files c.args.devices.now.disk.now) = ap views (c.deref.ensures.value ∙ c.replay-entries.ensures.listed) ∙ (c.in_ok-journal.ensures.opens told).listed in
-          ((c.in_ok-journal.ensures.opens told).whole, subst (λ (es : List Entry). BeginsWithEvent (non_zero_u32_get c.args.limit) es) read (subst (λ (n : ℕ). BeginsWithEvent n (views c.deref.result.now)) c.get.ensures.value begins)),
+          ((c.in_ok-journal.ensures.opens told).whole, subst (λ (es : List SectionEntry). BeginsWithEvent (non_zero_u32_get c.args.limit) es) read (subst (λ (n : ℕ). BeginsWithEvent n (views c.deref.result.now)) c.get.ensures.value begins)),
     ))
     tt)
 

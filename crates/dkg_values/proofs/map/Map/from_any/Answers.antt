@@ -11,7 +11,7 @@ made g c =
     firsts c.args.pairs.items c.sort_by_key.new.self.items c.dedup_by_key.new.self.items c.sort_by_key.ensures.permutation (c.sort_by_key.ensures.stable key_of keys) (c.in_ok-sort_by_key.ensures.sorted key_of keys) kept
 
 pub invariant_of-result : goal.invariant_of-result
-invariant_of-result g c = record { rising = (made g c).rising; few = omega (arith, c.dedup_by_key.ensures.bound, c.sort_by_key.ensures.len, c.requires); small = λ i. rw (← c.deref.ensures.value) (c.known.ensures i) }
+invariant_of-result g c = record { rising = (made g c).rising; in_bound = omega (arith, c.dedup_by_key.ensures.bound, c.sort_by_key.ensures.len, c.requires); small = λ i. rw (← c.deref.ensures.value) (c.known.ensures i) }
 
 pub returns-clause-exact : goal.returns-clause-exact
 returns-clause-exact g c = (made g c).is

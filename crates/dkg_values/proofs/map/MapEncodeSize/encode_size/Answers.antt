@@ -24,4 +24,4 @@ returns-clause-size g c =
 pub returns-clause-limit : goal.returns-clause-limit
 returns-clause-limit g c = λ most each few small.
     let even = ap length (c.deref-value-items.ensures.value ∙ c.self.view_is) in
-    omega (arith, done_size g.V.Spelled.spelling c.args.self.now c.loop-value.value-index (omega (arith, even)), map_size g.V.Spelled.spelling c.args.self.now, c.loop-value.invariant, map_limit g.V.Spelled.spelling c.args.self.now most each few (omega (arith, c.self.invariant.few, ap length c.self.view_is)) small)
+    omega (arith, done_size g.V.Spelled.spelling c.args.self.now c.loop-value.value-index (omega (arith, even)), map_size g.V.Spelled.spelling c.args.self.now, c.loop-value.invariant, map_limit g.V.Spelled.spelling c.args.self.now most each few (omega (arith, c.self.invariant.in_bound, ap length c.self.view_is)) small)

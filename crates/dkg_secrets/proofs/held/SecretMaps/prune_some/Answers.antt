@@ -1,7 +1,7 @@
 use Rattle.std.proofs.Common.{◌∙◌}
 use Rattle.dkg_secrets.specs.Cuts.{pruned_by}
 use Rattle.dkg_secrets.proofs.Cuts.{pruned_is, pruned_torn}
-use Rattle.dkg_secrets.proofs.held.Held.prune_some.Goals as goal
+use Rattle.dkg_secrets.proofs.held.SecretMaps.prune_some.Goals as goal
 
 pub returns-clause-done : goal.returns-clause-done
 returns-clause-done c =
