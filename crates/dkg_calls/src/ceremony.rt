@@ -1,3 +1,5 @@
+use crate::asserts::{holds, is, is_at};
+use crate::reading::{fault_of, faults_of};
 use dkg_ceremony::*;
 use std::alloc::Global;
 use std::test::Fail;
@@ -8,37 +10,22 @@ const OUTPUT: [u8; 52] = [
     0, 4, 4, 0, 0, 0, 1, 0, 0, 0, 2, 0, 0, 0, 3, 0, 0, 0, 4, 0,
 ];
 
-fn fault_of<T: Drop>(answer: Result<T, CodecError>) -> Option<CodecError> {
-    match answer {
-        Ok(_) => None,
-        Err(fault) => Some(fault),
-    }
-}
-
-fn fault_of_public(alloc: Global, bytes: &[u8]) -> Option<CodecError> {
-    fault_of(decode_cfg::<Public>(alloc, bytes, &4))
-}
-
-fn fault_of_output(alloc: Global, bytes: &[u8], version: u8) -> Option<CodecError> {
-    fault_of(decode_cfg::<Output>(alloc, bytes, &(4, ModeVersion(version))))
-}
+/// Bytes of a public half, and what reading them gives.
+const PUBLICS: &str = "\
+01fff0 None
+- Some(EndOfBuffer)
+0100 Some(EndOfBuffer)
+8000 Some(InvalidVarint)
+00 Some(InvalidLength { got: 0, max: 4 })
+05 Some(InvalidLength { got: 5, max: 4 })
+01fff1 Some(Invalid(Element))
+01000500 Some(ExtraData)
+";
 
 #[test]
 fn publics_are_refused(rt: HostRuntime) -> Result<(), Fail> {
-    let rows: [(&[u8], Option<CodecError>); 8] = [
-        (&[1, 0xff, 0xf0], None),
-        (&[], Some(CodecError::EndOfBuffer)),
-        (&[1, 0], Some(CodecError::EndOfBuffer)),
-        (&[0x80, 0], Some(CodecError::InvalidVarint)),
-        (&[0], Some(CodecError::InvalidLength { got: 0, max: 4 })),
-        (&[5], Some(CodecError::InvalidLength { got: 5, max: 4 })),
-        (&[1, 0xff, 0xf1], Some(CodecError::Invalid(What::Element))),
-        (&[1, 0, 5, 0], Some(CodecError::ExtraData)),
-    ];
-    for (bytes, want) in rows {
-        let fault = fault_of_public(rt.alloc(), bytes);
-        assert_eq!(rt; fault, want, "at {bytes:?}");
-    }
+    let told = faults_of::<Public>(rt.alloc(), PUBLICS, &4)?;
+    is(&rt, told.as_str(), PUBLICS);
     Ok(())
 }
 
@@ -48,7 +35,7 @@ fn fault_of_edit(alloc: Global, place: usize, byte: u8) -> Option<CodecError> {
     if place < 52 {
         bytes[place] = byte;
     }
-    fault_of_output(alloc, &bytes, 0)
+    fault_of::<Output>(alloc, &bytes, &(4, ModeVersion(0)))
 }
 
 #[test]
@@ -66,51 +53,25 @@ fn edited_outputs_are_refused(rt: HostRuntime) -> Result<(), Fail> {
     ];
     for (place, byte, want) in rows {
         let fault = fault_of_edit(rt.alloc(), place, byte);
-        assert_eq!(rt; fault, want, "{byte} at {place}");
+        is_at(&rt, fault, want, (byte, place));
     }
     Ok(())
 }
 
+/// Bytes of an output whose parts are each read, and what reading them gives.
+const OUTPUTS: &str = "\
+000000000000000001010100050001000000070100000007 None
+00000000000000000001020005000100010000000700 Some(Invalid(Output))
+00000000000000000000010005000000 Some(Invalid(Output))
+000000000000000000010100050001000000070100000008 Some(Invalid(Output))
+0000000000000000000101fff100010000000700 Some(Invalid(Element))
+000000000000000000010100050001000000070000 Some(ExtraData)
+";
+
 #[test]
 fn outputs_whose_parts_differ_are_refused(rt: HostRuntime) -> Result<(), Fail> {
-    let invalid = Some(CodecError::Invalid(What::Output));
-    let rows: [(&[u8], Option<CodecError>); 6] = [
-        (
-            &[
-                0, 0, 0, 0, 0, 0, 0, 0, 1, 1, 1, 0, 5, 0, 1, 0, 0, 0, 7, 1, 0, 0, 0, 7,
-            ],
-            None,
-        ),
-        (
-            &[
-                0, 0, 0, 0, 0, 0, 0, 0, 0, 1, 2, 0, 5, 0, 1, 0, 1, 0, 0, 0, 7, 0,
-            ],
-            invalid,
-        ),
-        (&[0, 0, 0, 0, 0, 0, 0, 0, 0, 0, 1, 0, 5, 0, 0, 0], invalid),
-        (
-            &[
-                0, 0, 0, 0, 0, 0, 0, 0, 0, 1, 1, 0, 5, 0, 1, 0, 0, 0, 7, 1, 0, 0, 0, 8,
-            ],
-            invalid,
-        ),
-        (
-            &[
-                0, 0, 0, 0, 0, 0, 0, 0, 0, 1, 1, 0xff, 0xf1, 0, 1, 0, 0, 0, 7, 0,
-            ],
-            Some(CodecError::Invalid(What::Element)),
-        ),
-        (
-            &[
-                0, 0, 0, 0, 0, 0, 0, 0, 0, 1, 1, 0, 5, 0, 1, 0, 0, 0, 7, 0, 0,
-            ],
-            Some(CodecError::ExtraData),
-        ),
-    ];
-    for (bytes, want) in rows {
-        let fault = fault_of_output(rt.alloc(), bytes, 1);
-        assert_eq!(rt; fault, want, "at {bytes:?}");
-    }
+    let told = faults_of::<Output>(rt.alloc(), OUTPUTS, &(4, ModeVersion(1)))?;
+    is(&rt, told.as_str(), OUTPUTS);
     Ok(())
 }
 
@@ -174,7 +135,7 @@ fn rounds_are_drawn(rt: HostRuntime) -> Result<(), Fail> {
     ];
     for (dealers, players, follows, want) in rows {
         let fault = round_fault(rt.alloc(), dealers, players, follows)?;
-        assert_eq!(rt; fault, want, "{dealers} to {players}");
+        is_at(&rt, fault, want, (dealers, players));
     }
     Ok(())
 }
@@ -251,7 +212,7 @@ fn dealings_are_checked(rt: HostRuntime) -> Result<(), Fail> {
     ];
     for (dealer, bytes, value, want) in rows {
         let fault = dealing_fault(rt.alloc(), dealer, bytes, value)?;
-        assert_eq!(rt; fault, want, "{value} of {dealer}");
+        is_at(&rt, fault, want, (value, dealer));
     }
     Ok(())
 }
@@ -291,7 +252,7 @@ fn dealings_are_acknowledged(rt: HostRuntime) -> Result<(), Fail> {
     ];
     for (follows, mark) in rows {
         let ack = worked_ack(rt.alloc(), follows)?;
-        assert_eq!(rt; ack, Some(Ack(Mark(mark))), "follows: {follows}");
+        is_at(&rt, ack, Some(Ack(Mark(mark))), follows);
     }
     Ok(())
 }
@@ -326,7 +287,7 @@ fn acknowledgements_are_checked(rt: HostRuntime) -> Result<(), Fail> {
     ];
     for (player, dealer, want) in rows {
         let fault = ack_fault(rt.alloc(), player, dealer)?;
-        assert_eq!(rt; fault, want, "{player} of {dealer}");
+        is_at(&rt, fault, want, (player, dealer));
     }
     acks_pass::<StandCeremony>();
     Ok(())
@@ -354,8 +315,8 @@ fn marks_are_bound_to_their_domain(rt: HostRuntime) -> Result<(), Fail> {
     ];
     for (domain, bytes) in rows {
         let signer = StandSigner::new(Key(7));
-        assert_eq!(rt; signer.sign(domain, b"abc"), Mark(bytes));
-        assert_eq!(rt; mark_of(Key(7), domain, b"abc"), Mark(bytes));
+        is(&rt, signer.sign(domain, b"abc"), Mark(bytes));
+        is(&rt, mark_of(Key(7), domain, b"abc"), Mark(bytes));
     }
     Ok(())
 }
@@ -372,8 +333,8 @@ fn a_quorum_outlives_faults(rt: HostRuntime) -> Result<(), Fail> {
         (u32::MAX, 1431655764, 2863311531),
     ];
     for (n, faults, enough) in rows {
-        assert_eq!(rt; max_faults(n), faults, "of {n}");
-        assert_eq!(rt; quorum(n), enough, "of {n}");
+        is_at(&rt, max_faults(n), faults, n);
+        is_at(&rt, quorum(n), enough, n);
     }
     Ok(())
 }
@@ -383,26 +344,32 @@ fn a_copied_output_spells_the_same(rt: HostRuntime) -> Result<(), Fail> {
     let alloc = rt.alloc();
     let value = output(alloc)?;
     let copy = value.copy(alloc)?;
-    assert!(rt; copy.same(&value));
+    holds(&rt, copy.same(&value));
     let bytes = encode(alloc, &copy)?;
-    assert_eq!(rt; bytes.as_slice(), OUTPUT.as_slice());
+    is(&rt, bytes.as_slice(), OUTPUT.as_slice());
     Ok(())
 }
 
 #[test]
-fn private_values_are_spelled(rt: HostRuntime) -> Result<(), Fail> {
+fn halves_are_read(rt: HostRuntime) -> Result<(), Fail> {
     let alloc = rt.alloc();
     let private = decode_cfg::<Private>(alloc, &[1, 2], &())?;
-    assert_eq!(rt; private.0.get(), 258);
+    is(&rt, private.0.get(), 258);
     let share = decode_cfg::<Share>(alloc, &[1, 2], &())?;
-    assert_eq!(rt; share.0.get(), 258);
+    is(&rt, share.0.get(), 258);
     let ack = decode_cfg::<Ack>(alloc, &[1, 2, 3, 4, 5, 6, 7, 8], &())?;
-    assert_eq!(rt; ack, Ack(Mark([1, 2, 3, 4, 5, 6, 7, 8])));
-    let elements = [private.0, share.0].to_vec(alloc)?;
-    let bytes = encode(alloc, &Public::new(elements))?;
-    assert_eq!(rt; bytes.as_slice(), [2, 1, 2, 1, 2].as_slice());
-    let bytes = encode(alloc, &private)?;
-    assert_eq!(rt; bytes.as_slice(), [1, 2].as_slice());
+    is(&rt, ack, Ack(Mark([1, 2, 3, 4, 5, 6, 7, 8])));
+    Ok(())
+}
+
+#[test]
+fn halves_are_spelled(rt: HostRuntime) -> Result<(), Fail> {
+    let element = Element::new(258).ok_or("258 is an element")?;
+    let bytes = encode(rt.alloc(), &Private(element))?;
+    is(&rt, bytes.as_slice(), [1, 2].as_slice());
+    let elements = [element, element].to_vec(rt.alloc())?;
+    let bytes = encode(rt.alloc(), &Public::new(elements))?;
+    is(&rt, bytes.as_slice(), [2, 1, 2, 1, 2].as_slice());
     Ok(())
 }
 
@@ -443,16 +410,24 @@ fn share_again(
 
 #[test]
 fn outputs_are_written_and_read(rt: HostRuntime) -> Result<(), Fail> {
-    let alloc = rt.alloc();
-    let value = output(alloc)?;
-    let cfg = (4, ModeVersion(0));
-    let again = read_again(alloc, &value, &cfg)?.ok_or("the limits allow it")?;
-    assert!(rt; again.same(&value));
-    assert_eq!(rt; value.encode_size(), OUTPUT.len());
-    let sharing = share_again(alloc, &value.sharing, &cfg)?.ok_or("the limits allow it")?;
-    assert!(rt; sharing.same(&value.sharing));
-    assert!(rt; read_again(alloc, &value, &(3, ModeVersion(0)))?.is_none());
+    let value = output(rt.alloc())?;
+    let again = read_again(rt.alloc(), &value, &(4, ModeVersion(0)))?;
+    holds(&rt, again.ok_or("the limits allow it")?.same(&value));
+    let few = read_again(rt.alloc(), &value, &(3, ModeVersion(0)))?;
+    holds(&rt, few.is_none());
+    is(&rt, value.encode_size(), 52);
     no_prefix::<Output>();
+    Ok(())
+}
+
+#[test]
+fn sharings_are_written_and_read(rt: HostRuntime) -> Result<(), Fail> {
+    let value = output(rt.alloc())?;
+    let again = share_again(rt.alloc(), &value.sharing, &(4, ModeVersion(0)))?;
+    holds(
+        &rt,
+        again.ok_or("the limits allow it")?.same(&value.sharing),
+    );
     no_prefix::<Sharing>();
     Ok(())
 }
@@ -477,12 +452,12 @@ fn public_has_copy(alloc: Global) -> Result<bool, Fail> {
 #[test]
 fn ceremony_values_are_copied(rt: HostRuntime) -> Result<(), Fail> {
     let alloc = rt.alloc();
-    assert!(rt; round_has_copy(alloc, true)?);
-    assert!(rt; round_has_copy(alloc, false)?);
-    assert!(rt; public_has_copy(alloc)?);
+    holds(&rt, round_has_copy(alloc, true)?);
+    holds(&rt, round_has_copy(alloc, false)?);
+    holds(&rt, public_has_copy(alloc)?);
     let element = Element::new(23).ok_or("23 is an element")?;
     let halves = (Private(element), (Share(element), Ack(Mark([1; 8]))));
-    assert!(rt; has_copy(alloc, &halves)?);
+    holds(&rt, has_copy(alloc, &halves)?);
     Ok(())
 }
 
@@ -496,10 +471,10 @@ fn versions_know_their_modes(rt: HostRuntime) -> Result<(), Fail> {
     ];
     for (version, mode, want) in rows {
         let version = ModeVersion(version);
-        assert_eq!(rt; version.supports(mode), want, "{mode:?} in {version:?}");
+        is_at(&rt, version.supports(mode), want, (mode, version));
         let bytes = encode(rt.alloc(), &mode)?;
         let read = decode_cfg::<Mode>(rt.alloc(), bytes.as_slice(), &version);
-        assert_eq!(rt; read.ok(), want.then_some(mode), "{mode:?} in {version:?}");
+        is_at(&rt, read.ok(), want.then_some(mode), (mode, version));
     }
     Ok(())
 }

@@ -1,4 +1,5 @@
 //! Epochs of a few blocks, and those next to the greatest height, against what a model of them makes.
+use crate::asserts::is_at;
 use dkg_ceremony::{Bounds, Epoch, Epocher, Height, Phase};
 use std::num::NonZeroU64;
 use std::test::Fail;
@@ -34,7 +35,7 @@ fn heights_lie_in_their_epochs(rt: HostRuntime) -> Result<(), Fail> {
     ];
     for (blocks, height, want) in rows {
         let found = epochs_of(blocks)?.containing(Height(height));
-        assert_eq!(rt; found, want, "{height} in epochs of {blocks}");
+        is_at(&rt, found, want, (height, blocks));
     }
     Ok(())
 }
@@ -60,17 +61,14 @@ fn epochs_begin_and_end(rt: HostRuntime) -> Result<(), Fail> {
             Some(heights) => heights.map(|height| Some(Height(height))),
             None => [None, None, None],
         };
-        assert_eq!(rt;
-            epochs.first(Epoch(epoch)),
-            first,
-            "{epoch} of {blocks} begins"
-        );
-        assert_eq!(rt;
+        is_at(&rt, epochs.first(Epoch(epoch)), first, (epoch, blocks));
+        is_at(
+            &rt,
             epochs.midpoint(Epoch(epoch)),
             midpoint,
-            "{epoch} of {blocks} turns"
+            (epoch, blocks),
         );
-        assert_eq!(rt; epochs.last(Epoch(epoch)), last, "{epoch} of {blocks} ends");
+        is_at(&rt, epochs.last(Epoch(epoch)), last, (epoch, blocks));
     }
     Ok(())
 }

@@ -3,11 +3,15 @@
 #![tactic(auto)]
 
 #[cfg(test)]
+mod asserts;
+#[cfg(test)]
 mod ceremony;
 #[cfg(test)]
 mod epochers;
 #[cfg(test)]
 mod logs;
+#[cfg(test)]
+mod reading;
 #[cfg(test)]
 mod rounds;
 #[cfg(test)]

@@ -1,5 +1,7 @@
 //! Logs as bytes, and the worked round of three of them.
+use crate::asserts::{holds, is, is_at};
 use crate::ceremony::{output, worked_round};
+use crate::reading::faults_of;
 use crate::rounds::{deal, finish, map_of, observe};
 use dkg_ceremony::*;
 use std::alloc::Global;
@@ -86,7 +88,7 @@ fn dealings_may_be_missing(rt: HostRuntime) -> Result<(), Fail> {
     ];
     for (count, without, want) in rows {
         let share = share_of(rt.alloc(), count, without)?;
-        assert_eq!(rt; share, want, "{count} logs without {without}");
+        is_at(&rt, share, want, (count, without));
     }
     Ok(())
 }
@@ -98,7 +100,7 @@ fn worked_logs_make_the_outcome(rt: HostRuntime) -> Result<(), Fail> {
     let round = worked_round(alloc, Some(&previous))?;
     let seen = observe(&StandCeremony, alloc, &round, &logs(alloc, 3)?)?;
     let bytes = encode(alloc, &seen.ok_or("three logs are enough")?)?;
-    assert_eq!(rt; bytes.as_slice(), OUTCOME.as_slice());
+    is(&rt, bytes.as_slice(), OUTCOME.as_slice());
     Ok(())
 }
 
@@ -135,7 +137,7 @@ fn logs_are_accepted(rt: HostRuntime) -> Result<(), Fail> {
     ];
     for (dealer, player, want) in rows {
         let accepted = acceptance(rt.alloc(), dealer, player)?;
-        assert_eq!(rt; accepted, want, "{player} in the log of {dealer}");
+        is_at(&rt, accepted, want, (player, dealer));
     }
     Ok(())
 }
@@ -170,41 +172,28 @@ fn shares_are_asked_for(rt: HostRuntime) -> Result<(), Fail> {
     ];
     for (follows, share, want) in rows {
         let refusal = refusal(rt.alloc(), follows, share)?;
-        assert_eq!(rt; refusal, want, "{share}, {follows}");
+        is_at(&rt, refusal, want, (share, follows));
     }
     Ok(())
 }
 
-fn fault_of_log(alloc: Global, bytes: &[u8]) -> Option<CodecError> {
-    decode_cfg::<DealerLog>(alloc, bytes, &4).err()
-}
+/// Bytes of a log, and what reading them gives.
+const LOG_FAULTS: &str = "\
+01000501010005 None
+01000500 None
+010005 Some(EndOfBuffer)
+0000 Some(InvalidLength { got: 0, max: 4 })
+01000505 Some(InvalidLength { got: 5, max: 4 })
+01000501020005 Some(InvalidEnum(2))
+010005010001020304050607 Some(EndOfBuffer)
+0100050101fff1 Some(Invalid(Element))
+0100050009 Some(ExtraData)
+";
 
 #[test]
 fn logs_are_refused(rt: HostRuntime) -> Result<(), Fail> {
-    let rows: [(&[u8], Option<CodecError>); 9] = [
-        (&[1, 0, 5, 1, 1, 0, 5], None),
-        (&[1, 0, 5, 0], None),
-        (&[1, 0, 5], Some(CodecError::EndOfBuffer)),
-        (&[0, 0], Some(CodecError::InvalidLength { got: 0, max: 4 })),
-        (
-            &[1, 0, 5, 5],
-            Some(CodecError::InvalidLength { got: 5, max: 4 }),
-        ),
-        (&[1, 0, 5, 1, 2, 0, 5], Some(CodecError::InvalidEnum(2))),
-        (
-            &[1, 0, 5, 1, 0, 1, 2, 3, 4, 5, 6, 7],
-            Some(CodecError::EndOfBuffer),
-        ),
-        (
-            &[1, 0, 5, 1, 1, 0xff, 0xf1],
-            Some(CodecError::Invalid(What::Element)),
-        ),
-        (&[1, 0, 5, 0, 9], Some(CodecError::ExtraData)),
-    ];
-    for (bytes, want) in rows {
-        let fault = fault_of_log(rt.alloc(), bytes);
-        assert_eq!(rt; fault, want, "at {bytes:?}");
-    }
+    let told = faults_of::<DealerLog>(rt.alloc(), LOG_FAULTS, &4)?;
+    is(&rt, told.as_str(), LOG_FAULTS);
     Ok(())
 }
 
@@ -225,13 +214,19 @@ fn log_again(
 
 #[test]
 fn logs_are_written_and_read(rt: HostRuntime) -> Result<(), Fail> {
-    let alloc = rt.alloc();
-    let signed = read_log(alloc, &LOGS[0])?;
-    let again = log_again(alloc, &signed, 4)?.ok_or("the limit allows it")?;
-    assert!(rt; again.same(&signed));
-    assert!(rt; signed.copy(alloc)?.same(&signed));
-    assert!(rt; log_again(alloc, &signed, 3)?.is_none());
-    assert_eq!(rt; signed.encode_size(), LOGS[0].len());
+    let signed = read_log(rt.alloc(), &LOGS[0])?;
+    let again = log_again(rt.alloc(), &signed, 4)?;
+    holds(&rt, again.ok_or("the limit allows it")?.same(&signed));
+    let few = log_again(rt.alloc(), &signed, 3)?;
+    holds(&rt, few.is_none());
+    Ok(())
+}
+
+#[test]
+fn logs_are_copied(rt: HostRuntime) -> Result<(), Fail> {
+    let signed = read_log(rt.alloc(), &LOGS[0])?;
+    holds(&rt, signed.copy(rt.alloc())?.same(&signed));
+    is(&rt, signed.encode_size(), 56);
     no_prefix::<SignedDealerLog>();
     no_prefix::<LogEntries>();
     Ok(())

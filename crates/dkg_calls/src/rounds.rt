@@ -3,6 +3,7 @@ ghost use Rattle.std.specs.Prelude.{◌≡◌, ℕ, Ok, Contains, IfSome, IsTrue
 ghost use Rattle.dkg_values.specs.Rising.{lookup};
 ghost use Rattle.dkg_ceremony.specs.ValidLogs.{has_entry};
 
+use crate::asserts::holds_at;
 use crate::ceremony::{draw, first_keys};
 use dkg_ceremony::*;
 use std::alloc::Global;
@@ -364,9 +365,10 @@ fn new_keys_are_the_models(rt: HostRuntime) -> Result<(), Fail> {
     ];
     for (holders, dealers, players, codes, poly, revealed, share) in rows {
         let found = outcome_of(rt.alloc(), holders, dealers, players, codes)?;
-        assert!(rt;
+        holds_at(
+            &rt,
             is_wanted(&found, poly, revealed, share),
-            "{dealers} to {players}: {codes:?}"
+            (dealers, players, codes),
         );
     }
     Ok(())
@@ -417,9 +419,10 @@ fn keys_dealt_again_are_the_models(rt: HostRuntime) -> Result<(), Fail> {
     ];
     for (holders, dealers, players, codes, poly, revealed, share) in rows {
         let found = outcome_of(rt.alloc(), holders, dealers, players, codes)?;
-        assert!(rt;
+        holds_at(
+            &rt,
             is_wanted(&found, poly, revealed, share),
-            "{dealers} to {players}: {codes:?}"
+            (dealers, players, codes),
         );
     }
     dealers_pass::<StandCeremony>();

@@ -1,3 +1,5 @@
+use crate::asserts::{holds, is, is_at};
+use crate::reading::faults_of;
 use bytes::BytesMut;
 use dkg_values::*;
 use std::alloc::Global;
@@ -26,89 +28,65 @@ fn numbers_are_of_least_length(rt: HostRuntime) -> Result<(), Fail> {
         (&[0xac, 0x02, 0x00], Err(CodecError::ExtraData)),
     ];
     for (bytes, want) in rows {
-        assert_eq!(rt;
+        is_at(
+            &rt,
             decode_cfg::<Epoch>(rt.alloc(), bytes, &()),
             want,
-            "at {bytes:?}"
+            bytes,
         );
     }
     let wide = [0xff, 0xff, 0xff, 0xff, 0x10];
-    assert_eq!(rt;
+    is(
+        &rt,
         read_u32(&mut Reader::new(&wide)),
-        Err(CodecError::InvalidVarint)
+        Err(CodecError::InvalidVarint),
     );
-    assert_eq!(rt; read_u64(&mut Reader::new(&wide)), Ok(0x1_0fff_ffff));
+    is(&rt, read_u64(&mut Reader::new(&wide)), Ok(0x1_0fff_ffff));
     Ok(())
 }
 
-fn fault_of<T: Drop>(answer: Result<T, CodecError>) -> Option<CodecError> {
-    match answer {
-        Ok(_) => None,
-        Err(fault) => Some(fault),
-    }
-}
+/// Bytes of a set, and what reading them gives.
+const SETS: &str = "\
+00 None
+0200000001ffffffff None
+020000000200000001 Some(Invalid(Set))
+020000000200000002 Some(Invalid(Set))
+0300000001 Some(InvalidLength { got: 3, max: 2 })
+8000 Some(InvalidVarint)
+01000000 Some(EndOfBuffer)
+0000 Some(ExtraData)
+";
 
 #[test]
 fn sets_rise_within_their_limit(rt: HostRuntime) -> Result<(), Fail> {
-    let length = CodecError::InvalidLength { got: 3, max: 2 };
-    let rows: [(&[u8], Option<CodecError>); 8] = [
-        (&[0], None),
-        (&[2, 0, 0, 0, 1, 0xff, 0xff, 0xff, 0xff], None),
-        (
-            &[2, 0, 0, 0, 2, 0, 0, 0, 1],
-            Some(CodecError::Invalid(What::Set)),
-        ),
-        (
-            &[2, 0, 0, 0, 2, 0, 0, 0, 2],
-            Some(CodecError::Invalid(What::Set)),
-        ),
-        (&[3, 0, 0, 0, 1], Some(length)),
-        (&[0x80, 0x00], Some(CodecError::InvalidVarint)),
-        (&[1, 0, 0, 0], Some(CodecError::EndOfBuffer)),
-        (&[0, 0], Some(CodecError::ExtraData)),
-    ];
-    for (bytes, want) in rows {
-        let fault = fault_of(decode_cfg::<Set>(rt.alloc(), bytes, &2));
-        assert_eq!(rt; fault, want, "at {bytes:?}");
-    }
+    let told = faults_of::<Set>(rt.alloc(), SETS, &2)?;
+    is(&rt, told.as_str(), SETS);
     Ok(())
 }
 
+/// Bytes of a map, and what reading them gives.
+const MAPS: &str = "\
+010000000501fff0 None
+8100 Some(InvalidVarint)
+01000000058100 Some(InvalidVarint)
+010000000501fff1 Some(Invalid(Element))
+010000000502 Some(InvalidLength { got: 2, max: 1 })
+0000 Some(InvalidLength { got: 0, max: 2 })
+03 Some(InvalidLength { got: 3, max: 2 })
+020000000500000005 Some(Invalid(Set))
+01000000050107 Some(EndOfBuffer)
+010000000501000700 Some(ExtraData)
+";
+
 #[test]
 fn maps_count_twice(rt: HostRuntime) -> Result<(), Fail> {
-    let rows: [(&[u8], Option<CodecError>); 10] = [
-        (&[1, 0, 0, 0, 5, 1, 0xff, 0xf0], None),
-        (&[0x81, 0x00], Some(CodecError::InvalidVarint)),
-        (
-            &[1, 0, 0, 0, 5, 0x81, 0x00],
-            Some(CodecError::InvalidVarint),
-        ),
-        (
-            &[1, 0, 0, 0, 5, 1, 0xff, 0xf1],
-            Some(CodecError::Invalid(What::Element)),
-        ),
-        (
-            &[1, 0, 0, 0, 5, 2],
-            Some(CodecError::InvalidLength { got: 2, max: 1 }),
-        ),
-        (&[0, 0], Some(CodecError::InvalidLength { got: 0, max: 2 })),
-        (&[3], Some(CodecError::InvalidLength { got: 3, max: 2 })),
-        (
-            &[2, 0, 0, 0, 5, 0, 0, 0, 5],
-            Some(CodecError::Invalid(What::Set)),
-        ),
-        (&[1, 0, 0, 0, 5, 1, 7], Some(CodecError::EndOfBuffer)),
-        (&[1, 0, 0, 0, 5, 1, 0, 7, 0], Some(CodecError::ExtraData)),
-    ];
     let cfg = MapCfg {
         least: 1,
         most: 2,
         value: (),
     };
-    for (bytes, want) in rows {
-        let fault = fault_of(decode_cfg::<Map<Element>>(rt.alloc(), bytes, &cfg));
-        assert_eq!(rt; fault, want, "at {bytes:?}");
-    }
+    let told = faults_of::<Map<Element>>(rt.alloc(), MAPS, &cfg)?;
+    is(&rt, told.as_str(), MAPS);
     Ok(())
 }
 
@@ -118,110 +96,173 @@ fn written<T: Write>(alloc: Global, value: &T) -> Mem<Vec<u8>> {
     Ok(out.into_vec()?)
 }
 
+/// Whether a value is written as these bytes.
+fn has_bytes<T: Write>(alloc: Global, value: &T, bytes: &[u8]) -> Mem<bool> {
+    Ok(written(alloc, value)?.as_slice() == bytes)
+}
+
 #[test]
 fn plain_values_have_their_bytes(rt: HostRuntime) -> Result<(), Fail> {
     let alloc = rt.alloc();
-    assert_eq!(rt;
-        written(alloc, &Key(0x0102_0304))?.as_slice(),
-        [1, 2, 3, 4].as_slice()
-    );
-    assert_eq!(rt;
-        written(alloc, &Height(300))?.as_slice(),
-        [0xac, 0x02].as_slice()
-    );
-    assert_eq!(rt;
-        written(alloc, &Mark([7; 8]))?.as_slice(),
-        [7; 8].as_slice()
-    );
-    assert_eq!(rt;
-        written(alloc, &Digest([8; 32]))?.as_slice(),
-        [8; 32].as_slice()
-    );
-    assert_eq!(rt;
-        written(alloc, &Seed([9; 32]))?.as_slice(),
-        [9; 32].as_slice()
-    );
-    assert_eq!(rt; Element::new(65521), None);
+    holds(&rt, has_bytes(alloc, &Key(0x0102_0304), &[1, 2, 3, 4])?);
+    holds(&rt, has_bytes(alloc, &Height(300), &[0xac, 0x02])?);
+    holds(&rt, has_bytes(alloc, &Mark([7; 8]), &[7; 8])?);
+    holds(&rt, has_bytes(alloc, &Digest([8; 32]), &[8; 32])?);
+    holds(&rt, has_bytes(alloc, &Seed([9; 32]), &[9; 32])?);
+    Ok(())
+}
+
+#[test]
+fn elements_are_below_the_prime(rt: HostRuntime) -> Result<(), Fail> {
+    is(&rt, Element::new(65521), None);
     let element = Element::new(65520).ok_or("65520 is an element")?;
-    assert_eq!(rt;
-        written(alloc, &element)?.as_slice(),
-        [0xff, 0xf0].as_slice()
-    );
+    holds(&rt, has_bytes(rt.alloc(), &element, &[0xff, 0xf0])?);
     Ok(())
 }
 
 #[test]
 fn plain_values_are_read(rt: HostRuntime) -> Result<(), Fail> {
     let alloc = rt.alloc();
-    assert_eq!(rt; round_trip(alloc, &Key(5), &()), Ok(Key(5)));
-    assert_eq!(rt; round_trip(alloc, &Height(9), &()), Ok(Height(9)));
-    assert_eq!(rt;
+    is(&rt, round_trip(alloc, &Key(5), &()), Ok(Key(5)));
+    is(&rt, round_trip(alloc, &Height(9), &()), Ok(Height(9)));
+    is(
+        &rt,
         decode_cfg::<Mark>(alloc, &[1, 2, 3], &()),
-        Err(CodecError::EndOfBuffer)
+        Err(CodecError::EndOfBuffer),
     );
-    assert_eq!(rt; read_byte(&mut Reader::new(&[6, 7])), Ok(6));
-    assert_eq!(rt; read_array::<2>(&mut Reader::new(&[6, 7, 8])), Ok([6, 7]));
+    is(&rt, read_byte(&mut Reader::new(&[6, 7])), Ok(6));
+    is(
+        &rt,
+        read_array::<2>(&mut Reader::new(&[6, 7, 8])),
+        Ok([6, 7]),
+    );
     Ok(())
+}
+
+/// The set of the keys 1 and 5.
+fn some(alloc: Global) -> Result<Set, Fail> {
+    Ok(Set::from_any(alloc, &[Key(5), Key(1), Key(5)])?)
+}
+
+/// The set of the keys 1 and 3.
+fn more(alloc: Global) -> Result<Set, Fail> {
+    Ok(Set::from_any(alloc, &[Key(3), Key(1)])?)
+}
+
+/// The union of both.
+fn both(alloc: Global) -> Result<Set, Fail> {
+    let some = some(alloc)?;
+    let more = more(alloc)?;
+    Ok(some.union(alloc, &more)?)
 }
 
 #[test]
 fn sets_are_of_any_list(rt: HostRuntime) -> Result<(), Fail> {
+    let all = both(rt.alloc())?;
+    is(&rt, all.as_slice(), [Key(1), Key(3), Key(5)].as_slice());
+    is(&rt, all.position(Key(5)), Some(2));
+    is(&rt, all.position(Key(4)), None);
+    Ok(())
+}
+
+/// Whether keys are sorted.
+fn is_sorted(alloc: Global, keys: &[Key]) -> Result<bool, Fail> {
+    if keys.len() > 9 {
+        return Err(Fail::from("too many keys"));
+    }
+    Ok(Set::from_sorted(keys.to_vec(alloc)?).is_ok())
+}
+
+#[test]
+fn sets_rise(rt: HostRuntime) -> Result<(), Fail> {
     let alloc = rt.alloc();
-    let some = Set::from_any(alloc, &[Key(5), Key(1), Key(5)])?;
-    let more = Set::from_any(alloc, &[Key(3), Key(1)])?;
-    let all = [Key(1), Key(3), Key(5)];
-    assert_eq!(rt; some.union(alloc, &more)?.as_slice(), all.as_slice());
-    assert_eq!(rt; some.position(Key(5)), Some(1));
-    assert_eq!(rt; some.position(Key(4)), None);
-    assert!(rt; Set::from_sorted(all.to_vec(alloc)?).is_ok());
-    assert!(rt; Set::from_sorted([Key(2), Key(2)].to_vec(alloc)?).is_err());
-    assert!(rt; some.copy(alloc)?.same(&some));
-    assert_eq!(rt;
-        encode(alloc, &more)?.as_slice(),
-        [2, 0, 0, 0, 1, 0, 0, 0, 3].as_slice()
-    );
+    holds(&rt, is_sorted(alloc, &[Key(1), Key(3), Key(5)])?);
+    holds(&rt, !is_sorted(alloc, &[Key(2), Key(2)])?);
     Ok(())
 }
 
 #[test]
-fn maps_keep_the_first_pair(rt: HostRuntime) -> Result<(), Fail> {
-    let alloc = rt.alloc();
+fn sets_are_copied_and_spelled(rt: HostRuntime) -> Result<(), Fail> {
+    let more = more(rt.alloc())?;
+    holds(&rt, has_copy(rt.alloc(), &more)?);
+    let bytes = encode(rt.alloc(), &more)?;
+    is(
+        &rt,
+        bytes.as_slice(),
+        [2, 0, 0, 0, 1, 0, 0, 0, 3].as_slice(),
+    );
+    Ok(())
+}
+
+/// The heights 2 and 1 of the keys 1 and 5.
+fn heights(alloc: Global) -> Result<Map<Height>, Fail> {
     let pairs = [
         (Key(5), Height(1)),
         (Key(1), Height(2)),
         (Key(5), Height(3)),
     ];
-    let heights = Map::from_any(alloc, pairs.to_vec(alloc)?)?;
-    assert_eq!(rt; heights.len(), 2);
-    assert_eq!(rt; heights.get(Key(5)), Some(&Height(1)));
-    assert_eq!(rt; heights.get(Key(4)), None);
-    let some = Set::from_any(alloc, &[Key(5), Key(1)])?;
-    let more = Set::from_any(alloc, &[Key(3), Key(1)])?;
-    assert!(rt; heights.has_keys(&some));
-    assert!(rt; !heights.has_keys(&more));
-    assert!(rt; heights.copy(alloc)?.same(&heights));
-    let mut bytes = BytesMut::new(alloc);
-    heights.write(&mut bytes)?;
-    let want = [2, 0, 0, 0, 1, 0, 0, 0, 5, 2, 2, 1];
-    assert_eq!(rt; bytes.as_slice(), want.as_slice());
+    Ok(Map::from_any(alloc, pairs.to_vec(alloc)?)?)
+}
+
+#[test]
+fn maps_keep_the_first_pair(rt: HostRuntime) -> Result<(), Fail> {
+    let heights = heights(rt.alloc())?;
+    is(&rt, heights.len(), 2);
+    is(&rt, heights.get(Key(5)), Some(&Height(1)));
+    is(&rt, heights.get(Key(4)), None);
     Ok(())
 }
 
 #[test]
-fn readers_take_from_the_front(rt: HostRuntime) -> Result<(), Fail> {
-    let alloc = rt.alloc();
-    let bytes = [3, 0, 5, 0, 0, 0, 9, 0, 0, 1, 0, 0, 7, 0, 8, 6];
-    let mut input = Reader::new(&bytes);
-    assert_eq!(rt; read_count(&mut input, 0, 3), Ok(3));
-    assert_eq!(rt; read_be16(&mut input), Ok(5));
-    let keys = read_keys(alloc, &mut input, 1)?;
-    assert_eq!(rt; keys.as_slice(), [Key(9)].as_slice());
-    assert_eq!(rt; read_be32(&mut input), Ok(256));
-    let elements = read_many::<Element>(alloc, &mut input, 2, &())?;
-    assert_eq!(rt; elements.len(), 2);
-    assert_eq!(rt; input.take(2), Err(CodecError::EndOfBuffer));
-    assert_eq!(rt; input.left(), [6].as_slice());
-    assert_eq!(rt; input.take(1), Ok([6].as_slice()));
+fn maps_have_just_their_keys(rt: HostRuntime) -> Result<(), Fail> {
+    let heights = heights(rt.alloc())?;
+    holds(&rt, heights.has_keys(&some(rt.alloc())?));
+    holds(&rt, !heights.has_keys(&more(rt.alloc())?));
+    Ok(())
+}
+
+#[test]
+fn maps_are_copied_and_spelled(rt: HostRuntime) -> Result<(), Fail> {
+    let heights = heights(rt.alloc())?;
+    holds(&rt, has_copy(rt.alloc(), &heights)?);
+    let bytes = written(rt.alloc(), &heights)?;
+    is(
+        &rt,
+        bytes.as_slice(),
+        [2, 0, 0, 0, 1, 0, 0, 0, 5, 2, 2, 1].as_slice(),
+    );
+    Ok(())
+}
+
+/// A count, an element, a key, a number, two elements, and a byte.
+const PARTS: [u8; 16] = [3, 0, 5, 0, 0, 0, 9, 0, 0, 1, 0, 0, 7, 0, 8, 6];
+
+#[test]
+fn numbers_are_taken_from_the_front(rt: HostRuntime) -> Result<(), Fail> {
+    let mut input = Reader::new(&PARTS);
+    is(&rt, read_count(&mut input, 0, 3), Ok(3));
+    is(&rt, read_be16(&mut input), Ok(5));
+    is(&rt, read_be32(&mut input), Ok(9));
+    is(&rt, read_be32(&mut input), Ok(256));
+    Ok(())
+}
+
+#[test]
+fn lists_are_taken_from_the_front(rt: HostRuntime) -> Result<(), Fail> {
+    let mut input = Reader::new(&PARTS[3..]);
+    let keys = read_keys(rt.alloc(), &mut input, 1)?;
+    is(&rt, keys.as_slice(), [Key(9)].as_slice());
+    let elements = read_many::<Element>(rt.alloc(), &mut input, 4, &())?;
+    is(&rt, elements.len(), 4);
+    Ok(())
+}
+
+#[test]
+fn bytes_are_taken_from_the_front(rt: HostRuntime) -> Result<(), Fail> {
+    let mut input = Reader::new(&PARTS[15..]);
+    is(&rt, input.take(2), Err(CodecError::EndOfBuffer));
+    is(&rt, input.left(), [6].as_slice());
+    is(&rt, input.take(1), Ok([6].as_slice()));
     Ok(())
 }
 
@@ -230,41 +271,74 @@ fn has_copy<T: Value + Drop>(alloc: Global, value: &T) -> Mem<bool> {
     Ok(value.copy(alloc)?.same(value))
 }
 
+/// A pair in a pair.
+fn pair(byte: u8) -> Result<(Epoch, (Element, Seed)), Fail> {
+    let element = Element::new(258).ok_or("258 is an element")?;
+    Ok((Epoch(2), (element, Seed([byte; 32]))))
+}
+
 #[test]
 fn copies_are_the_same(rt: HostRuntime) -> Result<(), Fail> {
     let alloc = rt.alloc();
-    let element = Element::new(258).ok_or("258 is an element")?;
-    let pair = (Epoch(2), (element, Seed([4; 32])));
-    assert!(rt; has_copy(alloc, &pair)?);
-    assert!(rt; has_copy(alloc, &(Key(1), Height(2)))?);
-    assert!(rt; has_copy(alloc, &(Digest([3; 32]), Mark([5; 8])))?);
-    assert!(rt; !pair.same(&(Epoch(2), (element, Seed([5; 32])))));
-    let blob = Blob::new([1, 2].to_vec(alloc)?);
-    assert!(rt; has_copy(alloc, &blob)?);
-    assert!(rt; !blob.same(&Blob::new([1, 3].to_vec(alloc)?)));
-    assert!(rt; Key(2) < Key(10));
-    assert!(rt; Epoch(2) < Epoch(10));
-    assert!(rt; Height(10) != Height(2));
-    numbers_compare();
+    holds(&rt, has_copy(alloc, &pair(4)?)?);
+    holds(&rt, has_copy(alloc, &(Key(1), Height(2)))?);
+    holds(&rt, has_copy(alloc, &(Digest([3; 32]), Mark([5; 8])))?);
+    holds(&rt, !pair(4)?.same(&pair(5)?));
+    Ok(())
+}
+
+/// The bytes 1 and this one.
+fn blob(alloc: Global, byte: u8) -> Mem<Blob> {
+    Ok(Blob::new([1, byte].to_vec(alloc)?))
+}
+
+#[test]
+fn blobs_are_the_same(rt: HostRuntime) -> Result<(), Fail> {
+    let two = blob(rt.alloc(), 2)?;
+    holds(&rt, has_copy(rt.alloc(), &two)?);
+    holds(&rt, !two.same(&blob(rt.alloc(), 3)?));
     Ok(())
 }
 
 #[test]
-fn sets_are_walked(rt: HostRuntime) -> Result<(), Fail> {
-    let alloc = rt.alloc();
-    let keys = Set::from_sorted([Key(1), Key(300)].to_vec(alloc)?)?;
+fn numbers_have_an_order(rt: HostRuntime) -> Result<(), Fail> {
+    holds(&rt, Key(2) < Key(10));
+    holds(&rt, Epoch(2) < Epoch(10));
+    holds(&rt, Height(10) != Height(2));
+    numbers_compare();
+    Ok(())
+}
+
+/// The numbers of a set's keys.
+fn walked(alloc: Global, keys: &Set) -> Result<Vec<u32>, Fail> {
     let mut found = Vec::new(alloc);
     for key in keys.iter() {
         found.push(key.number())?;
     }
-    assert_eq!(rt; found.as_slice(), [1, 300].as_slice());
-    assert!(rt; keys.has(Key(300)));
-    assert!(rt; !keys.has(Key(2)));
-    assert!(rt; !keys.is_empty());
-    assert_eq!(rt; keys.encode_size(), 9);
+    Ok(found)
+}
+
+#[test]
+fn sets_are_walked(rt: HostRuntime) -> Result<(), Fail> {
+    let keys = some(rt.alloc())?;
+    is(
+        &rt,
+        walked(rt.alloc(), &keys)?.as_slice(),
+        [1, 5].as_slice(),
+    );
+    holds(&rt, keys.has(Key(5)));
+    holds(&rt, !keys.has(Key(2)));
+    holds(&rt, !keys.is_empty());
+    Ok(())
+}
+
+#[test]
+fn sets_are_read_again(rt: HostRuntime) -> Result<(), Fail> {
+    let keys = some(rt.alloc())?;
+    is(&rt, keys.encode_size(), 9);
     let most = keys.len();
     keys.fits_limits();
-    assert!(rt; round_trip(alloc, &keys, &most)?.same(&keys));
+    holds(&rt, round_trip(rt.alloc(), &keys, &most)?.same(&keys));
     no_prefix::<Set>();
     Ok(())
 }
@@ -275,23 +349,59 @@ fn map_bytes(alloc: Global, heights: &Map<Height>) -> Mem<Blob> {
     encode(alloc, heights)
 }
 
-#[test]
-fn maps_are_walked(rt: HostRuntime) -> Result<(), Fail> {
-    let alloc = rt.alloc();
-    let pairs = [(Key(1), Height(300)), (Key(3), Height(0))];
-    let heights = Map::from_sorted(pairs.to_vec(alloc)?)?;
+/// Two keys with their heights.
+const SORTED: [(Key, Height); 2] = [(Key(1), Height(300)), (Key(3), Height(0))];
+
+/// The pairs of a map.
+fn pairs_of(alloc: Global, heights: &Map<Height>) -> Result<Vec<(Key, Height)>, Fail> {
     let mut found = Vec::new(alloc);
     for (key, height) in heights.iter() {
         found.push((key, *height))?;
     }
-    assert_eq!(rt; found.as_slice(), pairs.as_slice());
-    assert_eq!(rt; heights.as_slice(), pairs.as_slice());
-    assert!(rt; !heights.is_empty());
-    let falling = [(Key(3), Height(0)), (Key(3), Height(1))];
-    assert!(rt; Map::from_sorted(falling.to_vec(alloc)?).is_err());
-    let bytes = map_bytes(alloc, &heights)?;
-    let want = [2, 0, 0, 0, 1, 0, 0, 0, 3, 2, 0xac, 0x02, 0];
-    assert_eq!(rt; bytes.as_slice(), want.as_slice());
+    Ok(found)
+}
+
+/// The map of pairs, where their keys rise.
+fn map_of(alloc: Global, pairs: &[(Key, Height)]) -> Result<Option<Map<Height>>, Fail> {
+    if pairs.len() > 9 {
+        return Err(Fail::from("too many pairs"));
+    }
+    Ok(Map::from_sorted(pairs.to_vec(alloc)?).ok())
+}
+
+fn sorted(alloc: Global) -> Result<Map<Height>, Fail> {
+    Ok(map_of(alloc, &SORTED)?.ok_or("the keys rise")?)
+}
+
+#[test]
+fn maps_are_walked(rt: HostRuntime) -> Result<(), Fail> {
+    let heights = sorted(rt.alloc())?;
+    is(
+        &rt,
+        pairs_of(rt.alloc(), &heights)?.as_slice(),
+        SORTED.as_slice(),
+    );
+    is(&rt, heights.as_slice(), SORTED.as_slice());
+    holds(&rt, !heights.is_empty());
+    Ok(())
+}
+
+#[test]
+fn maps_rise(rt: HostRuntime) -> Result<(), Fail> {
+    let level = [(Key(3), Height(0)), (Key(3), Height(1))];
+    holds(&rt, map_of(rt.alloc(), &level)?.is_none());
+    Ok(())
+}
+
+#[test]
+fn maps_have_a_size(rt: HostRuntime) -> Result<(), Fail> {
+    let heights = sorted(rt.alloc())?;
+    let bytes = map_bytes(rt.alloc(), &heights)?;
+    is(
+        &rt,
+        bytes.as_slice(),
+        [2, 0, 0, 0, 1, 0, 0, 0, 3, 2, 0xac, 0x02, 0].as_slice(),
+    );
     heights.fits_limits();
     no_prefix::<Map<Height>>();
     Ok(())
@@ -311,8 +421,8 @@ fn numbers_are_written(rt: HostRuntime) -> Result<(), Fail> {
     for (number, bytes) in rows {
         let mut out = BytesMut::new(rt.alloc());
         write_uint(&mut out, number)?;
-        assert_eq!(rt; out.as_slice(), bytes, "of {number}");
-        assert_eq!(rt; uint_size(number), bytes.len(), "of {number}");
+        is_at(&rt, out.as_slice(), bytes, number);
+        is_at(&rt, uint_size(number), bytes.len(), number);
     }
     Ok(())
 }

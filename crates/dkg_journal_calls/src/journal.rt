@@ -1,5 +1,6 @@
 ghost use Rattle.std.specs.Prelude.{◌≡◌, []};
 
+use crate::asserts::{is, is_at};
 use dkg_journal::*;
 use dkg_values::Name;
 use std::alloc::Global;
@@ -78,10 +79,10 @@ fn a_crash_leaves_what_its_pick_says(rt: HostRuntime) -> Result<(), Fail> {
         overwritten_disk(rt.alloc(), &mut disk)?;
         disk.crash(pick);
         let left = all_bytes(rt.alloc(), &mut disk)?;
-        assert_eq!(rt; left.as_slice(), want, "at {pick}");
+        is_at(&rt, left.as_slice(), want, pick);
         disk.crash(1);
         let left = all_bytes(rt.alloc(), &mut disk)?;
-        assert_eq!(rt; left.as_slice(), want, "a second crash at {pick}");
+        is_at(&rt, left.as_slice(), want, pick);
     }
     Ok(())
 }
@@ -103,10 +104,11 @@ fn files_are_torn_in_the_order_of_their_names(rt: HostRuntime) -> Result<(), Fai
         let mut disk = MemoryDisk::new(rt.alloc());
         torn_disk(rt.alloc(), &mut disk)?;
         disk.crash(pick);
-        assert_eq!(rt;
+        is_at(
+            &rt,
             all_bytes(rt.alloc(), &mut disk)?.as_slice(),
             want,
-            "at {pick}"
+            pick,
         );
     }
     Ok(())
@@ -136,18 +138,20 @@ fn a_cut_call_is_done_at_an_even_pick(rt: HostRuntime) -> Result<(), Fail> {
             bytes: dkg_values::Blob::new(Vec::from_slice(rt.alloc(), &[9])?),
         };
         disk.cut(rt.alloc(), &install, pick)?;
-        assert_eq!(rt;
+        is_at(
+            &rt,
             all_bytes(rt.alloc(), &mut disk)?.as_slice(),
             installed,
-            "at {pick}"
+            pick,
         );
         let mut disk = SureDisk::new(rt.alloc());
         torn_disk(rt.alloc(), &mut disk)?;
         disk.cut(rt.alloc(), &Op::Remove { name: Name::Plan }, pick)?;
-        assert_eq!(rt;
+        is_at(
+            &rt,
             all_bytes(rt.alloc(), &mut disk)?.as_slice(),
             removed,
-            "at {pick}"
+            pick,
         );
     }
     Ok(())
@@ -158,17 +162,22 @@ fn calls_fail_by_number(rt: HostRuntime) -> Result<(), Fail> {
     let numbers = Vec::from_slice(rt.alloc(), &[4, 2, 7])?;
     let mut disk = MemoryDisk::failing(rt.alloc(), numbers);
     let one = Name::Segment(u64::MAX);
-    assert_eq!(rt; disk.install(rt.alloc(), one, &[1]), Ok(()));
-    assert_eq!(rt; disk.install(rt.alloc(), one, &[2]), Err(DiskError::Failed));
+    is(&rt, disk.install(rt.alloc(), one, &[1]), Ok(()));
+    is(
+        &rt,
+        disk.install(rt.alloc(), one, &[2]),
+        Err(DiskError::Failed),
+    );
     disk.crash(0);
-    assert_eq!(rt; disk.cut(rt.alloc(), &Op::Barrier, 0), Ok(()));
-    assert_eq!(rt; disk.barrier(rt.alloc()), Ok(()));
-    assert_eq!(rt; disk.remove(rt.alloc(), one), Err(DiskError::Failed));
-    assert_eq!(rt; disk.sync(rt.alloc(), Name::Plan), Ok(()));
-    assert_eq!(rt; all_bytes(rt.alloc(), &mut disk).is_err(), true);
-    assert_eq!(rt;
+    is(&rt, disk.cut(rt.alloc(), &Op::Barrier, 0), Ok(()));
+    is(&rt, disk.barrier(rt.alloc()), Ok(()));
+    is(&rt, disk.remove(rt.alloc(), one), Err(DiskError::Failed));
+    is(&rt, disk.sync(rt.alloc(), Name::Plan), Ok(()));
+    is(&rt, all_bytes(rt.alloc(), &mut disk).is_err(), true);
+    is(
+        &rt,
         all_bytes(rt.alloc(), &mut disk)?.as_slice(),
-        [1].as_slice()
+        [1].as_slice(),
     );
     Ok(())
 }
@@ -199,10 +208,11 @@ fn what_was_appended_is_replayed(rt: HostRuntime) -> Result<(), Fail> {
     let mut disk = MemoryDisk::new(rt.alloc());
     let mut fuse = Fuse::never();
     fill(rt.alloc(), &mut disk, &mut fuse)?;
-    assert_eq!(rt; fuse.spent(), 10);
-    assert_eq!(rt;
+    is(&rt, fuse.spent(), 10);
+    is(
+        &rt,
         read_again(rt.alloc(), &mut disk)?.as_slice(),
-        [5, 0xaa, 6, 0xbb].as_slice()
+        [5, 0xaa, 6, 0xbb].as_slice(),
     );
     Ok(())
 }
@@ -232,11 +242,12 @@ fn a_cut_leaves_whole_entries(rt: HostRuntime) -> Result<(), Fail> {
         let mut disk = MemoryDisk::new(rt.alloc());
         let mut fuse = Fuse::at(call, pick);
         let ended = fill(rt.alloc(), &mut disk, &mut fuse);
-        assert_eq!(rt; ended.is_err(), call < 11, "at {call} {pick}");
-        assert_eq!(rt;
+        is_at(&rt, ended.is_err(), call < 11, (call, pick));
+        is_at(
+            &rt,
             read_again(rt.alloc(), &mut disk)?.as_slice(),
             want,
-            "at {call} {pick}"
+            (call, pick),
         );
     }
     Ok(())
@@ -256,10 +267,10 @@ fn every_cut_of_an_append_leaves_it_or_not(rt: HostRuntime) -> Result<(), Fail> 
         for pick in 0..8u64 {
             let mut disk = MemoryDisk::new(rt.alloc());
             let ended = fill(rt.alloc(), &mut disk, &mut Fuse::at(call, pick));
-            assert_eq!(rt; ended, Err(JournalError::Cut), "at {call} {pick}");
+            is_at(&rt, ended, Err(JournalError::Cut), (call, pick));
             let all = read_again(rt.alloc(), &mut disk)?;
             let is_either = all.as_slice() == before || all.as_slice() == after;
-            assert_eq!(rt; is_either, true, "at {call} {pick}");
+            is_at(&rt, is_either, true, (call, pick));
         }
     }
     Ok(())
@@ -294,12 +305,13 @@ fn every_cut_of_a_mending_keeps_the_entry(rt: HostRuntime) -> Result<(), Fail> {
             &Journal::open(rt.alloc(), &mut disk, &mut fuse),
             Err(JournalError::Cut)
         );
-        assert_eq!(rt; is_cut, true, "at {pick}");
-        assert_eq!(rt; fuse.blown(), true, "at {pick}");
-        assert_eq!(rt;
+        is_at(&rt, is_cut, true, pick);
+        is_at(&rt, fuse.blown(), true, pick);
+        is_at(
+            &rt,
             read_again(rt.alloc(), &mut disk)?.as_slice(),
             [5, 0xaa].as_slice(),
-            "at {pick}"
+            pick,
         );
     }
     Ok(())
@@ -314,16 +326,18 @@ fn every_stop_of_a_parting_keeps_the_entries(rt: HostRuntime) -> Result<(), Fail
             flat_disk(rt.alloc(), &mut disk)?;
             let mut fuse = Fuse::at(call, pick);
             let is_open = Journal::open(rt.alloc(), &mut disk, &mut fuse).is_ok();
-            assert_eq!(rt; is_open, call == 5, "at {call} {pick}");
-            assert_eq!(rt;
+            is_at(&rt, is_open, call == 5, (call, pick));
+            is_at(
+                &rt,
                 read_again(rt.alloc(), &mut disk)?.as_slice(),
                 [5, 0xaa, 7, 0xcc, 7, 0xdd].as_slice(),
-                "at {call} {pick}"
+                (call, pick),
             );
-            assert_eq!(rt;
+            is_at(
+                &rt,
                 disk.list(rt.alloc())?.as_slice(),
                 [Name::Segment(5), Name::Segment(7)].as_slice(),
-                "at {call} {pick}"
+                (call, pick),
             );
         }
     }
@@ -359,12 +373,13 @@ fn a_prune_leaves_the_sections_from_its_minimum_on(rt: HostRuntime) -> Result<()
         let mut disk = MemoryDisk::new(rt.alloc());
         let mut fuse = Fuse::at(call, pick);
         let ended = fill_and_prune(rt.alloc(), &mut disk, &mut fuse);
-        assert_eq!(rt; ended.is_ok(), call == 0 || call == 12, "at {call} {pick}");
-        assert_eq!(rt; fuse.spent(), calls, "at {call} {pick}");
-        assert_eq!(rt;
+        is_at(&rt, ended.is_ok(), call == 0 || call == 12, (call, pick));
+        is_at(&rt, fuse.spent(), calls, (call, pick));
+        is_at(
+            &rt,
             read_again(rt.alloc(), &mut disk)?.as_slice(),
             want,
-            "at {call} {pick}"
+            (call, pick),
         );
     }
     Ok(())
@@ -374,13 +389,13 @@ fn a_prune_leaves_the_sections_from_its_minimum_on(rt: HostRuntime) -> Result<()
 fn a_value_is_put_read_and_cleared(rt: HostRuntime) -> Result<(), Fail> {
     let mut disk = MemoryDisk::new(rt.alloc());
     let mut fuse = Fuse::never();
-    assert_eq!(rt; Record::get(rt.alloc(), &mut disk)?.is_none(), true);
+    is(&rt, Record::get(rt.alloc(), &mut disk)?.is_none(), true);
     Record::put(rt.alloc(), &mut disk, &mut fuse, &[1])?;
     let read = Record::get(rt.alloc(), &mut disk)?.unwrap_or_else(|| Vec::new(rt.alloc()));
-    assert_eq!(rt; read.as_slice(), [1].as_slice());
+    is(&rt, read.as_slice(), [1].as_slice());
     Record::clear(rt.alloc(), &mut disk, &mut fuse)?;
-    assert_eq!(rt; Record::get(rt.alloc(), &mut disk)?.is_none(), true);
-    assert_eq!(rt; fuse.spent(), 2);
+    is(&rt, Record::get(rt.alloc(), &mut disk)?.is_none(), true);
+    is(&rt, fuse.spent(), 2);
     Ok(())
 }
 
@@ -429,9 +444,9 @@ fn records_that_are_not_whole(rt: HostRuntime) -> Result<(), Fail> {
             Ok(_) => None,
             Err(fault) => Some(fault),
         };
-        assert_eq!(rt; fault, want, "at {bytes:?}");
-        assert_eq!(rt; fuse.spent(), calls, "at {bytes:?}");
-        assert_eq!(rt; fuse.blown(), false);
+        is_at(&rt, fault, want, bytes);
+        is_at(&rt, fuse.spent(), calls, bytes);
+        is(&rt, fuse.blown(), false);
     }
     Ok(())
 }

@@ -1,6 +1,7 @@
 ghost use Rattle.std.specs.Prelude.{◌≡◌, ◌+◌, ◌<◌, ◌^◌, ◌↔◌, length, IfOk, IsTrue};
 ghost use Rattle.dkg_probe.specs.Mailboxes.{Meets};
 
+use crate::asserts::{holds, holds_at, is};
 use crate::probe_cases::CASES;
 use dkg_ceremony::{
     Blob, CodecError, Digest, Epoch, Height, Key, Map, Mem, ModeVersion, Set, Value, What,
@@ -255,15 +256,6 @@ fn word(why: BlockedWhy) -> &'static str {
     }
 }
 
-/// Bytes as pairs of digits.
-fn hex(alloc: Global, bytes: &[u8]) -> Result<String, Fail> {
-    let mut text = String::new(alloc);
-    for byte in bytes {
-        text.push_str(format!(in alloc; "{byte:02x}")?.as_str())?;
-    }
-    Ok(text)
-}
-
 /// A line of the transcript's text.
 fn line(alloc: Global, entry: &Entry) -> Result<String, Fail> {
     match entry {
@@ -273,7 +265,7 @@ fn line(alloc: Global, entry: &Entry) -> Result<String, Fail> {
             Ok(format!(in alloc; ">blocked {key} {why}")?)
         }
         Entry::Sent { to: None, bytes } => {
-            let text = hex(alloc, bytes.as_slice())?;
+            let text = hex::encode(alloc, bytes.as_slice())?;
             Ok(format!(in alloc; ">sent all {text}")?)
         }
         Entry::Sent {
@@ -281,44 +273,24 @@ fn line(alloc: Global, entry: &Entry) -> Result<String, Fail> {
             bytes,
         } => {
             let key = peer.0;
-            let text = hex(alloc, bytes.as_slice())?;
+            let text = hex::encode(alloc, bytes.as_slice())?;
             Ok(format!(in alloc; ">sent {key} {text}")?)
         }
         Entry::Artifact { info, floor } => {
-            let info = hex(alloc, info.as_slice())?;
-            let floor = hex(alloc, floor.as_slice())?;
+            let info = hex::encode(alloc, info.as_slice())?;
+            let floor = hex::encode(alloc, floor.as_slice())?;
             Ok(format!(in alloc; ">artifact {info} {floor}")?)
         }
         _ => Err(Fail::from("another entry")),
     }
 }
 
-fn digit(byte: u8) -> Result<u8, Fail>
-    ensures { IfOk result (λ value. value < 16) }
-{
-    match byte {
-        b'0'..=b'9' => Ok(byte - b'0'),
-        b'a'..=b'f' => Ok(byte - b'a' + 10),
-        _ => Err(Fail::from("no digit")),
-    }
-}
-
 /// The bytes that pairs of digits stand for; `-` stands for none.
 fn bytes(alloc: Global, text: &str) -> Result<Blob, Fail> {
-    let mut made = Vec::new(alloc);
-    if text != "-" {
-        for pair in text.as_bytes().chunks_exact(2) {
-            match pair {
-                [high, low] => {
-                    let high = digit(*high)?;
-                    let low = digit(*low)?;
-                    made.push(high * 16 + low)?;
-                }
-                _ => return Err(Fail::from("no pair")),
-            }
-        }
+    if text == "-" {
+        return Ok(Blob::new(Vec::new(alloc)));
     }
-    Ok(Blob::new(made))
+    Ok(Blob::new(hex::decode(alloc, text.as_bytes())?))
 }
 
 fn number(word: Option<&str>) -> Result<u64, Fail> {
@@ -443,10 +415,10 @@ fn steps_are_those_of_the_model(rt: HostRuntime) -> Result<(), Fail> {
     let mut play = first_play(rt.alloc())?;
     for text in CASES.lines() {
         let right = play.plays(rt.alloc(), text)?;
-        assert!(rt; right, "{text}");
+        holds_at(&rt, right, text);
     }
-    assert!(rt; play.is_read());
-    assert_eq!(rt; play.steps, STEPS);
+    holds(&rt, play.is_read());
+    is(&rt, play.steps, STEPS);
     Ok(())
 }
 
@@ -480,11 +452,11 @@ fn is_of_genesis(alloc: Global, known: &Artifact<Unit>, view: u64) -> Result<boo
 #[test]
 fn a_floor_of_epoch_zero_resolves_with_genesis(rt: HostRuntime) -> Result<(), Fail> {
     let mut play = first_play(rt.alloc())?;
-    assert!(rt; play.probe.artifact().is_none());
+    holds(&rt, play.probe.artifact().is_none());
     finds_genesis(rt.alloc(), &mut play)?;
     let known = play.probe.artifact().ok_or("nothing is known")?;
     let right = is_of_genesis(rt.alloc(), known, 7)?;
-    assert!(rt; right);
+    holds(&rt, right);
     Ok(())
 }
 
@@ -545,10 +517,10 @@ fn a_peer_without_an_address_stops_the_probe(rt: HostRuntime) -> Result<(), Fail
     let mut out = Transcript::new(alloc);
     let missing = ProbeStop::PeerSet(MissingAddress(Key(2)));
     let answer = probe.step(alloc, &NoBlocks, Event::Subscribe, &mut out);
-    assert_eq!(rt; answer, Err(missing));
+    is(&rt, answer, Err(missing));
     let answer = probe.step(alloc, &NoBlocks, Event::Retry, &mut out);
-    assert_eq!(rt; answer, Err(ProbeStop::Failed));
-    assert!(rt; out.entries().is_empty());
+    is(&rt, answer, Err(ProbeStop::Failed));
+    holds(&rt, out.entries().is_empty());
     Ok(())
 }
 
@@ -594,14 +566,18 @@ fn requests_have_their_bytes(rt: HostRuntime) -> Result<(), Fail> {
     let alloc = rt.alloc();
     let epoch = Epoch(300);
     let latest = is_request(alloc, &Message::LatestRequest, &[4], Request::Latest)?;
-    assert!(rt; latest);
+    holds(&rt, latest);
     let message = Message::BoundaryRequest(epoch);
     let boundary = is_request(alloc, &message, &[0, 0xac, 2], Request::Boundary(epoch))?;
-    assert!(rt; boundary);
+    holds(&rt, boundary);
     let message = Message::BlockRequest(epoch);
     let block = is_request(alloc, &message, &[2, 0xac, 2], Request::Block(epoch))?;
-    assert!(rt; block);
-    assert_eq!(rt; read_request(&[0, 0x80, 0]), Err(CodecError::InvalidVarint));
+    holds(&rt, block);
+    is(
+        &rt,
+        read_request(&[0, 0x80, 0]),
+        Err(CodecError::InvalidVarint),
+    );
     Ok(())
 }
 
@@ -620,8 +596,8 @@ fn finalizations_have_their_bytes(rt: HostRuntime) -> Result<(), Fail> {
     let alloc = rt.alloc();
     let one = sealed(alloc, 1, 9, 1)?;
     let bytes = encode(alloc, &Message::<Unit>::LatestResponse(one))?;
-    assert!(rt; bytes.as_slice().starts_with(&[5]));
-    assert!(rt; is_latest(alloc, bytes.as_slice(), &one));
+    holds(&rt, bytes.as_slice().starts_with(&[5]));
+    holds(&rt, is_latest(alloc, bytes.as_slice(), &one));
     Ok(())
 }
 
@@ -665,9 +641,9 @@ fn blocks_have_their_bytes(rt: HostRuntime) -> Result<(), Fail> {
     let digest = block.digest();
     let bytes = encode(alloc, &Message::BlockResponse { epoch, block })?;
     let right = is_answer(alloc, bytes.as_slice(), epoch, &digest)?;
-    assert!(rt; right);
-    assert_eq!(rt; max_payload_size::<Unit>(limits()?.0), 264);
-    assert_eq!(rt; Message::<Unit>::max_encode_size(4, 253), 264);
+    holds(&rt, right);
+    is(&rt, max_payload_size::<Unit>(limits()?.0), 264);
+    is(&rt, Message::<Unit>::max_encode_size(4, 253), 264);
     Ok(())
 }
 
@@ -686,14 +662,14 @@ fn a_sample_chooses_the_highest(rt: HostRuntime) -> Result<(), Fail> {
     let one = sealed(rt.alloc(), 1, 9, 1)?;
     let two = sealed(rt.alloc(), 2, 3, 2)?;
     let mut sample = Sample::new(rt.alloc(), Epoch(1));
-    assert_eq!(rt; sample.minimum(), Epoch(1));
+    is(&rt, sample.minimum(), Epoch(1));
     let right = record_three(&mut sample, one, two)?;
-    assert!(rt; right);
-    assert_eq!(rt; sample.select(4), Some(two));
-    assert_eq!(rt; sample.floor(), Some(&two));
-    assert!(rt; !sample.awaits(Key(2)) && sample.select(4).is_none());
+    holds(&rt, right);
+    is(&rt, sample.select(4), Some(two));
+    is(&rt, sample.floor(), Some(&two));
+    holds(&rt, !sample.awaits(Key(2)) && sample.select(4).is_none());
     sample.reset();
-    assert!(rt; sample.floor().is_none() && sample.awaits(Key(4)));
+    holds(&rt, sample.floor().is_none() && sample.awaits(Key(4)));
     Ok(())
 }
 
@@ -830,9 +806,9 @@ fn a_probe_is_asked_through_a_lock(rt: HostRuntime) -> Result<(), Fail> {
     let mailbox = Mailbox::new(&lock);
     mailbox.attach(&rt, rt.alloc(), &mut pass)?;
     let known = mailbox.subscribe(&rt, rt.alloc(), &mut pass)?;
-    assert!(rt; known.is_none());
+    holds(&rt, known.is_none());
     let (node, history) = pass.close(&rt, lock).ok().ok_or("no ticket is left")?;
-    assert_eq!(rt; history.len(), 2);
-    assert!(rt; node.out.entries().is_empty());
+    is(&rt, history.len(), 2);
+    holds(&rt, node.out.entries().is_empty());
     Ok(())
 }

@@ -8,8 +8,8 @@
 //! The greatest epoch registered is the desk's one record, an encoded epoch in the file `Plan` of a disk of its own. An epoch is there before its
 //! registration is answered Ok, so whatever cuts a life short, no later life signs for an epoch below it.
 //!
-//! How a validator registers, signs and combines, where `partials` has fewer than 2^32 - 1 partials of others (the tests have these lines as a
-//! function, `register_sign_and_combine`, so they compile and are proved):
+//! How a validator registers, signs and combines, where `partials` has fewer than 2^32 - 1 partials of others (`dkg_sign_calls` has these
+//! lines as a function, `register_sign_and_combine`, so they compile and are proved):
 //!
 //! ```text
 //! let mut fuse = Fuse::never();
@@ -45,8 +45,6 @@ mod material;
 mod partial;
 mod register;
 mod registrar;
-#[cfg(test)]
-mod tests;
 
 pub use desk::SigningDesk;
 pub use error::{CombineError, DeskError, SignError};

@@ -1,5 +1,6 @@
 //! The script of a number, whose text is read again.
 
+use crate::asserts::is;
 use dkg_generator::make_script;
 use dkg_text::{read_script, script_text};
 use std::test::Fail;
@@ -9,7 +10,7 @@ fn a_script_is_made(rt: HostRuntime) -> Result<(), Fail> {
     let script = make_script(rt.alloc(), 7)?;
     let text = script_text(rt.alloc(), &script)?;
     let read = read_script(rt.alloc(), text.as_slice(), false)?;
-    assert_eq!(rt; read.blocks.as_slice().len(), 320);
-    assert_eq!(rt; read.lives.as_slice().len(), 6);
+    is(&rt, read.blocks.as_slice().len(), 320);
+    is(&rt, read.lives.as_slice().len(), 6);
     Ok(())
 }

@@ -2,8 +2,9 @@
 
 mod lines;
 
+use crate::asserts::is;
 use dkg_ceremony::Key;
-use dkg_text::{ScriptError, event_bytes, read_script, script_text};
+use dkg_text::{Script, ScriptError, event_bytes, read_script, script_text};
 use std::alloc::Global;
 use std::process::Abort;
 use std::test::Fail;
@@ -40,6 +41,17 @@ fn misses(
     Ok(())
 }
 
+/// That the text of each row is refused at the row's place. In a row a slash stands for the end of a line.
+fn all_miss(rt: &(impl Abort + AllocGlobal), text: &str, rows: &str) -> Result<(), Fail> {
+    for row in rows.lines() {
+        let row = row.replace(rt.alloc(), "/", "\n")?;
+        let (place, parts) = row.as_str().split_once("|").ok_or("no place")?;
+        let (part, by) = parts.split_once("|").ok_or("no part")?;
+        misses(rt, text, part, by, place.parse::<u64>()?)?;
+    }
+    Ok(())
+}
+
 /// That a text is read, and written again as it was.
 fn returns(rt: &(impl Abort + AllocGlobal), text: &str, addressed: bool) -> Result<(), Fail> {
     let script = read_script(rt.alloc(), text.as_bytes(), addressed)?;
@@ -52,14 +64,26 @@ fn returns(rt: &(impl Abort + AllocGlobal), text: &str, addressed: bool) -> Resu
 fn a_script_is_read_and_written(rt: HostRuntime) -> Result<(), Fail> {
     returns(&rt, RESHARE, false)?;
     returns(&rt, ONE_SHOT, false)?;
-    returns(&rt, ONE_SHOT, true)?;
-    let script = read_script(rt.alloc(), RESHARE.as_bytes(), false)?;
-    assert_eq!(rt; script.config.me, Key(1));
+    returns(&rt, ONE_SHOT, true)
+}
+
+/// How many events the first life of a script has, and the text of the second.
+fn second_event(alloc: Global, script: &Script) -> Result<(usize, Vec<u8>), Fail> {
     let life = script.lives.as_slice().get(0).ok_or("no life")?;
-    assert_eq!(rt; life.events.len(), 19);
+    if life.events.len() < 2 {
+        return Err(Fail::from("a single event"));
+    }
     let second = life.events.at(1);
-    let event = event_bytes(rt.alloc(), &second)?;
-    assert_eq!(rt; event.as_slice(), b"peer 3 -".as_slice());
+    Ok((life.events.len(), event_bytes(alloc, &second)?))
+}
+
+#[test]
+fn a_script_has_its_events(rt: HostRuntime) -> Result<(), Fail> {
+    let script = read_script(rt.alloc(), RESHARE.as_bytes(), false)?;
+    is(&rt, script.config.me, Key(1));
+    let (count, event) = second_event(rt.alloc(), &script)?;
+    is(&rt, count, 19);
+    is(&rt, event.as_slice(), &b"peer 3 -"[..]);
     Ok(())
 }
 
@@ -68,187 +92,175 @@ fn directories_are_read_as_they_are_told(rt: HostRuntime) -> Result<(), Fail> {
     returns(&rt, ADDRESSED, true)?;
     misses(&rt, ADDRESSED, "dkg 1", "dkg 1", 45)?;
     let error = read_script(rt.alloc(), RESHARE.as_bytes(), true).err();
-    assert_eq!(rt; error, Some(ScriptError::Bad { place: 142 }));
+    is(&rt, error, Some(ScriptError::Bad { place: 142 }));
     Ok(())
 }
+
+/// Rows of the configuration: the place at which the text is refused, a part, and what stands in its stead.
+const CONFIGURATION: &str = "\
+0|dkg 1/|dkg 01/
+0|dkg 1/|dkg 2/
+0|dkg 1/|dkg 1 /
+0|dkg 1/|Dkg 1/
+0|dkg 1/|
+6|me 1/|me 4294967296/
+6|me 1/|me +1/
+6|me 1/|me/
+6|me 1/|me  1/
+11|me 1/|me 1/me 1/
+11|blocks 8|blocks 0
+11|blocks 8|blocks 18446744073709551616
+20|limit 4|limit 0
+20|limit 4|limit 1073741825
+28|mode 0 1|mode 2 1
+28|mode 0 1|mode 0 2
+28|mode 0 1|mode 0
+37|space 6b65|space 6B65
+37|space 6b65|space 6b6
+37|space 6b65|space 
+48|players 2 1 2 3 4|players 2 1 3 2 4
+66|players 2 1 2 3 4|players 3 1 2 3 4
+48|players 2 1|players 2 1 1
+66|players 3/|players/
+76|players 7 4294967295|players 7 4294967296
+97|address 2 1 65535|address 2 1 65536
+97|address 2 1 65535|address 2 1
+97|address 2 1 65535|address 2 1 65535 1
+115|address 5|address 2
+115|address 5 4294967295|address 5 4294967296
+142|probe 1 -|probe 1 --
+142|probe 1 -|probe - -
+";
 
 #[test]
 fn lines_of_the_configuration_just_miss(rt: HostRuntime) -> Result<(), Fail> {
-    for (part, by, place) in [
-        ("dkg 1\n", "dkg 01\n", 0),
-        ("dkg 1\n", "dkg 2\n", 0),
-        ("dkg 1\n", "dkg 1 \n", 0),
-        ("dkg 1\n", "Dkg 1\n", 0),
-        ("dkg 1\n", "", 0),
-        ("me 1\n", "me 4294967296\n", 6),
-        ("me 1\n", "me +1\n", 6),
-        ("me 1\n", "me\n", 6),
-        ("me 1\n", "me  1\n", 6),
-        ("me 1\n", "me 1\nme 1\n", 11),
-        ("blocks 8", "blocks 0", 11),
-        ("blocks 8", "blocks 18446744073709551616", 11),
-        ("limit 4", "limit 0", 20),
-        ("limit 4", "limit 1073741825", 20),
-        ("mode 0 1", "mode 2 1", 28),
-        ("mode 0 1", "mode 0 2", 28),
-        ("mode 0 1", "mode 0", 28),
-        ("space 6b65", "space 6B65", 37),
-        ("space 6b65", "space 6b6", 37),
-        ("space 6b65", "space ", 37),
-        ("players 2 1 2 3 4", "players 2 1 3 2 4", 48),
-        ("players 2 1 2 3 4", "players 3 1 2 3 4", 66),
-        ("players 2 1", "players 2 1 1", 48),
-        ("players 3\n", "players\n", 66),
-        ("players 7 4294967295", "players 7 4294967296", 76),
-        ("address 2 1 65535", "address 2 1 65536", 97),
-        ("address 2 1 65535", "address 2 1", 97),
-        ("address 2 1 65535", "address 2 1 65535 1", 97),
-        ("address 5", "address 2", 115),
-        ("address 5 4294967295", "address 5 4294967296", 115),
-        ("probe 1 -", "probe 1 --", 142),
-        ("probe 1 -", "probe - -", 142),
-    ] {
-        misses(&rt, RESHARE, part, by, place)?;
-    }
-    Ok(())
+    all_miss(&rt, RESHARE, CONFIGURATION)
 }
+
+/// Rows of blocks: the place at which the text is refused, a part, and what stands in its stead.
+const BLOCKS: &str = "\
+510|block 0 - 0 |block 0 0 0 
+510|block 0 - 0 0100|block 0 - 0 0300
+510|block 0 - 0 0100|block 0 - 0 ff0100
+701|block 1 0 5 -|block 1 1 5 -
+701|block 1 0 5 -|block 1 0 5
+701|block 1 0 5 -|block 1 0 05 -
+701|block 1 0 5 -|block 18446744073709551616 0 5 -
+";
 
 #[test]
 fn lines_of_blocks_just_miss(rt: HostRuntime) -> Result<(), Fail> {
-    for (part, by, place) in [
-        ("block 0 - 0 ", "block 0 0 0 ", 510),
-        ("block 0 - 0 0100", "block 0 - 0 0300", 510),
-        ("block 0 - 0 0100", "block 0 - 0 ff0100", 510),
-        ("block 1 0 5 -", "block 1 1 5 -", 701),
-        ("block 1 0 5 -", "block 1 0 5", 701),
-        ("block 1 0 5 -", "block 1 0 05 -", 701),
-        ("block 1 0 5 -", "block 18446744073709551616 0 5 -", 701),
-    ] {
-        misses(&rt, RESHARE, part, by, place)?;
-    }
-    Ok(())
+    all_miss(&rt, RESHARE, BLOCKS)
 }
+
+/// Rows of lives: the place at which the text is refused, a part, and what stands in its stead.
+const LIVES: &str = "\
+748|life 9/|
+748|life 9/|life/
+748|life 9/|life 18446744073709551616/
+755|life 9/|life 9/life 9/
+755|processed 1|processed 3
+767|processed 1|processed 1/absent 1
+767|held 0 2|held 2 0
+767|held 0 2|held 0 0
+767|held 0 2|held 0 3
+767|held 0 2|held
+776|held 0 2/|held 0 2/processed 1/
+776|sync 01|sync 00
+776| 0 4 1/peer| 0 4 3/peer
+776| 0 4 1/peer| 0 4/peer
+";
 
 #[test]
 fn lines_of_lives_just_miss(rt: HostRuntime) -> Result<(), Fail> {
-    for (part, by, place) in [
-        ("life 9\n", "", 748),
-        ("life 9\n", "life\n", 748),
-        ("life 9\n", "life 18446744073709551616\n", 748),
-        ("life 9\n", "life 9\nlife 9\n", 755),
-        ("processed 1", "processed 3", 755),
-        ("processed 1", "processed 1\nabsent 1", 767),
-        ("held 0 2", "held 2 0", 767),
-        ("held 0 2", "held 0 0", 767),
-        ("held 0 2", "held 0 3", 767),
-        ("held 0 2", "held", 767),
-        ("held 0 2\n", "held 0 2\nprocessed 1\n", 776),
-        ("sync 01", "sync 00", 776),
-        (" 0 4 1\npeer", " 0 4 3\npeer", 776),
-        (" 0 4 1\npeer", " 0 4\npeer", 776),
-    ] {
-        misses(&rt, RESHARE, part, by, place)?;
-    }
-    Ok(())
+    all_miss(&rt, RESHARE, LIVES)
 }
+
+/// Rows of events: the place at which the text is refused, a part, and what stands in its stead.
+const EVENTS: &str = "\
+994|peer 3 -|peer 3
+994|peer 3 -|peer 3 FF
+994|peer 3 -|peer 3 - -
+1003|final 1|final 3
+1003|final 1|final -1
+1011|final 1/|final 1/held 0/
+1030|info 3|info 4
+1037|info 3|info 3/info 3
+1030|info 3|Info 3
+1046|info 3/feed 3 0|info 3/next 3 1/feed 3 3
+1037|feed 3 0|feed 3
+1062|work/|work 1/
+1067|prepare 1 0|prepare 1 3
+1079|propose/|propose /
+1087|verify 2 2|verify 2,2
+1087|verify 2 2|verify 3 2
+1011|next 4 5|next 4
+1011|next 4 5|next 4 5 6
+1020|release 5|release
+1020|release 5|release 05
+1037|feed 3 0|feed 3 3
+1046|over 3|over 3 3
+1053|cancel 9|cancel -
+1079|propose/|propose 3/
+1098|later 3 1|later 3 18446744073709551616
+1098|later 3 1|later 3
+1118|unsubscribe|unsubscribe 1
+1130|attach|attached
+1148|retry/|retry 1/
+1108|subscribe|subscribes
+1137|reply 4 ff|reply 4 f
+1137|reply 4 ff|reply 4294967296 ff
+";
 
 #[test]
 fn lines_of_events_just_miss(rt: HostRuntime) -> Result<(), Fail> {
-    for (part, by, place) in [
-        ("peer 3 -", "peer 3", 994),
-        ("peer 3 -", "peer 3 FF", 994),
-        ("peer 3 -", "peer 3 - -", 994),
-        ("final 1", "final 3", 1003),
-        ("final 1", "final -1", 1003),
-        ("final 1\n", "final 1\nheld 0\n", 1011),
-        ("info 3", "info 4", 1030),
-        ("info 3", "info 3\ninfo 3", 1037),
-        ("info 3", "Info 3", 1030),
-        ("info 3\nfeed 3 0", "info 3\nnext 3 1\nfeed 3 3", 1046),
-        ("feed 3 0", "feed 3", 1037),
-        ("work\n", "work 1\n", 1062),
-        ("prepare 1 0", "prepare 1 3", 1067),
-        ("propose\n", "propose \n", 1079),
-        ("verify 2 2", "verify 2,2", 1087),
-        ("verify 2 2", "verify 3 2", 1087),
-        ("next 4 5", "next 4", 1011),
-        ("next 4 5", "next 4 5 6", 1011),
-        ("release 5", "release", 1020),
-        ("release 5", "release 05", 1020),
-        ("feed 3 0", "feed 3 3", 1037),
-        ("over 3", "over 3 3", 1046),
-        ("cancel 9", "cancel -", 1053),
-        ("propose\n", "propose 3\n", 1079),
-        ("later 3 1", "later 3 18446744073709551616", 1098),
-        ("later 3 1", "later 3", 1098),
-        ("unsubscribe", "unsubscribe 1", 1118),
-        ("attach", "attached", 1130),
-        ("retry\n", "retry 1\n", 1148),
-        ("subscribe", "subscribes", 1108),
-        ("reply 4 ff", "reply 4 f", 1137),
-        ("reply 4 ff", "reply 4294967296 ff", 1137),
-    ] {
-        misses(&rt, RESHARE, part, by, place)?;
-    }
-    Ok(())
+    all_miss(&rt, RESHARE, EVENTS)
 }
+
+/// Rows of the end: the place at which the text is refused, a part, and what stands in its stead.
+const LAST_LINES: &str = "\
+1154|cut 19 5|cut 20 5
+1154|cut 19 5|cut 19 5 5
+1154|cut 19 5 18446744073709551615|cut 19 5
+1154|cut 19 5 1844|cut 19 5 11844
+1165|cut 19 5 18446744073709551615/|cut 19 5 0/cut 19 5 0/
+1165|cut 19 5 18446744073709551615/|cut 19 5 0/retry/
+1159|retry/cut 19 5 18446744073709551615/|cut 18 5 0/retry/
+1184|stop 1/life|life
+1184|stop 1/|stop 01/
+1191|stop 1/|stop 1/block 1 0 5 -/
+1217|absent 1|absent 0
+1217|absent 1|absent 3
+1226|stop 0/end|end
+1233|end/|end
+1233|end/|
+1237|end/|end//
+1237|end/|end/end/
+1233|end/|end /
+1233|end/|end\r/
+1233|stop 0/|stop 0//
+";
 
 #[test]
 fn last_lines_just_miss(rt: HostRuntime) -> Result<(), Fail> {
-    for (part, by, place) in [
-        ("cut 19 5", "cut 20 5", 1154),
-        ("cut 19 5", "cut 19 5 5", 1154),
-        ("cut 19 5 18446744073709551615", "cut 19 5", 1154),
-        ("cut 19 5 1844", "cut 19 5 11844", 1154),
-        (
-            "cut 19 5 18446744073709551615\n",
-            "cut 19 5 0\ncut 19 5 0\n",
-            1165,
-        ),
-        (
-            "cut 19 5 18446744073709551615\n",
-            "cut 19 5 0\nretry\n",
-            1165,
-        ),
-        (
-            "retry\ncut 19 5 18446744073709551615\n",
-            "cut 18 5 0\nretry\n",
-            1159,
-        ),
-        ("stop 1\nlife", "life", 1184),
-        ("stop 1\n", "stop 01\n", 1184),
-        ("stop 1\n", "stop 1\nblock 1 0 5 -\n", 1191),
-        ("absent 1", "absent 0", 1217),
-        ("absent 1", "absent 3", 1217),
-        ("stop 0\nend", "end", 1226),
-        ("end\n", "end", 1233),
-        ("end\n", "", 1233),
-        ("end\n", "end\n\n", 1237),
-        ("end\n", "end\nend\n", 1237),
-        ("end\n", "end \n", 1233),
-        ("end\n", "end\r\n", 1233),
-        ("stop 0\n", "stop 0\n\n", 1233),
-    ] {
-        misses(&rt, RESHARE, part, by, place)?;
-    }
-    Ok(())
+    all_miss(&rt, RESHARE, LAST_LINES)
 }
+
+/// Rows of a one-shot script: the place at which the text is refused, a part, and what stands in its stead.
+const ONE_SHOT_LINES: &str = "\
+62|oneshot/|oneshot/oneshot/
+54|oneshot/|oneshot 2 1/
+64|oneshot/|players 1/oneshot/
+69|info 1|retry
+69|info 1|reply 1 ff
+99|info 2|info 1
+106|cut 0|cut 3
+37|mode 1 0|mode 01 0
+46|space -|space --
+58|space -|space -/end/
+";
 
 #[test]
 fn one_shot_lines_just_miss(rt: HostRuntime) -> Result<(), Fail> {
-    for (part, by, place) in [
-        ("oneshot\n", "oneshot\noneshot\n", 62),
-        ("oneshot\n", "oneshot 2 1\n", 54),
-        ("oneshot\n", "players 1\noneshot\n", 64),
-        ("info 1", "retry", 69),
-        ("info 1", "reply 1 ff", 69),
-        ("info 2", "info 1", 99),
-        ("cut 0", "cut 3", 106),
-        ("mode 1 0", "mode 01 0", 37),
-        ("space -", "space --", 46),
-        ("space -", "space -\nend\n", 58),
-    ] {
-        misses(&rt, ONE_SHOT, part, by, place)?;
-    }
-    Ok(())
+    all_miss(&rt, ONE_SHOT, ONE_SHOT_LINES)
 }

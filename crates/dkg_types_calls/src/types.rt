@@ -1,6 +1,7 @@
+use crate::asserts::{holds, is, is_at};
 use dkg_ceremony::{
     CodecError, Digest, Element, EncodeSize, Epoch, Height, Key, Map, Mark, Mem, ModeVersion,
-    NoMemory, Private, Public, Read, Set, Share, Value, What, decode_cfg, encode, round_trip,
+    NoMemory, Private, Public, Read, Set, Share, Value, Write, decode_cfg, encode, round_trip,
 };
 use dkg_types::*;
 use std::alloc::Global;
@@ -14,20 +15,12 @@ const INFO: [u8; 88] = [
     0, 0, 3, 0, 0, 0, 4, 4, 0, 0, 0, 1, 0, 0, 0, 2, 0, 0, 0, 3, 0, 0, 0, 4,
 ];
 
-fn fault_of<T: Drop>(answer: Result<T, CodecError>) -> Option<CodecError> {
-    match answer {
-        Ok(_) => None,
-        Err(fault) => Some(fault),
-    }
-}
-
 fn four() -> Result<NonZeroU32, Fail> {
     Ok(NonZeroU32::new(4).ok_or("four is not zero")?)
 }
 
 fn info(alloc: Global) -> Result<EpochInfo<Unit>, Fail> {
-    let limits = (four()?, ModeVersion(0));
-    Ok(decode_cfg::<EpochInfo<Unit>>(alloc, &INFO, &limits)?)
+    Ok(decode_cfg::<EpochInfo<Unit>>(alloc, &INFO, &limits()?)?)
 }
 
 fn keys(alloc: Global, count: u32) -> Result<Set, Fail> {
@@ -41,49 +34,79 @@ fn keys(alloc: Global, count: u32) -> Result<Set, Fail> {
     Ok(Set::from_any(alloc, &keys)?)
 }
 
+/// What reading some bytes as a value gives: none, or why not.
+fn fault_of<T: Read + Drop>(alloc: Global, bytes: &[u8], cfg: &T::Cfg) -> Option<CodecError> {
+    decode_cfg::<T>(alloc, bytes, cfg).err()
+}
+
 /// What reading the first bytes gives, one of them another.
 fn fault_at<T: Read + Drop>(
     alloc: Global,
     bytes: &[u8],
-    (place, byte, len): (usize, u8, usize),
+    edit: (usize, u8, usize),
     cfg: &T::Cfg,
 ) -> Result<Option<CodecError>, Fail> {
+    let (place, byte, len) = edit;
     let mut bytes = bytes.to_vec(alloc)?;
     if place >= bytes.len() || len > bytes.len() {
         return Err(Fail::from("past the end"));
     }
     bytes[place] = byte;
-    Ok(fault_of(decode_cfg::<T>(alloc, &bytes[..len], cfg)))
+    Ok(fault_of::<T>(alloc, &bytes[..len], cfg))
 }
 
-fn fault_of_info(alloc: Global, at: (usize, u8, usize)) -> Result<Option<CodecError>, Fail> {
-    let limits = (four()?, ModeVersion(0));
-    fault_at::<EpochInfo<Unit>>(alloc, &INFO, at, &limits)
+fn number(word: Option<&str>) -> Result<usize, Fail> {
+    Ok(word.ok_or("no number")?.parse::<usize>()?)
 }
+
+/// The edit of a row: at which place stands which byte, and how many bytes there are.
+fn edit_of(row: &str) -> Result<(usize, u8, usize), Fail> {
+    let mut words = row.split(' ');
+    let place = number(words.next())?;
+    let byte = u8::try_from(number(words.next())?)?;
+    let len = number(words.next())?;
+    Ok((place, byte, len))
+}
+
+/// These rows, each of an edit, with what reading the bytes gives then in place of what stands behind it.
+fn edited<T: Read + Drop>(
+    alloc: Global,
+    bytes: &[u8],
+    cfg: &T::Cfg,
+    rows: &str,
+) -> Result<String, Fail> {
+    let mut told = String::new(alloc);
+    for row in rows.lines() {
+        let (place, byte, len) = edit_of(row)?;
+        let fault = fault_at::<T>(alloc, bytes, (place, byte, len), cfg)?;
+        let row = format!(in alloc; "{place} {byte} {len} {fault:?}\n")?;
+        told.push_str(row.as_str())?;
+    }
+    Ok(told)
+}
+
+fn limits() -> Result<(NonZeroU32, ModeVersion), Fail> {
+    Ok((four()?, ModeVersion(0)))
+}
+
+/// Each row tells which byte of an info is another one, which, of how many bytes, and what reading them gives.
+const INFO_EDITS: &str = "\
+0 1 88 None
+0 2 88 Some(InvalidEnum(2))
+1 128 88 Some(InvalidVarint)
+10 1 88 Some(InvalidEnum(1))
+11 3 88 Some(Invalid(Output))
+54 5 88 Some(InvalidLength { got: 5, max: 4 })
+58 2 88 Some(Invalid(Set))
+71 3 88 Some(ExtraData)
+87 9 87 Some(EndOfBuffer)
+12 128 88 Some(InvalidVarint)
+";
 
 #[test]
 fn edited_infos_are_refused(rt: HostRuntime) -> Result<(), Fail> {
-    let rows: [(usize, u8, usize, Option<CodecError>); 10] = [
-        (0, 1, 88, None),
-        (0, 2, 88, Some(CodecError::InvalidEnum(2))),
-        (1, 0x80, 88, Some(CodecError::InvalidVarint)),
-        (10, 1, 88, Some(CodecError::InvalidEnum(1))),
-        (11, 3, 88, Some(CodecError::Invalid(What::Output))),
-        (
-            54,
-            5,
-            88,
-            Some(CodecError::InvalidLength { got: 5, max: 4 }),
-        ),
-        (58, 2, 88, Some(CodecError::Invalid(What::Set))),
-        (71, 3, 88, Some(CodecError::ExtraData)),
-        (87, 9, 87, Some(CodecError::EndOfBuffer)),
-        (12, 0x80, 88, Some(CodecError::InvalidVarint)),
-    ];
-    for (place, byte, len, want) in rows {
-        let fault = fault_of_info(rt.alloc(), (place, byte, len))?;
-        assert_eq!(rt; fault, want, "{byte} at {place} of {len}");
-    }
+    let told = edited::<EpochInfo<Unit>>(rt.alloc(), &INFO, &limits()?, INFO_EDITS)?;
+    is(&rt, told.as_str(), INFO_EDITS);
     Ok(())
 }
 
@@ -101,77 +124,71 @@ const LOG: [u8; 57] = [
     0, 128, 143, 198, 40, 248, 59, 24, 184,
 ];
 
-fn fault_of_payload(
-    alloc: Global,
-    bytes: &[u8],
-    at: (usize, u8, usize),
-) -> Result<Option<CodecError>, Fail> {
-    let limits = (four()?, ModeVersion(0));
-    fault_at::<Payload<Unit>>(alloc, bytes, at, &limits)
+/// The same of the worked info as a payload.
+const PAYLOAD_EDITS: &str = "\
+0 1 89 None
+0 2 89 Some(InvalidEnum(2))
+0 1 0 Some(EndOfBuffer)
+1 2 89 Some(InvalidEnum(2))
+2 128 89 Some(InvalidVarint)
+55 5 89 Some(InvalidLength { got: 5, max: 4 })
+12 3 89 Some(Invalid(Output))
+72 3 89 Some(ExtraData)
+";
+
+/// The same of the log.
+const LOG_EDITS: &str = "\
+4 9 57 None
+0 1 57 Some(InvalidEnum(1))
+5 0 57 Some(InvalidLength { got: 0, max: 4 })
+5 5 57 Some(InvalidLength { got: 5, max: 4 })
+12 5 57 Some(InvalidLength { got: 5, max: 4 })
+12 3 57 Some(ExtraData)
+13 2 57 Some(InvalidEnum(2))
+13 1 57 Some(InvalidEnum(132))
+55 0 56 Some(EndOfBuffer)
+";
+
+fn edited_payload(alloc: Global, bytes: &[u8], rows: &str) -> Result<String, Fail> {
+    edited::<Payload<Unit>>(alloc, bytes, &limits()?, rows)
 }
 
 #[test]
 fn edited_payloads_are_refused(rt: HostRuntime) -> Result<(), Fail> {
-    let rows: [(usize, u8, usize, Option<CodecError>); 8] = [
-        (0, 1, 89, None),
-        (0, 2, 89, Some(CodecError::InvalidEnum(2))),
-        (0, 1, 0, Some(CodecError::EndOfBuffer)),
-        (1, 2, 89, Some(CodecError::InvalidEnum(2))),
-        (2, 0x80, 89, Some(CodecError::InvalidVarint)),
-        (
-            55,
-            5,
-            89,
-            Some(CodecError::InvalidLength { got: 5, max: 4 }),
-        ),
-        (12, 3, 89, Some(CodecError::Invalid(What::Output))),
-        (72, 3, 89, Some(CodecError::ExtraData)),
-    ];
-    for (place, byte, len, want) in rows {
-        let fault = fault_of_payload(rt.alloc(), &PAYLOAD, (place, byte, len))?;
-        assert_eq!(rt; fault, want, "{byte} at {place} of {len}");
-    }
-    Ok(())
-}
-
-#[test]
-fn edited_logs_are_refused(rt: HostRuntime) -> Result<(), Fail> {
-    let length = |got| Some(CodecError::InvalidLength { got, max: 4 });
-    let rows: [(usize, u8, usize, Option<CodecError>); 9] = [
-        (4, 9, 57, None),
-        (0, 1, 57, Some(CodecError::InvalidEnum(1))),
-        (5, 0, 57, length(0)),
-        (5, 5, 57, length(5)),
-        (12, 5, 57, length(5)),
-        (12, 3, 57, Some(CodecError::ExtraData)),
-        (13, 2, 57, Some(CodecError::InvalidEnum(2))),
-        (13, 1, 57, Some(CodecError::InvalidEnum(132))),
-        (55, 0, 56, Some(CodecError::EndOfBuffer)),
-    ];
-    for (place, byte, len, want) in rows {
-        let fault = fault_of_payload(rt.alloc(), &LOG, (place, byte, len))?;
-        assert_eq!(rt; fault, want, "{byte} at {place} of {len}");
-    }
+    let told = edited_payload(rt.alloc(), &PAYLOAD, PAYLOAD_EDITS)?;
+    is(&rt, told.as_str(), PAYLOAD_EDITS);
+    let told = edited_payload(rt.alloc(), &LOG, LOG_EDITS)?;
+    is(&rt, told.as_str(), LOG_EDITS);
     Ok(())
 }
 
 fn payload_of(alloc: Global, bytes: &[u8]) -> Result<Payload<Unit>, Fail> {
-    let limits = (four()?, ModeVersion(0));
-    Ok(decode_cfg::<Payload<Unit>>(alloc, bytes, &limits)?)
+    Ok(decode_cfg::<Payload<Unit>>(alloc, bytes, &limits()?)?)
 }
 
-/// Whether the bytes are a payload that is spelled so again.
-fn is_payload(alloc: Global, bytes: &[u8]) -> Result<bool, Fail> {
-    let payload = payload_of(alloc, bytes)?;
-    let copy = payload.copy(alloc)?;
-    Ok(copy.same(&payload) && encode(alloc, &copy)?.as_slice() == bytes)
+/// Whether the bytes are a value of which a copy is spelled so again.
+fn is_spelled<T: Read + Value + Write + EncodeSize + Drop>(
+    alloc: Global,
+    bytes: &[u8],
+    cfg: &T::Cfg,
+) -> Result<bool, Fail>
+    requires { (v : T) → T.can_size v }
+{
+    let value = decode_cfg::<T>(alloc, bytes, cfg)?;
+    let copy = value.copy(alloc)?;
+    Ok(copy.same(&value) && encode(alloc, &copy)?.as_slice() == bytes)
 }
 
 #[test]
 fn payloads_are_spelled_as_they_were_read(rt: HostRuntime) -> Result<(), Fail> {
-    let alloc = rt.alloc();
-    assert!(rt; is_payload(alloc, &LOG)?);
-    assert!(rt; is_payload(alloc, &PAYLOAD)?);
+    holds(
+        &rt,
+        is_spelled::<Payload<Unit>>(rt.alloc(), &LOG, &limits()?)?,
+    );
+    holds(
+        &rt,
+        is_spelled::<Payload<Unit>>(rt.alloc(), &PAYLOAD, &limits()?)?,
+    );
     Ok(())
 }
 
@@ -179,35 +196,35 @@ fn payloads_are_spelled_as_they_were_read(rt: HostRuntime) -> Result<(), Fail> {
 fn a_log_is_no_info(rt: HostRuntime) -> Result<(), Fail> {
     let alloc = rt.alloc();
     let log = payload_of(alloc, &LOG)?;
-    assert!(rt; !log.same(&payload_of(alloc, &PAYLOAD)?));
+    holds(&rt, !log.same(&payload_of(alloc, &PAYLOAD)?));
     let block = block_of(alloc, log)?;
-    assert!(rt; block.payload().is_some());
-    assert!(rt; block.epoch_info().is_none());
+    holds(&rt, block.payload().is_some());
+    holds(&rt, block.epoch_info().is_none());
     Ok(())
 }
 
 #[test]
 fn an_info_is_spelled_as_it_was_read(rt: HostRuntime) -> Result<(), Fail> {
     let alloc = rt.alloc();
+    holds(
+        &rt,
+        is_spelled::<EpochInfo<Unit>>(alloc, &INFO, &limits()?)?,
+    );
     let value = info(alloc)?;
-    assert_eq!(rt; value.epoch, Epoch(0));
-    let copy = value.copy(alloc)?;
-    assert!(rt; copy.same(&value));
-    let bytes = encode(alloc, &copy)?;
-    assert_eq!(rt; bytes.as_slice(), INFO.as_slice());
-    let payload = encode(alloc, &Payload::EpochInfo(copy))?;
-    assert_eq!(rt; payload.as_slice(), PAYLOAD.as_slice());
+    is(&rt, value.epoch, Epoch(0));
+    let payload = encode(alloc, &Payload::EpochInfo(value))?;
+    is(&rt, payload.as_slice(), PAYLOAD.as_slice());
     Ok(())
 }
 
 #[test]
 fn bounds_are_those_of_four_participants(rt: HostRuntime) -> Result<(), Fail> {
     let max = four()?;
-    assert_eq!(rt; EpochInfo::<Unit>::max_encode_size(max), 143);
-    assert_eq!(rt; Payload::<Unit>::max_encode_size(max), 144);
-    assert_eq!(rt; Block::<Unit>::max_encode_size(max), 253);
-    assert_eq!(rt; Message::max_encode_size(max), 16);
-    assert_eq!(rt; max_payload_size(max), 26);
+    is(&rt, EpochInfo::<Unit>::max_encode_size(max), 143);
+    is(&rt, Payload::<Unit>::max_encode_size(max), 144);
+    is(&rt, Block::<Unit>::max_encode_size(max), 253);
+    is(&rt, Message::max_encode_size(max), 16);
+    is(&rt, max_payload_size(max), 26);
     Ok(())
 }
 
@@ -265,7 +282,7 @@ fn participants_are_validated_in_order(rt: HostRuntime) -> Result<(), Fail> {
     ];
     for (sizes, max, round, want) in rows {
         let answer = validated(rt.alloc(), sizes, max, round)?;
-        assert_eq!(rt; answer, want, "of {sizes:?} under {max}");
+        is_at(&rt, answer, want, (sizes, max));
     }
     Ok(())
 }
@@ -279,32 +296,29 @@ fn outcomes_and_messages_are_read(rt: HostRuntime) -> Result<(), Fail> {
         (&[2], Err(CodecError::InvalidEnum(2))),
     ];
     for (bytes, want) in rows {
-        assert_eq!(rt; decode_cfg::<EpochOutcome>(alloc, bytes, &()), want);
+        is(&rt, decode_cfg::<EpochOutcome>(alloc, bytes, &()), want);
     }
-    assert_eq!(rt;
+    is(
+        &rt,
         round_trip(alloc, &EpochOutcome::Failure, &()),
-        Ok(EpochOutcome::Failure)
+        Ok(EpochOutcome::Failure),
     );
     Ok(())
-}
-
-/// Whether the bytes are a message that is spelled so again.
-fn is_message(alloc: Global, bytes: &[u8]) -> Result<bool, Fail> {
-    let message = decode_cfg::<Message>(alloc, bytes, &4)?;
-    let copy = message.copy(alloc)?;
-    Ok(copy.same(&message) && encode(alloc, &copy)?.as_slice() == bytes)
 }
 
 #[test]
 fn messages_are_spelled_as_they_were_read(rt: HostRuntime) -> Result<(), Fail> {
     let alloc = rt.alloc();
     let dealing = [0, 3, 0, 15, 0, 7, 0, 1, 0, 23];
-    assert!(rt; is_message(alloc, &dealing)?);
-    assert!(rt; is_message(alloc, &[1, 1, 2, 3, 4, 5, 6, 7, 8])?);
-    let fault = fault_of(decode_cfg::<Message>(alloc, &[2], &4));
-    assert_eq!(rt; fault, Some(CodecError::InvalidEnum(2)));
-    let fault = fault_of(decode_cfg::<Message>(alloc, &dealing[..9], &4));
-    assert_eq!(rt; fault, Some(CodecError::EndOfBuffer));
+    holds(&rt, is_spelled::<Message>(alloc, &dealing, &4)?);
+    holds(
+        &rt,
+        is_spelled::<Message>(alloc, &[1, 1, 2, 3, 4, 5, 6, 7, 8], &4)?,
+    );
+    let fault = fault_of::<Message>(alloc, &[2], &4);
+    is(&rt, fault, Some(CodecError::InvalidEnum(2)));
+    let fault = fault_of::<Message>(alloc, &dealing[..9], &4);
+    is(&rt, fault, Some(CodecError::EndOfBuffer));
     Ok(())
 }
 
@@ -312,10 +326,13 @@ fn messages_are_spelled_as_they_were_read(rt: HostRuntime) -> Result<(), Fail> {
 fn participants_are_spelled_as_they_were_read(rt: HostRuntime) -> Result<(), Fail> {
     let alloc = rt.alloc();
     let value = participants(alloc, (2, 3, 1))?;
-    let copy = value.copy(alloc)?;
-    let bytes = encode(alloc, &copy)?;
+    let bytes = encode(alloc, &value)?;
+    holds(
+        &rt,
+        is_spelled::<Participants>(alloc, bytes.as_slice(), &3)?,
+    );
     let again = decode_cfg::<Participants>(alloc, bytes.as_slice(), &3)?;
-    assert!(rt; again.same(&value));
+    holds(&rt, again.same(&value));
     Ok(())
 }
 
@@ -339,10 +356,10 @@ fn tracked(alloc: Global) -> Result<TrackedPeers, Fail> {
 fn players_are_tracked_beside_dealers(rt: HostRuntime) -> Result<(), Fail> {
     let alloc = rt.alloc();
     let peers = tracked(alloc)?.copy(alloc)?;
-    assert_eq!(rt; peers.primary.len(), 2);
+    is(&rt, peers.primary.len(), 2);
     let want = [Key(1), Key(2), Key(3), Key(9)];
-    assert_eq!(rt; peers.secondary.as_slice(), want.as_slice());
-    assert_eq!(rt; info(alloc)?.participants(alloc)?.players.len(), 4);
+    is(&rt, peers.secondary.as_slice(), want.as_slice());
+    is(&rt, info(alloc)?.participants(alloc)?.players.len(), 4);
     Ok(())
 }
 
@@ -371,9 +388,9 @@ fn part_of(alloc: Global, key: u32, share: Option<Share>) -> Result<Role, Fail> 
 fn a_share_makes_a_signer(rt: HostRuntime) -> Result<(), Fail> {
     let alloc = rt.alloc();
     let share = decode_cfg::<Share>(alloc, &[0, 8], &())?;
-    assert_eq!(rt; part_of(alloc, 1, Some(share))?, Role::Signer);
-    assert_eq!(rt; part_of(alloc, 4, None)?, Role::Member);
-    assert_eq!(rt; part_of(alloc, 5, None)?, Role::Verifier);
+    is(&rt, part_of(alloc, 1, Some(share))?, Role::Signer);
+    is(&rt, part_of(alloc, 4, None)?, Role::Member);
+    is(&rt, part_of(alloc, 5, None)?, Role::Verifier);
     Ok(())
 }
 
@@ -405,9 +422,9 @@ fn the_first_block_is_empty(rt: HostRuntime) -> Result<(), Fail> {
         0xd1, 0xc7, 0x1f, 0xae, 0xd3, 0x57, 0xf4, 0x93, 0xd2, 0xc8, 0x81, 0x99, 0xc5, 0x51, 0x39,
         0x51, 0x6a,
     ];
-    assert_eq!(rt; block.digest(), Digest(digest));
-    assert_eq!(rt; block.height(), Height(0));
-    assert!(rt; block.payload().is_none());
+    is(&rt, block.digest(), Digest(digest));
+    is(&rt, block.height(), Height(0));
+    holds(&rt, block.payload().is_none());
     Ok(())
 }
 
@@ -419,10 +436,10 @@ fn a_block_has_the_digest_of_its_encoding(rt: HostRuntime) -> Result<(), Fail> {
         0x98, 0xa5, 0xbb, 0x4b, 0x22, 0xa8, 0x1d, 0x2a, 0xf0, 0x19, 0xfd, 0x5c, 0xc1, 0x37, 0xe1,
         0x60, 0xa7,
     ];
-    assert_eq!(rt; block.digest(), Digest(digest));
-    assert_eq!(rt; block.parent(), Digest([9; 32]));
-    assert_eq!(rt; block.context().view, 300);
-    assert!(rt; block.epoch_info().is_some());
+    is(&rt, block.digest(), Digest(digest));
+    is(&rt, block.parent(), Digest([9; 32]));
+    is(&rt, block.context().view, 300);
+    holds(&rt, block.epoch_info().is_some());
     Ok(())
 }
 
@@ -440,7 +457,7 @@ const BLOCK: [u8; 163] = [
 fn a_block_is_spelled_with_its_payload(rt: HostRuntime) -> Result<(), Fail> {
     let block = later_block(rt.alloc())?;
     let bytes = encode(rt.alloc(), &block)?;
-    assert_eq!(rt; bytes.as_slice(), BLOCK.as_slice());
+    is(&rt, bytes.as_slice(), BLOCK.as_slice());
     Ok(())
 }
 
@@ -448,37 +465,27 @@ fn a_block_is_spelled_with_its_payload(rt: HostRuntime) -> Result<(), Fail> {
 fn a_copied_block_is_the_same(rt: HostRuntime) -> Result<(), Fail> {
     let block = later_block(rt.alloc())?;
     let copy = block.copy(rt.alloc())?;
-    assert!(rt; copy.same(&block));
+    holds(&rt, copy.same(&block));
     Ok(())
 }
 
-fn fault_of_block(alloc: Global, at: (usize, u8, usize)) -> Result<Option<CodecError>, Fail> {
-    let limits = (four()?, ModeVersion(0));
-    fault_at::<Block<Unit>>(alloc, &BLOCK, at, &limits)
-}
+/// As those of an info.
+const BLOCK_EDITS: &str = "\
+0 2 163 None
+2 0 163 Some(InvalidVarint)
+73 2 163 Some(InvalidEnum(2))
+73 0 163 Some(ExtraData)
+74 2 163 Some(InvalidEnum(2))
+129 5 163 Some(InvalidLength { got: 5, max: 4 })
+86 3 163 Some(Invalid(Output))
+133 2 163 Some(Invalid(Set))
+162 0 162 Some(EndOfBuffer)
+";
 
 #[test]
 fn edited_blocks_are_refused(rt: HostRuntime) -> Result<(), Fail> {
-    let rows: [(usize, u8, usize, Option<CodecError>); 9] = [
-        (0, 2, 163, None),
-        (2, 0, 163, Some(CodecError::InvalidVarint)),
-        (73, 2, 163, Some(CodecError::InvalidEnum(2))),
-        (73, 0, 163, Some(CodecError::ExtraData)),
-        (74, 2, 163, Some(CodecError::InvalidEnum(2))),
-        (
-            129,
-            5,
-            163,
-            Some(CodecError::InvalidLength { got: 5, max: 4 }),
-        ),
-        (86, 3, 163, Some(CodecError::Invalid(What::Output))),
-        (133, 2, 163, Some(CodecError::Invalid(What::Set))),
-        (162, 0, 162, Some(CodecError::EndOfBuffer)),
-    ];
-    for (place, byte, len, want) in rows {
-        let fault = fault_of_block(rt.alloc(), (place, byte, len))?;
-        assert_eq!(rt; fault, want, "{byte} at {place} of {len}");
-    }
+    let told = edited::<Block<Unit>>(rt.alloc(), &BLOCK, &limits()?, BLOCK_EDITS)?;
+    is(&rt, told.as_str(), BLOCK_EDITS);
     Ok(())
 }
 
@@ -488,11 +495,11 @@ fn a_finalization_bears_its_certificate(rt: HostRuntime) -> Result<(), Fail> {
     let scheme = StandScheme::new(Key(7));
     let sealed = scheme.seal(alloc, Epoch(1), 300, 2, Digest([9; 32]))?;
     let mark = [0x97, 0x84, 0xe5, 0x22, 0xd3, 0xa9, 0x90, 0xf7];
-    assert_eq!(rt; sealed.certificate, Mark(mark));
-    assert_eq!(rt; verified(&scheme, alloc, &sealed)?, true);
-    assert_eq!(rt; StandScheme::new(Key(8)).verify(alloc, &sealed)?, false);
-    assert_eq!(rt; round_trip(alloc, &sealed, &()), Ok(sealed));
-    assert_eq!(rt; sealed.encode_size(), 44);
+    is(&rt, sealed.certificate, Mark(mark));
+    is(&rt, verified(&scheme, alloc, &sealed)?, true);
+    is(&rt, StandScheme::new(Key(8)).verify(alloc, &sealed)?, false);
+    is(&rt, round_trip(alloc, &sealed, &()), Ok(sealed));
+    is(&rt, sealed.encode_size(), 44);
     Ok(())
 }
 
@@ -515,7 +522,7 @@ where
 fn a_provider_gives_its_set(rt: HostRuntime) -> Result<(), Fail> {
     let alloc = rt.alloc();
     let mut provider = StaticParticipants::new(keys(alloc, 3)?, Unit);
-    assert_eq!(rt; provided(&mut provider, alloc)?, (3, true));
+    is(&rt, provided(&mut provider, alloc)?, (3, true));
     Ok(())
 }
 
@@ -526,11 +533,11 @@ fn a_transcript_keeps_its_entries(rt: HostRuntime) -> Result<(), Fail> {
     told.reserve(2)?;
     told.push(Entry::Step { step: 0 })?;
     let fault = Fault::LocalState(LocalCause::ShareRefused { epoch: Epoch(2) });
-    assert_eq!(rt; fault.number(), 17);
+    is(&rt, fault.number(), 17);
     told.push(Entry::Fault(fault.copy(alloc)?))?;
-    assert_eq!(rt; told.entries().len(), 2);
-    assert_eq!(rt; Fault::from(NoMemory).number(), 1);
-    assert_eq!(rt; Fault::FloorBlockMissing.copy(alloc)?.number(), 19);
+    is(&rt, told.entries().len(), 2);
+    is(&rt, Fault::from(NoMemory).number(), 1);
+    is(&rt, Fault::FloorBlockMissing.copy(alloc)?.number(), 19);
     Ok(())
 }
 
@@ -540,54 +547,48 @@ const DIRECTORY: [u8; 47] = [
     0, 0, 0, 0, 3, 0, 3, 0, 0, 0, 0, 4, 0, 4, 0,
 ];
 
+/// As those of an info.
+const DIRECTORY_EDITS: &str = "\
+0 4 46 None
+0 3 46 Some(InvalidLength { got: 3, max: 4 })
+0 128 46 Some(InvalidVarint)
+4 2 46 Some(Invalid(Set))
+17 3 46 Some(InvalidLength { got: 3, max: 4 })
+18 2 46 Some(InvalidEnum(2))
+45 0 45 Some(EndOfBuffer)
+46 0 47 Some(ExtraData)
+";
+
 #[test]
 fn edited_directories_are_refused(rt: HostRuntime) -> Result<(), Fail> {
-    let rows: [(usize, u8, usize, Option<CodecError>); 8] = [
-        (0, 4, 46, None),
-        (0, 3, 46, Some(CodecError::InvalidLength { got: 3, max: 4 })),
-        (0, 0x80, 46, Some(CodecError::InvalidVarint)),
-        (4, 2, 46, Some(CodecError::Invalid(What::Set))),
-        (
-            17,
-            3,
-            46,
-            Some(CodecError::InvalidLength { got: 3, max: 4 }),
-        ),
-        (18, 2, 46, Some(CodecError::InvalidEnum(2))),
-        (45, 0, 45, Some(CodecError::EndOfBuffer)),
-        (46, 0, 47, Some(CodecError::ExtraData)),
-    ];
-    for (place, byte, len, want) in rows {
-        let fault = fault_at::<Addresses>(rt.alloc(), &DIRECTORY, (place, byte, len), &4)?;
-        assert_eq!(rt; fault, want, "{byte} at {place} of {len}");
-    }
+    let told = edited::<Addresses>(rt.alloc(), &DIRECTORY, &4, DIRECTORY_EDITS)?;
+    is(&rt, told.as_str(), DIRECTORY_EDITS);
     Ok(())
 }
 
-/// The worked info with the directory, of which one byte is another.
-fn fault_of_addressed(alloc: Global, place: usize, byte: u8) -> Result<Option<CodecError>, Fail> {
-    let mut bytes = INFO.as_slice().to_vec(alloc)?;
-    bytes.extend_from_slice(&DIRECTORY)?;
-    let limits = (four()?, ModeVersion(0));
-    fault_at::<EpochInfo<Addresses>>(alloc, &bytes, (place, byte, 134), &limits)
-}
+/// As those of an info, behind which stands the directory.
+const ADDRESSED_EDITS: &str = "\
+88 4 134 None
+88 3 134 Some(InvalidLength { got: 3, max: 4 })
+104 5 134 Some(Invalid(Directory))
+106 2 134 Some(InvalidEnum(2))
+";
 
 #[test]
 fn a_directory_is_of_the_peers(rt: HostRuntime) -> Result<(), Fail> {
-    let rows = [
-        (88, 4, None),
-        (88, 3, Some(CodecError::InvalidLength { got: 3, max: 4 })),
-        (104, 5, Some(CodecError::Invalid(What::Directory))),
-        (106, 2, Some(CodecError::InvalidEnum(2))),
-    ];
-    for (place, byte, want) in rows {
-        let fault = fault_of_addressed(rt.alloc(), place, byte)?;
-        assert_eq!(rt; fault, want, "{byte} at {place}");
-    }
+    let mut bytes = INFO.as_slice().to_vec(rt.alloc())?;
+    bytes.extend_from_slice(&DIRECTORY)?;
+    let told = edited::<EpochInfo<Addresses>>(rt.alloc(), &bytes, &limits()?, ADDRESSED_EDITS)?;
+    is(&rt, told.as_str(), ADDRESSED_EDITS);
+    Ok(())
+}
+
+#[test]
+fn bounds_grow_with_a_directory(rt: HostRuntime) -> Result<(), Fail> {
     let max = four()?;
-    assert_eq!(rt; EpochInfo::<Addresses>::max_encode_size(max), 357);
-    assert_eq!(rt; Payload::<Addresses>::max_encode_size(max), 358);
-    assert_eq!(rt; Block::<Addresses>::max_encode_size(max), 467);
+    is(&rt, EpochInfo::<Addresses>::max_encode_size(max), 357);
+    is(&rt, Payload::<Addresses>::max_encode_size(max), 358);
+    is(&rt, Block::<Addresses>::max_encode_size(max), 467);
     Ok(())
 }
 
@@ -598,45 +599,43 @@ const TWO: Address = Address::Asymmetric {
     egress: Socket { ip: 3, port: 3 },
 };
 
-/// The addresses of keys 1 and 2, or of key 1 alone.
-fn addresses(alloc: Global, both: bool) -> Mem<Addresses> {
-    let mut pairs = Vec::new(alloc);
-    pairs.push((Key(1), ONE))?;
-    if both {
-        pairs.push((Key(2), TWO))?;
-    }
+/// The addresses of keys 1 and 2.
+const ADDRESSES: [(Key, Address); 2] = [(Key(1), ONE), (Key(2), TWO)];
+
+/// The directory of these addresses.
+fn addresses(alloc: Global, pairs: &[(Key, Address)]) -> Mem<Addresses> {
     if pairs.len() > 9 {
         return Err(NoMemory);
     }
-    Addresses::from_pairs(alloc, pairs)
+    Addresses::from_pairs(alloc, pairs.to_vec(alloc)?)
 }
 
 #[test]
 fn a_directory_matches_its_keys_alone(rt: HostRuntime) -> Result<(), Fail> {
     let alloc = rt.alloc();
-    let directory = addresses(alloc, true)?;
+    let directory = addresses(alloc, &ADDRESSES)?;
     let rows = [(2, true), (3, false), (1, false)];
     for (count, want) in rows {
-        assert_eq!(rt; directory.matches(&keys(alloc, count)?), want, "of {count}");
+        is_at(&rt, directory.matches(&keys(alloc, count)?), want, count);
     }
-    assert_eq!(rt; directory.get(Key(2)), Some(&TWO));
-    assert_eq!(rt; directory.get(Key(3)), None);
+    is(&rt, directory.get(Key(2)), Some(&TWO));
+    is(&rt, directory.get(Key(3)), None);
     Ok(())
 }
 
 #[test]
 fn a_directory_is_spelled_as_a_map(rt: HostRuntime) -> Result<(), Fail> {
     let alloc = rt.alloc();
-    let directory = addresses(alloc, true)?;
+    let directory = addresses(alloc, &ADDRESSES)?;
     let copy = directory.copy(alloc)?;
-    assert!(rt; copy.same(&directory));
+    holds(&rt, copy.same(&directory));
     let again = Addresses::from_map(copy.into_inner());
     let bytes = encode(alloc, &again)?;
     let want = [
         2, 0, 0, 0, 1, 0, 0, 0, 2, 2, 0, 0, 0, 0, 1, 0, 1, 1, 0, 0, 0, 2, 0, 2, 0, 0, 0, 3, 0, 3,
     ];
-    assert_eq!(rt; bytes.as_slice(), want.as_slice());
-    assert_eq!(rt; again.size(), 30);
+    is(&rt, bytes.as_slice(), want.as_slice());
+    is(&rt, again.size(), 30);
     Ok(())
 }
 
@@ -725,10 +724,10 @@ fn a_refused_call_tracks_nobody(rt: HostRuntime) -> Result<(), Fail> {
     let alloc = rt.alloc();
     let mut manager = AddressableManager::new(empty_manager());
     let missing = TrackError::Missing(MissingAddress(Key(2)));
-    let answer = tracked_by(&mut manager, alloc, &addresses(alloc, false)?)?;
-    assert_eq!(rt; answer, (Err(missing), None));
-    let answer = tracked_by(&mut manager, alloc, &addresses(alloc, true)?)?;
-    assert_eq!(rt; answer, (Ok(()), Some(2)));
+    let answer = tracked_by(&mut manager, alloc, &addresses(alloc, &ADDRESSES[..1])?)?;
+    is(&rt, answer, (Err(missing), None));
+    let answer = tracked_by(&mut manager, alloc, &addresses(alloc, &ADDRESSES)?)?;
+    is(&rt, answer, (Ok(()), Some(2)));
     Ok(())
 }
 
@@ -736,7 +735,7 @@ fn a_refused_call_tracks_nobody(rt: HostRuntime) -> Result<(), Fail> {
 fn keys_alone_never_miss(rt: HostRuntime) -> Result<(), Fail> {
     let mut manager = KeyOnlyManager::new(empty_manager());
     let answer = tracked_by(&mut manager, rt.alloc(), &Unit)?;
-    assert_eq!(rt; answer, (Ok(()), Some(2)));
+    is(&rt, answer, (Ok(()), Some(2)));
     Ok(())
 }
 
@@ -780,12 +779,24 @@ fn answered(answer: AnswerLine) -> Entry {
 #[test]
 fn entries_are_copied_and_compared(rt: HostRuntime) -> Result<(), Fail> {
     let alloc = rt.alloc();
-    assert!(rt; is_copied(alloc, &opened(alloc, 5)?, &opened(alloc, 6)?)?);
-    assert!(rt; is_copied(alloc, &other_dealing(alloc, 6)?, &other_dealing(alloc, 7)?)?);
+    holds(
+        &rt,
+        is_copied(alloc, &opened(alloc, 5)?, &opened(alloc, 6)?)?,
+    );
+    holds(
+        &rt,
+        is_copied(alloc, &other_dealing(alloc, 6)?, &other_dealing(alloc, 7)?)?,
+    );
     let short = answered(AnswerLine::Unavailable(Why::Short));
-    assert!(rt; is_copied(alloc, &answered(AnswerLine::Available(None)), &short)?);
+    holds(
+        &rt,
+        is_copied(alloc, &answered(AnswerLine::Available(None)), &short)?,
+    );
     let ready = Entry::Prepared(PreparedLine::Ready(None));
-    assert!(rt; is_copied(alloc, &ready, &Entry::Prepared(PreparedLine::Wait))?);
+    holds(
+        &rt,
+        is_copied(alloc, &ready, &Entry::Prepared(PreparedLine::Wait))?,
+    );
     Ok(())
 }
 
@@ -794,10 +805,14 @@ fn what_is_held_is_within_its_bound(rt: HostRuntime) -> Result<(), Fail> {
     let alloc = rt.alloc();
     let block = block_of(alloc, payload_of(alloc, &PAYLOAD)?)?;
     block.fits_limits();
-    assert_eq!(rt; block.encode_size(), 163);
-    assert_eq!(rt; Block::<Unit>::max_encode_size(four()?), 253);
-    let directory = addresses(alloc, true)?;
+    is(&rt, block.encode_size(), 163);
+    is(&rt, Block::<Unit>::max_encode_size(four()?), 253);
+    let directory = addresses(alloc, &ADDRESSES)?;
     directory.fits_peers();
-    assert_eq!(rt; (directory.size(), Addresses::max_encode_size(2)), (30, 44));
+    is(
+        &rt,
+        (directory.size(), Addresses::max_encode_size(2)),
+        (30, 44),
+    );
     Ok(())
 }

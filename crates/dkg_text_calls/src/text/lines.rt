@@ -12,12 +12,17 @@ use std::alloc::Global;
 use std::process::Abort;
 use std::test::Fail;
 
+/// That these entries have these lines, one behind the other.
+fn show(rt: &(impl Abort + AllocGlobal), entries: &[Entry], lines: &str) -> Result<(), Fail> {
+    let text = print_of(rt.alloc(), entries)?;
+    assert_eq!(rt; text.as_slice(), lines.as_bytes(), "{lines}");
+    Ok(())
+}
+
 fn shows(rt: &(impl Abort + AllocGlobal), entry: Entry, lines: &str) -> Result<(), Fail> {
     let mut entries = Vec::new(rt.alloc());
     entries.push(entry)?;
-    let text = print_of(rt.alloc(), entries.as_slice())?;
-    assert_eq!(rt; text.as_slice(), lines.as_bytes(), "{lines}");
-    Ok(())
+    show(rt, &entries, lines)
 }
 
 fn shows_fault(rt: &(impl Abort + AllocGlobal), fault: Fault, line: &str) -> Result<(), Fail> {
@@ -33,37 +38,31 @@ fn private(number: u16) -> Result<Private, Fail> {
 }
 
 fn public(alloc: Global) -> Result<Public, Fail> {
-    let mut elements = Vec::new(alloc);
-    elements.push(element(15)?)?;
-    elements.push(element(7)?)?;
-    elements.push(element(1)?)?;
+    let elements = vec![in alloc; element(15)?, element(7)?, element(1)?]?;
     Ok(Public::new(elements))
 }
 
 fn constant(alloc: Global) -> Result<Public, Fail> {
-    let mut elements = Vec::new(alloc);
-    elements.push(element(5)?)?;
-    Ok(Public::new(elements))
+    Ok(Public::new(vec![in alloc; element(5)?]?))
 }
 
 fn blob(alloc: Global) -> Result<Blob, Fail> {
     Ok(Blob::new([0u8, 171, 255].to_vec(alloc)?))
 }
 
+fn dealing(epoch: u64, dealer: u32, public: Public, private: Private) -> Restored {
+    Restored {
+        epoch: Epoch(epoch),
+        dealer: Key(dealer),
+        public,
+        private,
+    }
+}
+
 fn restored(alloc: Global) -> Result<RestoredList, Fail> {
     let mut dealings = Vec::new(alloc);
-    dealings.push(Restored {
-        epoch: Epoch(0),
-        dealer: Key(2),
-        public: public(alloc)?,
-        private: private(23)?,
-    })?;
-    dealings.push(Restored {
-        epoch: Epoch(1),
-        dealer: Key(4294967295),
-        public: constant(alloc)?,
-        private: private(65520)?,
-    })?;
+    dealings.push(dealing(0, 2, public(alloc)?, private(23)?))?;
+    dealings.push(dealing(1, u32::MAX, constant(alloc)?, private(65520)?))?;
     Ok(RestoredList(dealings))
 }
 
@@ -123,115 +122,161 @@ fn commits_show_the_share(rt: HostRuntime) -> Result<(), Fail> {
     shows(&rt, entry, "committed 3 65507\n")
 }
 
+fn registered(role: Role) -> Entry {
+    let epoch = Epoch(u64::MAX);
+    Entry::Registered { epoch, role }
+}
+
+const ROLES: [Role; 3] = [Role::Signer, Role::Member, Role::Verifier];
+
 #[test]
 fn roles_have_words(rt: HostRuntime) -> Result<(), Fail> {
-    for (role, line) in [
-        (Role::Signer, "registered 18446744073709551615 signer\n"),
-        (Role::Member, "registered 18446744073709551615 member\n"),
-        (Role::Verifier, "registered 18446744073709551615 verifier\n"),
-    ] {
-        let epoch = Epoch(u64::MAX);
-        shows(&rt, Entry::Registered { epoch, role }, line)?;
+    let mut entries = Vec::new(rt.alloc());
+    for role in ROLES {
+        entries.push(registered(role))?;
     }
-    Ok(())
+    let lines = "\
+registered 18446744073709551615 signer
+registered 18446744073709551615 member
+registered 18446744073709551615 verifier
+";
+    show(&rt, &entries, lines)
 }
+
+fn setup(phase: Phase, part: Part) -> Entry {
+    let epoch = Epoch(4);
+    Entry::Setup { epoch, phase, part }
+}
+
+const PHASES: [(Phase, Part); 5] = [
+    (Phase::Early, Part::Follow),
+    (Phase::Midpoint, Part::Player),
+    (Phase::Late, Part::Dealer),
+    (Phase::Early, Part::Both),
+    (Phase::Late, Part::Observer),
+];
 
 #[test]
 fn phases_and_parts_have_words(rt: HostRuntime) -> Result<(), Fail> {
-    for (phase, part, line) in [
-        (Phase::Early, Part::Follow, "setup 4 early follow\n"),
-        (Phase::Midpoint, Part::Player, "setup 4 midpoint player\n"),
-        (Phase::Late, Part::Dealer, "setup 4 late dealer\n"),
-        (Phase::Early, Part::Both, "setup 4 early both\n"),
-        (Phase::Late, Part::Observer, "setup 4 late observer\n"),
-    ] {
-        let epoch = Epoch(4);
-        shows(&rt, Entry::Setup { epoch, phase, part }, line)?;
+    let mut entries = Vec::new(rt.alloc());
+    for (phase, part) in PHASES {
+        entries.push(setup(phase, part))?;
     }
-    Ok(())
+    let lines = "\
+setup 4 early follow
+setup 4 midpoint player
+setup 4 late dealer
+setup 4 early both
+setup 4 late observer
+";
+    show(&rt, &entries, lines)
 }
+
+fn blocked(why: BlockedWhy) -> Entry {
+    let peer = Key(9);
+    Entry::Blocked { peer, why }
+}
+
+const BLOCKED: [BlockedWhy; 14] = [
+    BlockedWhy::Decode,
+    BlockedWhy::Nonplayer,
+    BlockedWhy::Nondealer,
+    BlockedWhy::Dealer,
+    BlockedWhy::Degree,
+    BlockedWhy::Commitment,
+    BlockedWhy::Share,
+    BlockedWhy::Player,
+    BlockedWhy::Ack,
+    BlockedWhy::Reply,
+    BlockedWhy::Member,
+    BlockedWhy::Invalid,
+    BlockedWhy::Boundary,
+    BlockedWhy::Block,
+];
 
 #[test]
 fn reasons_to_block_have_words(rt: HostRuntime) -> Result<(), Fail> {
-    for (why, line) in [
-        (BlockedWhy::Decode, "blocked 9 decode\n"),
-        (BlockedWhy::Nonplayer, "blocked 9 nonplayer\n"),
-        (BlockedWhy::Nondealer, "blocked 9 nondealer\n"),
-        (BlockedWhy::Dealer, "blocked 9 dealer\n"),
-        (BlockedWhy::Degree, "blocked 9 degree\n"),
-        (BlockedWhy::Commitment, "blocked 9 commitment\n"),
-        (BlockedWhy::Share, "blocked 9 share\n"),
-        (BlockedWhy::Player, "blocked 9 player\n"),
-        (BlockedWhy::Ack, "blocked 9 ack\n"),
-        (BlockedWhy::Reply, "blocked 9 reply\n"),
-        (BlockedWhy::Member, "blocked 9 member\n"),
-        (BlockedWhy::Invalid, "blocked 9 invalid\n"),
-        (BlockedWhy::Boundary, "blocked 9 boundary\n"),
-        (BlockedWhy::Block, "blocked 9 block\n"),
-    ] {
-        let peer = Key(9);
-        shows(&rt, Entry::Blocked { peer, why }, line)?;
+    let mut entries = Vec::new(rt.alloc());
+    for why in BLOCKED {
+        entries.push(blocked(why))?;
     }
-    Ok(())
+    let lines = "\
+blocked 9 decode
+blocked 9 nonplayer
+blocked 9 nondealer
+blocked 9 dealer
+blocked 9 degree
+blocked 9 commitment
+blocked 9 share
+blocked 9 player
+blocked 9 ack
+blocked 9 reply
+blocked 9 member
+blocked 9 invalid
+blocked 9 boundary
+blocked 9 block
+";
+    show(&rt, &entries, lines)
+}
+
+fn unavailable(why: Why) -> Entry {
+    let answer = AnswerLine::Unavailable(why);
+    Entry::Answer { request: 3, answer }
+}
+
+const WHYS: [Why; 8] = [
+    Why::Short,
+    Why::WrongHeight {
+        awaited: Height(5),
+        got: Height(4),
+    },
+    Why::Unlinked { height: Height(6) },
+    Why::Detached { height: Height(7) },
+    Why::Following,
+    Why::Terminal,
+    Why::Finished,
+    Why::Held,
+];
+
+#[test]
+fn answers_show_why_there_is_no_payload(rt: HostRuntime) -> Result<(), Fail> {
+    let mut entries = Vec::new(rt.alloc());
+    for why in WHYS {
+        entries.push(unavailable(why))?;
+    }
+    let lines = "\
+answer 3 unavailable short
+answer 3 unavailable height 5 4
+answer 3 unavailable unlinked 6
+answer 3 unavailable detached 7
+answer 3 unavailable following
+answer 3 unavailable terminal
+answer 3 unavailable finished
+answer 3 unavailable held
+";
+    show(&rt, &entries, lines)
 }
 
 #[test]
-fn answers_show_payloads_or_why_there_is_none(rt: HostRuntime) -> Result<(), Fail> {
-    for (why, line) in [
-        (Why::Short, "answer 3 unavailable short\n"),
-        (
-            Why::WrongHeight {
-                awaited: Height(5),
-                got: Height(4),
-            },
-            "answer 3 unavailable height 5 4\n",
-        ),
-        (
-            Why::Unlinked { height: Height(6) },
-            "answer 3 unavailable unlinked 6\n",
-        ),
-        (
-            Why::Detached { height: Height(7) },
-            "answer 3 unavailable detached 7\n",
-        ),
-        (Why::Following, "answer 3 unavailable following\n"),
-        (Why::Terminal, "answer 3 unavailable terminal\n"),
-        (Why::Finished, "answer 3 unavailable finished\n"),
-        (Why::Held, "answer 3 unavailable held\n"),
-    ] {
-        let answer = AnswerLine::Unavailable(why);
-        shows(&rt, Entry::Answer { request: 3, answer }, line)?;
-    }
+fn answers_show_payloads(rt: HostRuntime) -> Result<(), Fail> {
     let answer = AnswerLine::Available(None);
     shows(&rt, Entry::Answer { request: 1, answer }, "answer 1 none\n")?;
     let answer = AnswerLine::Available(Some(blob(rt.alloc())?));
-    shows(
-        &rt,
-        Entry::Answer { request: 2, answer },
-        "answer 2 00abff\n",
-    )
+    let entry = Entry::Answer { request: 2, answer };
+    shows(&rt, entry, "answer 2 00abff\n")
 }
 
 #[test]
-fn requests_and_calls_show_their_bytes(rt: HostRuntime) -> Result<(), Fail> {
+fn requests_show_their_bytes(rt: HostRuntime) -> Result<(), Fail> {
+    let request = 8;
     let payload = Some(blob(rt.alloc())?);
-    shows(
-        &rt,
-        Entry::Log {
-            request: 8,
-            payload,
-        },
-        "log 8 00abff\n",
-    )?;
+    shows(&rt, Entry::Log { request, payload }, "log 8 00abff\n")?;
     let payload = None;
-    shows(
-        &rt,
-        Entry::Log {
-            request: 7,
-            payload,
-        },
-        "log 7 none\n",
-    )?;
+    shows(&rt, Entry::Log { request, payload }, "log 8 none\n")
+}
+
+#[test]
+fn calls_show_their_bytes(rt: HostRuntime) -> Result<(), Fail> {
     let outcome = Some(blob(rt.alloc())?);
     shows(&rt, Entry::Completed { outcome }, "completed 00abff\n")?;
     shows(&rt, Entry::Completed { outcome: None }, "completed -\n")?;
@@ -240,41 +285,55 @@ fn requests_and_calls_show_their_bytes(rt: HostRuntime) -> Result<(), Fail> {
 }
 
 #[test]
-fn the_application_and_the_probe_show_their_bytes(rt: HostRuntime) -> Result<(), Fail> {
+fn the_application_shows_its_bytes(rt: HostRuntime) -> Result<(), Fail> {
     let ready = PreparedLine::Ready(Some(blob(rt.alloc())?));
     shows(&rt, Entry::Prepared(ready), "prepared 00abff\n")?;
-    shows(
-        &rt,
-        Entry::Prepared(PreparedLine::Ready(None)),
-        "prepared none\n",
-    )?;
-    shows(&rt, Entry::Prepared(PreparedLine::Wait), "prepared wait\n")?;
+    let ready = PreparedLine::Ready(None);
+    shows(&rt, Entry::Prepared(ready), "prepared none\n")?;
+    shows(&rt, Entry::Prepared(PreparedLine::Wait), "prepared wait\n")
+}
+
+#[test]
+fn proposals_show_their_bytes(rt: HostRuntime) -> Result<(), Fail> {
     let block = Some(blob(rt.alloc())?);
     shows(&rt, Entry::Proposed { block }, "proposed 00abff\n")?;
-    shows(&rt, Entry::Proposed { block: None }, "proposed none\n")?;
+    shows(&rt, Entry::Proposed { block: None }, "proposed none\n")
+}
+
+#[test]
+fn the_probe_shows_its_bytes(rt: HostRuntime) -> Result<(), Fail> {
     let bytes = blob(rt.alloc())?;
     shows(&rt, Entry::Sent { to: None, bytes }, "sent all 00abff\n")?;
     let bytes = Blob::new(Vec::new(rt.alloc()));
     let to = Some(Key(4));
-    shows(&rt, Entry::Sent { to, bytes }, "sent 4 -\n")?;
+    shows(&rt, Entry::Sent { to, bytes }, "sent 4 -\n")
+}
+
+#[test]
+fn artifacts_show_their_bytes(rt: HostRuntime) -> Result<(), Fail> {
     let info = blob(rt.alloc())?;
     let floor = blob(rt.alloc())?;
-    shows(
+    let entry = Entry::Artifact { info, floor };
+    shows(&rt, entry, "artifact 00abff 00abff\n")
+}
+
+const VERDICTS: [Verdict; 3] = [Verdict::Accept, Verdict::Reject, Verdict::Unresolved];
+
+#[test]
+fn verdicts_have_words(rt: HostRuntime) -> Result<(), Fail> {
+    let mut entries = Vec::new(rt.alloc());
+    for verdict in VERDICTS {
+        entries.push(Entry::Verdict(verdict))?;
+    }
+    show(
         &rt,
-        Entry::Artifact { info, floor },
-        "artifact 00abff 00abff\n",
+        &entries,
+        "verdict accept\nverdict reject\nverdict unresolved\n",
     )
 }
 
 #[test]
-fn verdicts_and_numbers_have_lines(rt: HostRuntime) -> Result<(), Fail> {
-    for (verdict, line) in [
-        (Verdict::Accept, "verdict accept\n"),
-        (Verdict::Reject, "verdict reject\n"),
-        (Verdict::Unresolved, "verdict unresolved\n"),
-    ] {
-        shows(&rt, Entry::Verdict(verdict), line)?;
-    }
+fn numbers_have_lines(rt: HostRuntime) -> Result<(), Fail> {
     shows(&rt, Entry::Entered { epoch: Epoch(2) }, "entered 2\n")?;
     shows(&rt, Entry::Halted, "halted\n")?;
     let height = Height(7);
@@ -286,12 +345,10 @@ fn verdicts_and_numbers_have_lines(rt: HostRuntime) -> Result<(), Fail> {
 }
 
 #[test]
-fn faults_of_numbers_have_lines(rt: HostRuntime) -> Result<(), Fail> {
-    let height = Height(2);
-    let epoch = Epoch(2);
-    let awaited = Height(3);
-    let (name, place) = (Name::Segment(6), 17);
+fn faults_of_disks_have_lines(rt: HostRuntime) -> Result<(), Fail> {
     shows_fault(&rt, Fault::Disk, "fault 2\n")?;
+    let place = 17;
+    let name = Name::Segment(6);
     shows_fault(
         &rt,
         Fault::Corrupt { name, place },
@@ -300,59 +357,80 @@ fn faults_of_numbers_have_lines(rt: HostRuntime) -> Result<(), Fail> {
     let name = Name::Plan;
     shows_fault(&rt, Fault::Corrupt { name, place }, "fault 4 plan 17\n")?;
     let name = Name::Flat;
-    shows_fault(&rt, Fault::Corrupt { name, place }, "fault 4 flat 17\n")?;
-    let got = Height(4);
-    shows_fault(&rt, Fault::SkippedHeight { awaited, got }, "fault 10 3 4\n")?;
+    shows_fault(&rt, Fault::Corrupt { name, place }, "fault 4 flat 17\n")
+}
+
+#[test]
+fn faults_of_epochs_have_lines(rt: HostRuntime) -> Result<(), Fail> {
     let (info, floor) = (Epoch(3), Epoch(4));
     shows_fault(&rt, Fault::StateSyncEpochs { info, floor }, "fault 6 3 4\n")?;
     let (expected, got) = (Epoch(1), Epoch(2));
     shows_fault(&rt, Fault::WrongEpoch { expected, got }, "fault 14 1 2\n")?;
+    let epoch = Epoch(2);
+    shows_fault(&rt, Fault::DirectoryMismatch { epoch }, "fault 16 2\n")
+}
+
+#[test]
+fn faults_of_heights_have_lines(rt: HostRuntime) -> Result<(), Fail> {
+    let (awaited, got) = (Height(3), Height(4));
+    shows_fault(&rt, Fault::SkippedHeight { awaited, got }, "fault 10 3 4\n")?;
+    let height = Height(2);
     shows_fault(&rt, Fault::ConflictingBlock { height }, "fault 8 2\n")?;
     shows_fault(&rt, Fault::DetachedBlock { height }, "fault 9 2\n")?;
     shows_fault(&rt, Fault::OutOfWindow { height }, "fault 11 2\n")?;
     shows_fault(&rt, Fault::MissingEpochInfo { height }, "fault 13 2\n")?;
-    shows_fault(&rt, Fault::DirectoryMismatch { epoch }, "fault 16 2\n")?;
     shows_fault(&rt, Fault::HeightRange, "fault 12\n")?;
     shows_fault(&rt, Fault::FloorBlockMissing, "fault 19\n")
 }
 
+const CONFIGURATIONS: [ConfigCause; 4] = [
+    ConfigCause::Mode,
+    ConfigCause::OneBlock,
+    ConfigCause::OneShotEmpty,
+    ConfigCause::OneShotWithout,
+];
+
 #[test]
 fn faults_of_configurations_have_lines(rt: HostRuntime) -> Result<(), Fail> {
-    for (cause, line) in [
-        (ConfigCause::Mode, "fault 5 1\n"),
-        (ConfigCause::OneBlock, "fault 5 2\n"),
-        (ConfigCause::OneShotEmpty, "fault 5 3\n"),
-        (ConfigCause::OneShotWithout, "fault 5 4\n"),
-    ] {
-        shows_fault(&rt, Fault::InvalidConfig(cause), line)?;
+    let mut entries = Vec::new(rt.alloc());
+    for cause in CONFIGURATIONS {
+        entries.push(Entry::Fault(Fault::InvalidConfig(cause)))?;
     }
-    for (cause, line) in [
-        (ParticipantsError::EmptyDealers, "fault 15 1\n"),
-        (ParticipantsError::EmptyPlayers, "fault 15 2\n"),
-        (
-            ParticipantsError::TooManyParticipants { actual: 4, max: 3 },
-            "fault 15 3 4 3\n",
-        ),
-        (ParticipantsError::InitialReshareDealers, "fault 15 4\n"),
-        (ParticipantsError::UnknownReshareDealer, "fault 15 5\n"),
-    ] {
-        let cause = ParticipantsCause::Refused(cause);
-        shows_fault(&rt, Fault::InvalidParticipants(cause), line)?;
+    show(
+        &rt,
+        &entries,
+        "fault 5 1\nfault 5 2\nfault 5 3\nfault 5 4\n",
+    )
+}
+
+const PARTICIPANTS: [ParticipantsCause; 8] = [
+    ParticipantsCause::Refused(ParticipantsError::EmptyDealers),
+    ParticipantsCause::Refused(ParticipantsError::EmptyPlayers),
+    ParticipantsCause::Refused(ParticipantsError::TooManyParticipants { actual: 4, max: 3 }),
+    ParticipantsCause::Refused(ParticipantsError::InitialReshareDealers),
+    ParticipantsCause::Refused(ParticipantsError::UnknownReshareDealer),
+    ParticipantsCause::ProviderEmpty,
+    ParticipantsCause::ProviderAbove { actual: 9, max: 8 },
+    ParticipantsCause::Round(RoundError::DealersNotPrevious),
+];
+
+#[test]
+fn faults_of_participants_have_lines(rt: HostRuntime) -> Result<(), Fail> {
+    let mut entries = Vec::new(rt.alloc());
+    for cause in PARTICIPANTS {
+        entries.push(Entry::Fault(Fault::InvalidParticipants(cause)))?;
     }
-    for (cause, line) in [
-        (ParticipantsCause::ProviderEmpty, "fault 15 6\n"),
-        (
-            ParticipantsCause::ProviderAbove { actual: 9, max: 8 },
-            "fault 15 7 9 8\n",
-        ),
-        (
-            ParticipantsCause::Round(RoundError::DealersNotPrevious),
-            "fault 15 8 4\n",
-        ),
-    ] {
-        shows_fault(&rt, Fault::InvalidParticipants(cause), line)?;
-    }
-    Ok(())
+    let lines = "\
+fault 15 1
+fault 15 2
+fault 15 3 4 3
+fault 15 4
+fault 15 5
+fault 15 6
+fault 15 7 9 8
+fault 15 8 4
+";
+    show(&rt, &entries, lines)
 }
 
 #[test]
@@ -363,14 +441,18 @@ fn faults_of_local_state_have_lines(rt: HostRuntime) -> Result<(), Fail> {
     shows_fault(&rt, Fault::LocalState(cause), "fault 17 1 3 2\n")?;
     let cause = LocalCause::ShareRefused { epoch };
     shows_fault(&rt, Fault::LocalState(cause), "fault 17 2 3\n")?;
+    shows_fault(&rt, Fault::LocalState(LocalCause::NoShare), "fault 17 4\n")?;
+    let cause = LocalCause::OutcomeOmitted;
+    shows_fault(&rt, Fault::LocalState(cause), "fault 17 5\n")
+}
+
+#[test]
+fn a_fault_of_a_dealing_shows_both(rt: HostRuntime) -> Result<(), Fail> {
     let cause = LocalCause::OwnDealing {
-        epoch,
+        epoch: Epoch(3),
         kept: BoxedPublic::of(rt.alloc(), public(rt.alloc())?)?,
         dealt: BoxedPublic::of(rt.alloc(), constant(rt.alloc())?)?,
     };
     let line = "fault 17 3 3 03000f00070001 010005\n";
-    shows_fault(&rt, Fault::LocalState(cause), line)?;
-    shows_fault(&rt, Fault::LocalState(LocalCause::NoShare), "fault 17 4\n")?;
-    let cause = LocalCause::OutcomeOmitted;
-    shows_fault(&rt, Fault::LocalState(cause), "fault 17 5\n")
+    shows_fault(&rt, Fault::LocalState(cause), line)
 }

@@ -3,9 +3,12 @@ ghost use Rattle.std.specs.Prelude.{◌<◌, ◌-◌, ◌^◌, length, IfOk, IsT
 ghost use Rattle.dkg_sign.specs.Lives.{KeepsPromise, NeverBack};
 ghost use Rattle.dkg_sign.specs.Played.{IsPlaying, deeds_of};
 
-use crate::{CombineError, DeskError, DeskRegistrar, Partial, SignError, Signature, SigningDesk};
+use crate::asserts::{is, is_at};
 use dkg_ceremony::{Mode, Public, Set, Share, Sharing};
 use dkg_journal::{Disk, Fuse, MemoryDisk, SureDisk};
+use dkg_sign::{
+    CombineError, DeskError, DeskRegistrar, Partial, SignError, Signature, SigningDesk,
+};
 use dkg_types::{Registrar, SchemeInfo};
 use dkg_values::{Element, Epoch, Key, Name};
 use std::alloc::Global;
@@ -117,7 +120,7 @@ fn a_validator_signs(rt: HostRuntime) -> Result<(), Fail> {
         MESSAGE,
         &mut partials,
     )?;
-    assert_eq!(rt; signature.value.get(), 42117);
+    is(&rt, signature.value.get(), 42117);
     Ok(())
 }
 
@@ -126,7 +129,7 @@ fn desks_sign_with_their_shares(rt: HostRuntime) -> Result<(), Fail> {
     for (me, share, value) in [(1, 8, 54283), (2, 15, 60830), (3, 26, 61758)] {
         let desk = first_desk(rt.alloc(), me, share)?;
         let partial = desk.sign(Epoch(0), MESSAGE)?;
-        assert_eq!(rt; partial.value.get(), value, "of {me}");
+        is_at(&rt, partial.value.get(), value, me);
     }
     Ok(())
 }
@@ -174,10 +177,10 @@ fn a_quorum_of_partials_makes_the_signature(rt: HostRuntime) -> Result<(), Fail>
     ];
     let desk = first_desk(rt.alloc(), 1, 8)?;
     for (given, want) in rows {
-        assert_eq!(rt; combined(rt.alloc(), &desk, given)?, want, "of {given:?}");
+        is_at(&rt, combined(rt.alloc(), &desk, given)?, want, given);
     }
     let unknown = desk.combine(rt.alloc(), MESSAGE, Epoch(1), &[]);
-    assert_eq!(rt; unknown, Err(CombineError::Unknown { epoch: Epoch(1) }));
+    is(&rt, unknown, Err(CombineError::Unknown { epoch: Epoch(1) }));
     Ok(())
 }
 
@@ -199,39 +202,69 @@ fn material_is_refused_by_its_tests_in_order(rt: HostRuntime) -> Result<(), Fail
     for (epoch, share, want) in rows {
         let info = material(alloc, 1, share)?;
         let why = registered(alloc, &mut disk, &mut desk, epoch, info);
-        assert_eq!(rt; why, want, "at {epoch} {share:?}");
+        is_at(&rt, why, want, (epoch, share));
     }
-    assert_eq!(rt;
+    is(
+        &rt,
         unsigned(&desk, 1),
-        Some(SignError::NoShare { epoch: Epoch(1) })
+        Some(SignError::NoShare { epoch: Epoch(1) }),
     );
     Ok(())
 }
 
-#[test]
-fn a_later_epoch_replaces_an_earlier_one(rt: HostRuntime) -> Result<(), Fail> {
-    let alloc = rt.alloc();
-    let replaced = Some(SignError::Replaced {
-        asked: Epoch(0),
-        current: Epoch(1),
-    });
-    let mut disk = SureDisk::new(alloc);
-    let mut desk = opened(alloc, &mut disk, 1)?;
+/// A desk of key 1 that registered two epochs, one behind the other.
+fn registered_twice<D: Disk>(alloc: Global, disk: &mut D) -> Result<SigningDesk, Fail> {
+    let mut desk = opened(alloc, disk, 1)?;
     for epoch in 0..2 {
         let info = material(alloc, 1, Some(8))?;
-        assert_eq!(rt; registered(alloc, &mut disk, &mut desk, epoch, info), None);
+        if let Some(why) = registered(alloc, disk, &mut desk, epoch, info) {
+            return Err(why.into());
+        }
     }
-    assert_eq!(rt; unsigned(&desk, 0), replaced);
-    let mut desk = opened(alloc, &mut disk, 1)?;
-    assert_eq!(rt; desk.current(), Some(Epoch(1)));
-    assert_eq!(rt; unsigned(&desk, 0), replaced);
-    assert_eq!(rt;
-        unsigned(&desk, 1),
-        Some(SignError::Unknown { epoch: Epoch(1) })
+    Ok(desk)
+}
+
+const REPLACED: SignError = SignError::Replaced {
+    asked: Epoch(0),
+    current: Epoch(1),
+};
+
+#[test]
+fn a_later_epoch_replaces_an_earlier_one(rt: HostRuntime) -> Result<(), Fail> {
+    let desk = registered_twice(rt.alloc(), &mut SureDisk::new(rt.alloc()))?;
+    is(&rt, unsigned(&desk, 0), Some(REPLACED));
+    is(&rt, desk.sign(Epoch(1), MESSAGE)?.value.get(), 54283);
+    Ok(())
+}
+
+/// A disk with the record of epoch 1.
+fn recorded(alloc: Global) -> Result<SureDisk, Fail> {
+    let mut disk = SureDisk::new(alloc);
+    let _desk = registered_twice(alloc, &mut disk)?;
+    Ok(disk)
+}
+
+#[test]
+fn an_opened_desk_has_its_epoch_without_material(rt: HostRuntime) -> Result<(), Fail> {
+    let desk = opened(rt.alloc(), &mut recorded(rt.alloc())?, 1)?;
+    is(&rt, desk.current(), Some(Epoch(1)));
+    is(&rt, unsigned(&desk, 0), Some(REPLACED));
+    let unknown = SignError::Unknown { epoch: Epoch(1) };
+    is(&rt, unsigned(&desk, 1), Some(unknown));
+    Ok(())
+}
+
+#[test]
+fn an_epoch_is_registered_again(rt: HostRuntime) -> Result<(), Fail> {
+    let mut disk = recorded(rt.alloc())?;
+    let mut desk = opened(rt.alloc(), &mut disk, 1)?;
+    let info = material(rt.alloc(), 1, Some(8))?;
+    is(
+        &rt,
+        registered(rt.alloc(), &mut disk, &mut desk, 1, info),
+        None,
     );
-    let info = material(alloc, 1, Some(8))?;
-    assert_eq!(rt; registered(alloc, &mut disk, &mut desk, 1, info), None);
-    assert_eq!(rt; desk.sign(Epoch(1), MESSAGE)?.value.get(), 54283);
+    is(&rt, desk.sign(Epoch(1), MESSAGE)?.value.get(), 54283);
     Ok(())
 }
 
@@ -253,7 +286,7 @@ fn left_by_a_cut<D: Disk>(alloc: Global, disk: &mut D, pick: u64) -> Result<Opti
 fn a_cut_put_leaves_the_old_epoch_or_the_new_one(rt: HostRuntime) -> Result<(), Fail> {
     for (pick, current) in [(0, Epoch(1)), (1, Epoch(0))] {
         let left = left_by_a_cut(rt.alloc(), &mut MemoryDisk::new(rt.alloc()), pick)?;
-        assert_eq!(rt; left, Some(current), "at pick {pick}");
+        is_at(&rt, left, Some(current), pick);
     }
     Ok(())
 }
@@ -274,7 +307,7 @@ fn a_record_that_is_no_epoch_is_corrupt(rt: HostRuntime) -> Result<(), Fail> {
         (&[172, 2], Ok(Some(Epoch(300)))),
     ];
     for (bytes, want) in rows {
-        assert_eq!(rt; current_of(rt.alloc(), bytes)?, want, "over {bytes:?}");
+        is_at(&rt, current_of(rt.alloc(), bytes)?, want, bytes);
     }
     Ok(())
 }
@@ -341,7 +374,7 @@ fn live<D: Disk>(
 
 /// Plays lives, one behind the other, over one disk: whatever they are, no partial of an epoch is given after a registration of a later
 /// one was answered Ok.
-#[tactic(auto, using(crate::proofs::Deeds::nothing_done))]
+#[tactic(auto, using(dkg_sign::proofs::Deeds::nothing_done))]
 fn live_all<D: Disk>(
     alloc: Global,
     disk: &mut D,
@@ -372,7 +405,7 @@ fn no_life_signs_below_what_was_registered(rt: HostRuntime) -> Result<(), Fail> 
             (0, 0, &[(false, 0), (true, 0), (false, 0)]),
         ];
         let deeds = live_all(alloc, &mut disk, &lives)?;
-        assert_eq!(rt; deeds.as_slice(), done, "at pick {pick}");
+        is_at(&rt, deeds.as_slice(), done, pick);
     }
     Ok(())
 }
@@ -397,7 +430,7 @@ fn lives_sign_for_the_newest_epoch(rt: HostRuntime) -> Result<(), Fail> {
         (true, 0),
     ];
     let deeds = live_all(alloc, &mut SureDisk::new(alloc), &lives)?;
-    assert_eq!(rt; deeds.as_slice(), &done[..]);
+    is(&rt, deeds.as_slice(), &done[..]);
     Ok(())
 }
 
@@ -413,25 +446,37 @@ fn register_each<D: Disk>(
     Ok(())
 }
 
-#[test]
-fn a_registrar_keeps_what_is_refused(rt: HostRuntime) -> Result<(), Fail> {
-    let alloc = rt.alloc();
+/// A registrar that registered epoch 0, and whose registration of epoch 1 failed.
+fn refused_once(alloc: Global) -> Result<DeskRegistrar<MemoryDisk>, Fail> {
     // The calls are a barrier and a read, the put of epoch 0, and that of epoch 1, which fails.
     let mut disk = MemoryDisk::failing(alloc, vec![in alloc; 4]?);
     let desk = opened(alloc, &mut disk, 1)?;
     let mut registrar = DeskRegistrar::new(alloc, desk, disk);
     register_each(alloc, &mut registrar, &[0, 1])?;
-    assert_eq!(rt; registrar.refused(), &[DeskError::Disk][..]);
-    assert_eq!(rt; registrar.desk().current(), Some(Epoch(0)));
-    register_each(alloc, &mut registrar, &[1, 0])?;
+    Ok(registrar)
+}
+
+#[test]
+fn a_registrar_keeps_what_is_refused(rt: HostRuntime) -> Result<(), Fail> {
+    let registrar = refused_once(rt.alloc())?;
+    is(&rt, registrar.refused(), &[DeskError::Disk][..]);
+    is(&rt, registrar.desk().current(), Some(Epoch(0)));
+    Ok(())
+}
+
+#[test]
+fn a_registrar_opens_its_desk_again(rt: HostRuntime) -> Result<(), Fail> {
+    let mut registrar = refused_once(rt.alloc())?;
+    register_each(rt.alloc(), &mut registrar, &[1, 0])?;
     let replaced = DeskError::Replaced {
         asked: Epoch(0),
         current: Epoch(1),
     };
-    assert_eq!(rt; registrar.refused(), &[DeskError::Disk, replaced][..]);
-    assert_eq!(rt;
+    is(&rt, registrar.refused(), &[DeskError::Disk, replaced][..]);
+    is(
+        &rt,
         registrar.desk().sign(Epoch(1), MESSAGE)?.value.get(),
-        54283
+        54283,
     );
     Ok(())
 }
