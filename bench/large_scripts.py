@@ -5,7 +5,11 @@
 writes one to standard output.
 """
 import hashlib
+import os
 import sys
+
+sys.path.insert(0, os.path.dirname(os.path.abspath(__file__)))
+import whole_scripts
 
 FIELD = 65_521
 FEW = (1, 2, 3, 4)
@@ -181,10 +185,26 @@ def members(size):
 
 
 # Its name, how a script of a size is made, the least of the four sizes, and the exponent of growth that is still well.
+def whole(size):
+    """So many epochs of 100 dealers, whose logs blocks carry."""
+    return whole_scripts.whole(sys.modules[__name__], size, 100, 0)
+
+
+def asked(size):
+    """The same with five requests an epoch for what the last block must carry."""
+    return whole_scripts.whole(sys.modules[__name__], size, 100, 5)
+
+
+def waiting(size):
+    """So many requests that wait while the node deals, each of which is fed one block."""
+    events = [*(f"info {i}" for i in range(size)), *(f"feed {i} 6" for i in range(size)), *(f"final {i}" for i in range(5))]
+    return text(header(FEW, 8) + [f"block {i} {i - 1} 0 -" for i in range(1, 8)] + life(events))
+
+
 KINDS = [
     ("repeats", repeats, 8_000, 1.1),
     ("refusals", refusals, 8_000, 1.1),
-    ("dealers", dealers, 30, 2.1),
+    ("dealers", dealers, 80, 2.1),
     ("restarts", restarts, 10, 1.1),
     ("blocks", blocks, 4_000, 1.1),
     ("mixed", mixed, 3_000, 1.1),
@@ -193,6 +213,9 @@ KINDS = [
     ("quiet", quiet, 125, 1.1),
     ("follows", follows, 125, 1.1),
     ("members", members, 5, 1.1),
+    ("whole", whole, 1, 1.1),
+    ("asked", asked, 1, 1.1),
+    ("waiting", waiting, 500, 1.1),
 ]
 
 
