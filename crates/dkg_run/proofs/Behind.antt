@@ -10,9 +10,9 @@ use Rattle.dkg_text.specs.declared.script.Script.{Script}
 use Rattle.dkg_store.specs.Acts.{at, moment}
 use Rattle.dkg_secrets.specs.Secrets.{Secrets}
 use Rattle.dkg_secrets.specs.declared.secrets.SecretOp.{SecretOp}
-use Rattle.dkg_run.specs.Lives.{RunsOver, RunsSo, never}
-use Rattle.dkg_run.specs.Over.{Over, over}
-use Rattle.dkg_run.specs.Ways.{by_worlds}
+use Rattle.dkg_lives.specs.Lives.{RunsOver, RunsSo, never}
+use Rattle.dkg_promises.specs.Over.{Over, over}
+use Rattle.dkg_lives.specs.Ways.{by_worlds}
 
 -- what is over devices is over those that are the same
 pub over_as : {D X : Type 0} (disk_tells : Bool) (files : D → Files) (image : D → Files → Type 0) (disk_faults : D → ℕ) (disk_made : D → D → List (DeviceCall Op) → Type 0) (secrets_tell : Bool) (held : X → Secrets) (secret_faults : X → ℕ)

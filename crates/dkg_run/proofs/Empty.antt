@@ -19,7 +19,7 @@ use Rattle.dkg_text.specs.declared.script.Script.{Script}
 use Rattle.dkg_script.specs.Promise.{AreHonestStores}
 use Rattle.dkg_script.specs.Setting.{Setting, me, recovered_from, setting_of}
 use Rattle.dkg_script.proofs.Worked.{no_pairs, nothing_recovered, nothing_there}
-use Rattle.dkg_run.specs.Complete.{AreValidDevices}
+use Rattle.dkg_promises.specs.Complete.{AreValidDevices}
 use Rattle.dkg_run.specs.Fresh.{AreFresh}
 use Rattle.dkg_script.specs.Valid.{AgreesWith}
 

@@ -6,8 +6,8 @@ use Rattle.std.proofs.lemmas.Bool.Decides.{nat_tests}
 use Rattle.std.proofs.lemmas.Option.{slice_get-get_or, slice_get_past}
 use Rattle.dkg_types.specs.Blocks.{Block}
 use Rattle.dkg_types.specs.declared.directory.Unit as directory
-use Rattle.dkg_run.specs.Given.{numbered}
-use Rattle.dkg_run.proofs.Living.{item_here}
+use Rattle.dkg_lives.specs.Given.{numbered}
+use Rattle.dkg_lives.proofs.Living.{item_here}
 use Rattle.dkg_run.proofs.Stepping.{drop_item}
 
 module _ (blocks : List (Block directory.Unit)) (numbers : List ℕ) (p : Block directory.Unit → Bool) (i : ℕ) where

@@ -8,8 +8,8 @@ use Rattle.dkg_store.specs.Both.{Call, disk_calls, on_disk, on_secrets, secret_c
 use Rattle.dkg_store.specs.declared.devices.Devices.{Devices}
 use Rattle.dkg_secrets.specs.declared.secrets.SecretOp.{SecretOp}
 use Rattle.dkg_dealing.specs.Moved.{Moved}
-use Rattle.dkg_run.specs.Moving.{Went}
-use Rattle.dkg_run.specs.Stopped.{stops_in}
+use Rattle.dkg_lives.specs.Moving.{Went}
+use Rattle.dkg_lives.specs.Stopped.{stops_in}
 
 -- STOPS AMONG CALLS
 

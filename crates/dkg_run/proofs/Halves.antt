@@ -34,7 +34,7 @@ use Rattle.dkg_dealing.specs.Made.{Speaks}
 use Rattle.dkg_dealing.specs.declared.stop.Stop.{Stop}
 use Rattle.dkg_dealing.specs.declared.stop.Stop.TheVariants as stop
 use Rattle.dkg_dealing.proofs.Under.{on_bind}
-use Rattle.dkg_run.specs.Ended.{by_node_stop, ends_node}
+use Rattle.dkg_lives.specs.Ended.{by_node_stop, ends_node}
 use Rattle.dkg_run.specs.Halves.{beginning_of}
 use Rattle.dkg_run.specs.Nodes.{HasHalf, IsSettled, MayGoOn, MayPass, ends_on, with_half}
 use Rattle.dkg_run.specs.declared.half.Half.{Half}

@@ -28,14 +28,14 @@ use Rattle.dkg_core.specs.Seen.{Seen}
 use Rattle.dkg_dealing.specs.Planless.{seen_planless}
 use Rattle.dkg_dealing.specs.declared.stop.Stop.{Stop}
 use Rattle.dkg_dealing.specs.declared.stop.Stop.TheVariants.{Cut, Fault as FaultOf}
-use Rattle.dkg_run.specs.Causes.{HasCause}
-use Rattle.dkg_run.specs.Ended.{by_node_stop}
-use Rattle.dkg_run.specs.Given.{Lived, at_step, lived, step_of}
-use Rattle.dkg_run.specs.Moving.{Blames, StopBlames, Went}
-use Rattle.dkg_run.specs.Lives.{AnyFiles, EndsLife, LivesHere, LivesSo, Steps, TakesAll, fuse_for, never}
-use Rattle.dkg_run.specs.Stopped.{picks_at_end}
-use Rattle.dkg_run.specs.Ways.{Trace, by_lines, by_worlds, trace}
-use Rattle.dkg_run.proofs.Living.{rose_around}
+use Rattle.dkg_lives.specs.Causes.{HasCause}
+use Rattle.dkg_lives.specs.Ended.{by_node_stop}
+use Rattle.dkg_lives.specs.Given.{Lived, at_step, lived, step_of}
+use Rattle.dkg_lives.specs.Moving.{Blames, StopBlames, Went}
+use Rattle.dkg_lives.specs.Lives.{AnyFiles, EndsLife, LivesHere, LivesSo, Steps, TakesAll, fuse_for, never}
+use Rattle.dkg_lives.specs.Stopped.{picks_at_end}
+use Rattle.dkg_lives.specs.Ways.{Trace, by_lines, by_worlds, trace}
+use Rattle.dkg_lives.proofs.Living.{rose_around}
 use Rattle.dkg_run.proofs.Running.{ends_over}
 
 -- OF FEWER IMAGES

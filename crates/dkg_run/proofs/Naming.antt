@@ -18,7 +18,7 @@ use Rattle.dkg_dealing.specs.declared.stop.Stop.TheVariants as stop
 use Rattle.dkg_dealing.proofs.Burning.{burns_next}
 use Rattle.dkg_dealing.proofs.Said.{none_first, said_next}
 use Rattle.dkg_dealing.proofs.Under.{on_bind}
-use Rattle.dkg_run.specs.Ended.{by_node_stop}
+use Rattle.dkg_lives.specs.Ended.{by_node_stop}
 
 -- over the devices, a course with the node's names is its acts with these
 on_under : {Dir S : Type 0} (course : Course Dir Fault S) → on_devices (under Faulted course) ≡ acts_of.under Faulted (on_devices course)

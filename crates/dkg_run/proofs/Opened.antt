@@ -23,14 +23,14 @@ use Rattle.dkg_dealing.specs.Opened.{IsInGrammar, StaysShut}
 use Rattle.dkg_dealing.specs.Planless.{seen_planless}
 use Rattle.dkg_dealing.specs.declared.stop.Stop.{Stop}
 use Rattle.dkg_dealing.specs.declared.stop.Stop.TheVariants.{Cut, Fault as FaultOf}
-use Rattle.dkg_run.specs.Ended.{by_node_stop}
-use Rattle.dkg_run.specs.Epochs.{IsAt, IsChecked}
-use Rattle.dkg_run.specs.Given.{Lived, at_step, limits_of, lived}
-use Rattle.dkg_run.specs.Lives.{LivesSo, TakesAll, fuse_for}
-use Rattle.dkg_run.specs.Moving.{world_of}
-use Rattle.dkg_run.specs.Ways.{StaysHeld, by_worlds}
-use Rattle.dkg_run.proofs.Checked.{life_in_form}
-use Rattle.dkg_run.proofs.LivesStand.{opened_at, worlds_lead}
+use Rattle.dkg_lives.specs.Ended.{by_node_stop}
+use Rattle.dkg_lives.specs.Epochs.{IsAt, IsChecked}
+use Rattle.dkg_lives.specs.Given.{Lived, at_step, limits_of, lived}
+use Rattle.dkg_lives.specs.Lives.{LivesSo, TakesAll, fuse_for}
+use Rattle.dkg_lives.specs.Moving.{world_of}
+use Rattle.dkg_lives.specs.Ways.{StaysHeld, by_worlds}
+use Rattle.dkg_lives.proofs.Checked.{life_in_form}
+use Rattle.dkg_lives.proofs.LivesStand.{opened_at, worlds_lead}
 use Rattle.dkg_run.proofs.Stepping.{worlds_go}
 use Rattle.dkg_run.proofs.Shutting.{grammar_or, shut_holds, unsaid_stop}
 use Rattle.dkg_run.proofs.Turns.{cut_over, ran_stopped, ran_told, ran_unheld, ran_untold}

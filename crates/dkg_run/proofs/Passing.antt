@@ -22,7 +22,7 @@ use Rattle.dkg_core.specs.Sources.{Tip}
 use Rattle.dkg_core.specs.Through.{IsAppliedThrough, IsBlockThrough, IsFormThrough, IsIncludedThrough, IsLiveThrough, IsNextThrough, IsPassedOn}
 use Rattle.dkg_core.proofs.Applied.{deals_below, includes_above}
 use Rattle.dkg_core.proofs.Heights.{below_middle, below_tip}
-use Rattle.dkg_run.proofs.NextLives.{passed_so}
+use Rattle.dkg_lives.proofs.NextLives.{passed_so}
 
 apart_bools : (t : Bool) → t ≡ true → t ≡ false → ⊥
 apart_bools t e f = let wrong : true ≡ false = sym e ∙ f in cc

@@ -13,9 +13,9 @@ use Rattle.dkg_dealing.specs.Configured.{config_fault}
 use Rattle.dkg_dealing.specs.Ends.{IsCausedBy}
 use Rattle.dkg_dealing.specs.declared.stop.Stop.{Stop}
 use Rattle.dkg_dealing.specs.declared.stop.Stop.TheVariants.{Cut, Failed, Fault as FaultOf}
-use Rattle.dkg_run.specs.Causes.{IfFault}
-use Rattle.dkg_run.specs.Found.{IsFoundRecord}
-use Rattle.dkg_run.specs.Moving.{StepBlames}
+use Rattle.dkg_lives.specs.Causes.{IfFault}
+use Rattle.dkg_promises.specs.Found.{IsFoundRecord}
+use Rattle.dkg_lives.specs.Moving.{StepBlames}
 
 -- AN OPENING
 

@@ -13,17 +13,17 @@ use Rattle.dkg_text.specs.declared.script.Script.{Script}
 use Rattle.dkg_script.specs.Built.{is_built}
 use Rattle.dkg_script.specs.Promise.{Adds}
 use Rattle.dkg_run.specs.Command.{IsTold}
-use Rattle.dkg_run.specs.Complete.{IsSoundRun, IsValidAnyhow}
+use Rattle.dkg_promises.specs.Complete.{IsSoundRun, IsValidAnyhow}
 use Rattle.dkg_script.specs.Ends.{EndsFaulted, EndsScript, IsNodeFault}
-use Rattle.dkg_run.specs.Epochs.{refused_config}
+use Rattle.dkg_lives.specs.Epochs.{refused_config}
 use Rattle.dkg_run.specs.Outside.{TookAll, TookMore}
-use Rattle.dkg_run.specs.Over.{Over}
-use Rattle.dkg_run.specs.Promised.{DoesRun, Promised, RunsLives, SaysRun}
+use Rattle.dkg_promises.specs.Over.{Over}
+use Rattle.dkg_promises.specs.Promised.{DoesRun, Promised, RunsLives, SaysRun}
 use Rattle.dkg_run.specs.Reports.{Blamed, RanScript, RanNothing, WasRead, RanByStatus, fault_status, last_of}
 use Rattle.dkg_run.specs.declared.command.Status.{Status}
 use Rattle.dkg_run.specs.declared.command.Status.TheVariants as status
-use Rattle.dkg_run.proofs.Checked.{refused_so}
-use Rattle.dkg_run.proofs.Completing.{valid_as_cut}
+use Rattle.dkg_lives.proofs.Checked.{refused_so}
+use Rattle.dkg_promises.proofs.Completing.{valid_as_cut}
 
 -- the entries from a place on, where it is the end of what was there
 pub from_place : (old new added : List Entry) (place : ℕ) → place ≡ length old → new ≡ old ++ added → drop place new ≡ added

@@ -23,8 +23,8 @@ use Rattle.dkg_core.proofs.NodeEndings.{node_openings_are_quiet}
 use Rattle.dkg_dealing.specs.Opened.{IsInGrammar, OpensReadable, StaysShut}
 use Rattle.dkg_dealing.specs.declared.stop.Stop.{Stop}
 use Rattle.dkg_dealing.specs.declared.stop.Stop.TheVariants.{Cut, Failed, Fault as FaultOf}
-use Rattle.dkg_run.specs.Ended.{by_node_stop}
-use Rattle.dkg_run.specs.Ways.{IsBroken, StaysHeld}
+use Rattle.dkg_lives.specs.Ended.{by_node_stop}
+use Rattle.dkg_lives.specs.Ways.{IsBroken, StaysHeld}
 use Rattle.dkg_run.proofs.OwnFaults.{IsOutside, own_or_outside}
 
 shut_none : (image : Files → Type 0) (held : Secrets) → StaysShut image image held held

@@ -8,7 +8,7 @@ use Rattle.dkg_types.specs.declared.directory.Unit as directory
 use Rattle.dkg_text.specs.declared.script.Anchor as declared
 use Rattle.dkg_text.specs.declared.script.Anchor.TheVariants as anchor
 use Rattle.dkg_core.specs.Sources.{anchored, source_over}
-use Rattle.dkg_run.specs.Given.{Lived, anchor_at, anchor_in, blocks_in, numbered, source_at, unsealed}
+use Rattle.dkg_lives.specs.Given.{Lived, anchor_at, anchor_in, blocks_in, numbered, source_at, unsealed}
 use Rattle.dkg_run.specs.Sources.{IsSourceOf, anchor_numbers}
 use Rattle.dkg_run.specs.declared.held.HeldBlocks.{HeldBlocks}
 

@@ -31,19 +31,19 @@ use Rattle.dkg_dealing.specs.Planless.{seen_planless}
 use Rattle.dkg_dealing.specs.declared.stop.Stop.{Stop}
 use Rattle.dkg_dealing.specs.declared.stop.Stop.TheVariants.{Cut, Failed, Fault as FaultOf}
 use Rattle.dkg_dealing.proofs.Said.{nothing_held}
-use Rattle.dkg_run.specs.Causes.{StopHasCause}
-use Rattle.dkg_run.specs.Epochs.{IsAt, IsChecked, IsLifeInForm}
-use Rattle.dkg_run.specs.Given.{AreBytes, IsUnplanned, Lived, at_step, blocks_in, lived}
-use Rattle.dkg_run.specs.Lives.{LivesSo, TakesAll, fuse_for}
-use Rattle.dkg_run.specs.Moving.{StepBlames, StopBlames, Went}
+use Rattle.dkg_lives.specs.Causes.{StopHasCause}
+use Rattle.dkg_lives.specs.Epochs.{IsAt, IsChecked, IsLifeInForm}
+use Rattle.dkg_lives.specs.Given.{AreBytes, IsUnplanned, Lived, at_step, blocks_in, lived}
+use Rattle.dkg_lives.specs.Lives.{LivesSo, TakesAll, fuse_for}
+use Rattle.dkg_lives.specs.Moving.{StepBlames, StopBlames, Went}
 use Rattle.dkg_run.specs.Nodes.{HasOpened, IsOfLife, IsStepHere, IsView, ViewedNew}
 use Rattle.dkg_run.specs.Sources.{IsToOpen, anchor_numbers}
-use Rattle.dkg_run.specs.Ways.{ReadsSomething, by_lines, trace}
+use Rattle.dkg_lives.specs.Ways.{ReadsSomething, by_lines, trace}
 use Rattle.dkg_run.specs.declared.held.HeldBlocks.{HeldBlocks}
 use Rattle.dkg_run.specs.declared.node.Node.{Node}
-use Rattle.dkg_run.proofs.Living.{step_blames_around, step_stop_cause}
-use Rattle.dkg_run.proofs.Checked.{life_in_form}
-use Rattle.dkg_run.proofs.LivesStand.{lines_lead, opened_at}
+use Rattle.dkg_lives.proofs.Living.{step_blames_around, step_stop_cause}
+use Rattle.dkg_lives.proofs.Checked.{life_in_form}
+use Rattle.dkg_lives.proofs.LivesStand.{lines_lead, opened_at}
 use Rattle.dkg_run.proofs.Stepping.{lines_go, step_wants}
 use Rattle.dkg_run.proofs.Turns.{cut_lines, stopped_lines, told_lines, untold_lines, went_uncut}
 

@@ -19,10 +19,10 @@ use Rattle.dkg_dealing.specs.Made.{MakesAt, Tells}
 use Rattle.dkg_dealing.specs.declared.stop.Stop.{Stop}
 use Rattle.dkg_dealing.specs.declared.stop.Stop.TheVariants.{Cut, Failed, Fault as FaultOf}
 use Rattle.dkg_text.specs.declared.script.Event.{Event}
-use Rattle.dkg_run.specs.Ended.{by_node_stop}
-use Rattle.dkg_run.specs.Given.{Lived, step_of}
-use Rattle.dkg_run.specs.Lives.{Steps, TakesAll, fuse_for}
-use Rattle.dkg_run.specs.Ways.{Way, by_lines, by_worlds, trace}
+use Rattle.dkg_lives.specs.Ended.{by_node_stop}
+use Rattle.dkg_lives.specs.Given.{Lived, step_of}
+use Rattle.dkg_lives.specs.Lives.{Steps, TakesAll, fuse_for}
+use Rattle.dkg_lives.specs.Ways.{Way, by_lines, by_worlds, trace}
 
 -- it was answered Ok
 abbrev pub IsDone : Result (Unit {0}) Stop → Type 0

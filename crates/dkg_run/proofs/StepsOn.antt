@@ -15,16 +15,24 @@ use Rattle.dkg_core.specs.Live.{Live, NodeStop}
 use Rattle.dkg_reshare.specs.CarriedLogs.{CarriesWithin}
 use Rattle.dkg_dealing.specs.Planless.{seen_planless}
 use Rattle.dkg_dealing.specs.declared.stop.Stop.{Stop}
-use Rattle.dkg_run.specs.Epochs.{IsAt, IsLifeInForm, MayStep}
-use Rattle.dkg_run.specs.Given.{AreBytes, Lived, at_step, blocks_in, step_of}
-use Rattle.dkg_run.specs.Lives.{Steps, fuse_for}
-use Rattle.dkg_run.specs.Nodes.{GoesIn, IsEventOfBlocks, IsOfLife, IsView}
-use Rattle.dkg_run.specs.Ways.{Way}
+use Rattle.dkg_lives.specs.Epochs.{IsAt, IsLifeInForm, MayStep}
+use Rattle.dkg_lives.specs.Given.{AreBytes, Lived, at_step, blocks_in, step_of}
+use Rattle.dkg_lives.specs.Lives.{Steps, fuse_for}
+use Rattle.dkg_run.specs.Nodes.{GoesIn, IsEventOfBlocks, IsOfLife, IsStepHere, IsView}
+use Rattle.dkg_lives.specs.Ways.{Way}
 use Rattle.dkg_run.specs.declared.node.Node.{Node}
-use Rattle.dkg_run.proofs.Awaiting.{IsBefore, IsReached, before_all, reached_lit}
-use Rattle.dkg_run.proofs.Former.{IsMadeOf, event_in_form, live_at, made_of, through_at}
-use Rattle.dkg_run.proofs.LivesStand.{LeadsAlong, before_suc, stepped_at}
-use Rattle.dkg_run.proofs.LogsFit.{block_within}
+use Rattle.dkg_lives.proofs.Awaiting.{IsBefore, IsReached, before_all, reached_lit}
+use Rattle.dkg_lives.proofs.Former.{IsMadeOf, event_in_form, live_at, made_of, through_at}
+use Rattle.dkg_lives.proofs.LivesStand.{LeadsAlong, before_suc, stepped_at}
+use Rattle.dkg_lives.proofs.LogsFit.{block_within}
+
+-- A node that is of each life of which it was before is in the same one's next step.
+pub step_here : (g : Lived) (a b : Node) (blocks now : List (Block directory.Unit)) (life : Life) → ((g : Lived) → IsOfLife g a → IsOfLife g b) → now ≡ blocks → IsStepHere g a blocks life → IsStepHere g b now life
+step_here g a b blocks now life of same is = record {
+  of = of g is.of;
+  blocks_are = same ∙ is.blocks_are;
+  life_is = is.life_is;
+}
 
 -- A NODE behind the first i events
 

@@ -33,14 +33,14 @@ use Rattle.dkg_dealing.specs.declared.config.Terms.{Terms}
 use Rattle.dkg_dealing.specs.declared.stop.Stop.{Stop}
 use Rattle.dkg_dealing.specs.declared.stop.Stop.TheVariants.{Cut, Fault as FaultOf}
 use Rattle.dkg_dealing.proofs.Burning.{burns_none}
-use Rattle.dkg_run.specs.Ended.{by_node_stop}
-use Rattle.dkg_run.specs.Lives.{Steps, fuse_for}
+use Rattle.dkg_lives.specs.Ended.{by_node_stop}
+use Rattle.dkg_lives.specs.Lives.{Steps, fuse_for}
 use Rattle.dkg_dealing.specs.Ends.{IsCausedBy}
-use Rattle.dkg_run.specs.Moving.{world_of}
+use Rattle.dkg_lives.specs.Moving.{world_of}
 use Rattle.dkg_run.specs.Nodes.{IsEventHere, IsEventOfBlocks, IsReadyNode}
 use Rattle.dkg_run.specs.declared.held.HeldBlocks.{HeldBlocks}
-use Rattle.dkg_run.specs.Given.{Lived}
-use Rattle.dkg_run.specs.Ways.{Trace, Way, by_lines, by_worlds, trace}
+use Rattle.dkg_lives.specs.Given.{Lived}
+use Rattle.dkg_lives.specs.Ways.{Trace, Way, by_lines, by_worlds, trace}
 use Rattle.dkg_run.specs.declared.node.Node.{Node}
 use Rattle.dkg_run.proofs.Noding.{NodeState, living_in}
 use Rattle.dkg_run.proofs.Stepping.{lines_go, step_cut, step_stops, step_told, step_untold, uncut, worlds_go}

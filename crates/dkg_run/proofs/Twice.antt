@@ -21,10 +21,10 @@ use Rattle.dkg_script.specs.Schedule.{last}
 use Rattle.dkg_script.specs.Setting.{CutAt, Setting, blocks_per_epoch, is_oneshot, limits, me, recovered_from, setting_of}
 use Rattle.dkg_script.proofs.ConsistentAsCut.{known_within}
 use Rattle.dkg_run.specs.Again.{GaveBack, IsHonestCall, RunsAgain, StandsAgain}
-use Rattle.dkg_run.specs.Complete.{AreValidDevices}
-use Rattle.dkg_run.specs.GivesBack.{HoldsValid, limit_in}
+use Rattle.dkg_promises.specs.Complete.{AreValidDevices}
+use Rattle.dkg_promises.specs.GivesBack.{HoldsValid, limit_in}
 use Rattle.dkg_script.specs.Valid.{AgreesWith}
-use Rattle.dkg_run.proofs.Keeping.{history_of}
+use Rattle.dkg_promises.proofs.Keeping.{history_of}
 use Rattle.dkg_run.proofs.Lasting.{narrowed_fit}
 
 -- each image is one of what was left

@@ -18,9 +18,9 @@ use Rattle.dkg_script.specs.Position.{begun}
 use Rattle.dkg_script.specs.Progress.{progress}
 use Rattle.dkg_script.specs.Promise.{AreHonestStores, InEachCase, IsBuilt, IsHonestRun, KeepsDealings, cuts_in}
 use Rattle.dkg_script.specs.Setting.{CutAt, Setting, me, setting_of}
-use Rattle.dkg_run.specs.Complete.{AreValidDevices}
-use Rattle.dkg_run.specs.GivesBack.{GivesBack, HoldsValid, limit_in}
-use Rattle.dkg_run.specs.Over.{standing}
+use Rattle.dkg_promises.specs.Complete.{AreValidDevices}
+use Rattle.dkg_promises.specs.GivesBack.{GivesBack, HoldsValid, limit_in}
+use Rattle.dkg_promises.specs.Over.{standing}
 
 -- Whatever is run next, these devices are whole with nothing loose, and have no plan; their records are events within the limit, where they were before; and they are valid for the script as
 -- it was cut (s), where they were, and for the script itself and however it is cut next, where they were for it and it is consistent.

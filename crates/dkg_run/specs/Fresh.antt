@@ -7,7 +7,7 @@ use Rattle.dkg_secrets.specs.Secrets.{Secrets}
 use Rattle.dkg_text.specs.declared.script.Script.{Script}
 use Rattle.dkg_script.specs.Promise.{AreHonestStores}
 use Rattle.dkg_script.specs.Setting.{setting_of}
-use Rattle.dkg_run.specs.Complete.{AreValidDevices}
+use Rattle.dkg_promises.specs.Complete.{AreValidDevices}
 
 -- The premises on devices hold, whatever the script: they are whole with nothing loose and valid, and there is no plan.
 pub record AreFresh (files : Files) (image : Files → Type 0) (held : Secrets) : Type 0 where

@@ -34,10 +34,10 @@ use Rattle.dkg_inclusion.specs.InclusionOf.{IsSeen, IsSettledInclusion}
 use Rattle.dkg_dealing.specs.LiveOf.{Beside, live_of}
 use Rattle.dkg_dealing.specs.declared.life.Life as reshare
 use Rattle.dkg_dealing.specs.declared.stop.Stop.{Stop}
-use Rattle.dkg_run.specs.Ended.{by_node_stop}
+use Rattle.dkg_lives.specs.Ended.{by_node_stop}
 use Rattle.dkg_script.specs.Players.{players_at}
-use Rattle.dkg_run.specs.Epochs.{IsAt as StandsAt, IsLifeInForm, MayStep}
-use Rattle.dkg_run.specs.Given.{AreBytes, IsUnplanned, Lived, at_step, blocks_in}
+use Rattle.dkg_lives.specs.Epochs.{IsAt as StandsAt, IsLifeInForm, MayStep}
+use Rattle.dkg_lives.specs.Given.{AreBytes, IsUnplanned, Lived, at_step, blocks_in}
 use Rattle.dkg_run.specs.declared.half.Half.{Half}
 use Rattle.dkg_run.specs.declared.held.HeldBlocks.{HeldBlocks}
 use Rattle.dkg_run.specs.declared.node.Node.{Node}

@@ -16,8 +16,8 @@ use Rattle.dkg_script.specs.Inclusion.{IsFormOfInclusion}
 use Rattle.dkg_run.specs.Command.{IsTold}
 use Rattle.dkg_script.specs.Ends.{IsNodeFault}
 use Rattle.dkg_run.specs.Outside.{TookAll}
-use Rattle.dkg_run.specs.Over.{Over}
-use Rattle.dkg_run.specs.Promised.{RunsLives}
+use Rattle.dkg_promises.specs.Over.{Over}
+use Rattle.dkg_promises.specs.Promised.{RunsLives}
 use Rattle.dkg_run.specs.declared.command.Status.{Status}
 use Rattle.dkg_run.specs.declared.command.Status.TheVariants as status
 

@@ -7,8 +7,8 @@ use Rattle.dkg_text.specs.declared.script.Life.{Life}
 use Rattle.dkg_text.specs.declared.script.Script.{Script}
 use Rattle.dkg_script.specs.Blocks.{anchor_number, delivered_number}
 use Rattle.dkg_script.specs.Inclusion.{IsFormOfInclusion}
-use Rattle.dkg_run.specs.Epochs.{IsChecked}
-use Rattle.dkg_run.specs.Given.{blocks_in}
+use Rattle.dkg_lives.specs.Epochs.{IsChecked}
+use Rattle.dkg_lives.specs.Given.{blocks_in}
 use Rattle.dkg_run.specs.declared.held.HeldBlocks.{HeldBlocks}
 
 -- the number of an anchor's block

@@ -4,7 +4,7 @@ ghost use Rattle.std.specs.Int.NonZero.{non_zero_u32_get, non_zero_u64_get};
 ghost use Rattle.dkg_values.specs.Codec.{IsBytes};
 ghost use Rattle.dkg_ceremony.specs.Schedule.{epoch_of};
 ghost use Rattle.dkg_script.specs.Readings.{unit_payload};
-ghost use Rattle.dkg_run.specs.Given.{AreBytes, block_on, blocks_in, parent_in, payload_in};
+ghost use Rattle.dkg_lives.specs.Given.{AreBytes, block_on, blocks_in, parent_in, payload_in};
 
 use dkg_ceremony::{CodecError, Digest, Epoch, Height, Key, Mem, NoMemory, decode_cfg};
 use dkg_script::{BlockLine, Script, ScriptConfig};

@@ -13,9 +13,9 @@ ghost use Rattle.dkg_script.specs.Built.{ReadsBuilt, is_built};
 ghost use Rattle.dkg_script.specs.Inclusion.{IsFormOfInclusion};
 ghost use Rattle.dkg_script.specs.Promise.{Adds};
 ghost use Rattle.dkg_run.specs.Command.{IsMake, IsRun, IsRunOfMade, IsTold};
-ghost use Rattle.dkg_run.specs.Complete.{IsSoundRun, IsValidAnyhow};
+ghost use Rattle.dkg_promises.specs.Complete.{IsSoundRun, IsValidAnyhow};
 ghost use Rattle.dkg_run.specs.Outside.{TookFew, TookMore};
-ghost use Rattle.dkg_run.specs.Over.{over};
+ghost use Rattle.dkg_promises.specs.Over.{over};
 ghost use Rattle.dkg_run.specs.Reports.{Blamed, IsMade, WasRead, Reported, RanByStatus, Summed, fault_status, last_fault as last_fault_of, last_of, exit_status_of, summary_by};
 
 use crate::lives::run_lives;

@@ -20,7 +20,7 @@ ghost use Rattle.dkg_dealing.specs.Ends.{IsCaused};
 ghost use Rattle.dkg_dealing.specs.Made.{Speaks};
 ghost use Rattle.dkg_dealing.specs.declared.stop.Stop.TheVariants.{Fault as FaultOf};
 ghost use Rattle.dkg_types.specs.declared.fault.Fault.TheVariants.{NoMemory};
-ghost use Rattle.dkg_run.specs.Ended.{ends_node};
+ghost use Rattle.dkg_lives.specs.Ended.{ends_node};
 ghost use Rattle.dkg_run.specs.Halves.{IsStartOf, beginning_of};
 ghost use Rattle.dkg_run.specs.Nodes.{HasHalf, IsFenceReady, IsHalfGiven, IsSettled, MayEnter, MayGoOn, MayPass, ends_half, ends_on, with_half};
 

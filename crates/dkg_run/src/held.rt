@@ -3,7 +3,7 @@ ghost use Rattle.std.specs.Prelude.{◌≡◌, ◌==◌, ◌++◌, ◌∷◌, []
 ghost use Rattle.std.specs.Option.{option_copied};
 ghost use Rattle.std.specs.Str.{bytes_eq};
 ghost use Rattle.dkg_script.specs.Blocks.{anchor_number};
-ghost use Rattle.dkg_run.specs.Given.{anchor_block, anchor_in, numbered, unsealed};
+ghost use Rattle.dkg_lives.specs.Given.{anchor_block, anchor_in, numbered, unsealed};
 ghost use Rattle.dkg_run.specs.Sources.{anchor_numbers};
 
 use dkg_ceremony::{Digest, Height, Mem};

@@ -19,8 +19,8 @@ ghost use Rattle.dkg_dealing.specs.Made.{Makes, Tells, UnlessBroken};
 ghost use Rattle.dkg_dealing.specs.Moved.{Moved, StaysAbove};
 ghost use Rattle.dkg_dealing.specs.Opened.{IsInGrammar, OpensReadable};
 ghost use Rattle.dkg_dealing.specs.Planless.{seen_planless};
-ghost use Rattle.dkg_run.specs.Epochs.{MayStep};
-ghost use Rattle.dkg_run.specs.Given.{IsUnplanned, Lived, at_step, blocks_in, limits_of, lived, starts_above, step_of};
+ghost use Rattle.dkg_lives.specs.Epochs.{MayStep};
+ghost use Rattle.dkg_lives.specs.Given.{IsUnplanned, Lived, at_step, blocks_in, limits_of, lived, starts_above, step_of};
 ghost use Rattle.dkg_run.specs.Nodes.{GoesIn, IsEventHere, IsMail, IsOfLife, IsReadyNode, IsView, Viewed, ViewedNew, ended_new, sent_event};
 ghost use Rattle.dkg_run.specs.Sources.{IsToOpen};
 

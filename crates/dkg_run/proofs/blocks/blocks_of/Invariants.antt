@@ -1,6 +1,6 @@
 -- The blocks so far, and those of the lines that are left, are all; and so are the lines whose payloads are known to be bytes.
 use Rattle.std.proofs.Common.{◌≡◌, [], drop, fold}
-use Rattle.dkg_run.specs.Given.{AreBytes, with_block}
+use Rattle.dkg_lives.specs.Given.{AreBytes, with_block}
 use Rattle.dkg_run.proofs.blocks.blocks_of.Given as goal
 
 abbrev pub invariant-loop-line : goal.invariant-loop-line

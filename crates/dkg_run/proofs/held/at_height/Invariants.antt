@@ -1,7 +1,7 @@
 -- None of the blocks so far is found.
 use Rattle.std.proofs.Common.{◌≡◌, drop}
 use Rattle.std.specs.Prelude.{◌==◌, find}
-use Rattle.dkg_run.specs.Given.{numbered}
+use Rattle.dkg_lives.specs.Given.{numbered}
 use Rattle.dkg_run.proofs.held.at_height.Given as goal
 
 abbrev pub invariant-loop-number : goal.invariant-loop-number

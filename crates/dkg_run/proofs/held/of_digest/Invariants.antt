@@ -2,7 +2,7 @@
 use Rattle.std.proofs.Common.{◌≡◌, drop}
 use Rattle.std.specs.Prelude.{find}
 use Rattle.std.specs.Str.{bytes_eq}
-use Rattle.dkg_run.specs.Given.{numbered}
+use Rattle.dkg_lives.specs.Given.{numbered}
 use Rattle.dkg_run.proofs.held.of_digest.Given as goal
 
 abbrev pub invariant-loop-number : goal.invariant-loop-number

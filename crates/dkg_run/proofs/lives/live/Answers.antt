@@ -2,10 +2,10 @@ use Rattle.std.proofs.Common.{[], refl, ◌∙◌}
 use Rattle.std.proofs.lemmas.Result.{err_from_is_err_and}
 use Rattle.dkg_store.proofs.Counts.{reached_cuts}
 use Rattle.dkg_dealing.specs.Planless.{seen_planless}
-use Rattle.dkg_run.specs.Given.{Lived, at_step, limits_of, lived}
-use Rattle.dkg_run.specs.Moving.{Went, world_of}
+use Rattle.dkg_lives.specs.Given.{Lived, at_step, limits_of, lived}
+use Rattle.dkg_lives.specs.Moving.{Went, world_of}
 use Rattle.dkg_run.proofs.Opened.{at_first, cut_behind, cut_ran, stopped_ran, told_ran, unsourced_ran, untold_ran}
-use Rattle.dkg_run.proofs.Checked.{life_in_form}
+use Rattle.dkg_lives.proofs.Checked.{life_in_form}
 use Rattle.dkg_run.proofs.Going.{went_moved, went_none, went_then}
 use Rattle.dkg_run.proofs.RecordsFound.{opening_finds, steps_find}
 use Rattle.dkg_run.proofs.Starting.{blames_from, cut_first, fit_over, fit_then, found_cause, has_opened, lines_over, opening_blames, stopped_first, to_open, told_first, unsourced_first, untold_first}

@@ -4,14 +4,14 @@ use Rattle.std.specs.Prelude.{slice_get}
 use Rattle.std.proofs.lemmas.Result.{err_from_is_err_and}
 use Rattle.dkg_journal.specs.Names.{Files}
 use Rattle.dkg_store.specs.Acts.{World}
-use Rattle.dkg_run.specs.Given.{limits_of}
-use Rattle.dkg_run.specs.Lives.{AnyFiles, LivesFrom}
-use Rattle.dkg_run.specs.Moving.{world_of}
-use Rattle.dkg_run.specs.Ways.{by_lines, by_worlds, trace}
-use Rattle.dkg_run.proofs.Checked.{config_caused}
+use Rattle.dkg_lives.specs.Given.{limits_of}
+use Rattle.dkg_lives.specs.Lives.{AnyFiles, LivesFrom}
+use Rattle.dkg_lives.specs.Moving.{world_of}
+use Rattle.dkg_lives.specs.Ways.{by_lines, by_worlds, trace}
+use Rattle.dkg_lives.proofs.Checked.{config_caused}
 use Rattle.dkg_run.proofs.Going.{went_none, went_then}
 use Rattle.dkg_run.proofs.Lasting.{blames_behind}
-use Rattle.dkg_run.proofs.Living.{item_here}
+use Rattle.dkg_lives.proofs.Living.{item_here}
 use Rattle.dkg_run.proofs.RecordsFound.{config_finds}
 use Rattle.dkg_run.proofs.Running.{lives_end, lives_first, lives_next, lives_stop}
 use Rattle.dkg_run.proofs.lives.run_all.Goals as goal

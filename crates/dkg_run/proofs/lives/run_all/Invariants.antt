@@ -3,10 +3,10 @@ use Rattle.std.proofs.Common.{◌≡◌, [], ℕ, List}
 use Rattle.std.specs.Prelude.{IsTrue}
 use Rattle.dkg_store.specs.Acts.{Stands}
 use Rattle.dkg_store.specs.Corrupt.{AreFit}
-use Rattle.dkg_run.specs.Given.{limits_of}
-use Rattle.dkg_run.specs.Lives.{AnyFiles}
-use Rattle.dkg_run.specs.Moving.{Went, world_of}
-use Rattle.dkg_run.specs.Ways.{by_lines, by_worlds, trace}
+use Rattle.dkg_lives.specs.Given.{limits_of}
+use Rattle.dkg_lives.specs.Lives.{AnyFiles}
+use Rattle.dkg_lives.specs.Moving.{Went, world_of}
+use Rattle.dkg_lives.specs.Ways.{by_lines, by_worlds, trace}
 use Rattle.dkg_run.proofs.Running.{LivesOn}
 use Rattle.dkg_run.proofs.lives.run_all.Given as goal
 

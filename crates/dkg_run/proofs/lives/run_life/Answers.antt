@@ -1,6 +1,6 @@
 use Rattle.std.proofs.Common.{[]}
-use Rattle.dkg_run.specs.Given.{limits_of}
-use Rattle.dkg_run.specs.Stopped.{picks_at_end}
+use Rattle.dkg_lives.specs.Given.{limits_of}
+use Rattle.dkg_lives.specs.Stopped.{picks_at_end}
 use Rattle.dkg_run.proofs.Going.{went_then}
 use Rattle.dkg_run.proofs.Lasting.{life_blames, life_lines, life_closes, life_scripted, narrowed_fit}
 use Rattle.dkg_run.proofs.RecordsFound.{life_finds}

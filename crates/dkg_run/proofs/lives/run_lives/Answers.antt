@@ -1,19 +1,19 @@
 use Rattle.std.proofs.Common.{◌≡◌, [], ap, inl, Ok, Err, rules}
 use Rattle.dkg_script.specs.Promise.{Adds}
 use Rattle.dkg_store.specs.declared.devices.Devices.{Devices}
-use Rattle.dkg_run.specs.Causes.{HasCause}
-use Rattle.dkg_run.specs.Epochs.{IsChecked}
-use Rattle.dkg_run.specs.Found.{IsFoundRecord}
-use Rattle.dkg_run.specs.Given.{AreBytes}
-use Rattle.dkg_run.specs.GivesBack.{limit_in}
-use Rattle.dkg_run.specs.Lives.{AnyFiles}
-use Rattle.dkg_run.specs.Over.{Over, over}
-use Rattle.dkg_run.specs.Promised.{DoesRun, Promised, SaysRun}
-use Rattle.dkg_run.specs.Ways.{by_lines, by_worlds}
+use Rattle.dkg_lives.specs.Causes.{HasCause}
+use Rattle.dkg_lives.specs.Epochs.{IsChecked}
+use Rattle.dkg_promises.specs.Found.{IsFoundRecord}
+use Rattle.dkg_lives.specs.Given.{AreBytes}
+use Rattle.dkg_promises.specs.GivesBack.{limit_in}
+use Rattle.dkg_lives.specs.Lives.{AnyFiles}
+use Rattle.dkg_promises.specs.Over.{Over, over}
+use Rattle.dkg_promises.specs.Promised.{DoesRun, Promised, SaysRun}
+use Rattle.dkg_lives.specs.Ways.{by_lines, by_worlds}
 use Rattle.dkg_run.proofs.Behind.{over_as, runs_over}
-use Rattle.dkg_run.proofs.Promising.{known_told, promised}
+use Rattle.dkg_promises.proofs.Promising.{known_told, promised}
 use Rattle.dkg_run.proofs.Running.{runs_faulted, runs_well, tells_over}
-use Rattle.dkg_run.proofs.Unbegun.{Unmoved, began_told, began_well, unmoved}
+use Rattle.dkg_promises.proofs.Unbegun.{Unmoved, began_told, began_well, unmoved}
 use Rattle.dkg_run.proofs.lives.run_lives.Goals as goal
 
 -- EVERY LIFE WAS RUN

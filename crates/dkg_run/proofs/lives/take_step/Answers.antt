@@ -5,10 +5,10 @@ use Rattle.dkg_types.specs.declared.entry.Entry.{Entry}
 use Rattle.dkg_types.specs.declared.entry.Entry.TheVariants as entry
 use Rattle.dkg_store.specs.Acts.{Stands}
 use Rattle.dkg_store.proofs.Counts.{reached_cuts}
-use Rattle.dkg_run.specs.Given.{step_of}
-use Rattle.dkg_run.specs.Lives.{fuse_for}
-use Rattle.dkg_run.specs.Moving.{world_of}
-use Rattle.dkg_run.specs.Ways.{by_lines, trace}
+use Rattle.dkg_lives.specs.Given.{step_of}
+use Rattle.dkg_lives.specs.Lives.{fuse_for}
+use Rattle.dkg_lives.specs.Moving.{world_of}
+use Rattle.dkg_lives.specs.Ways.{by_lines, trace}
 use Rattle.dkg_run.proofs.Going.{went_moved, went_none, went_then}
 use Rattle.dkg_run.proofs.Starting.{fit_over, step_blames_from}
 use Rattle.dkg_run.proofs.Stepping.{step_wants}

@@ -5,15 +5,14 @@ use Rattle.std.specs.Int.NonZero.{non_zero_u32_get}
 use Rattle.dkg_journal.specs.Names.{Files}
 use Rattle.dkg_dealing.specs.declared.stop.Stop.{Stop}
 use Rattle.dkg_types.specs.declared.entry.Entry.TheVariants as entry
-use Rattle.dkg_run.specs.Given.{step_of}
-use Rattle.dkg_run.specs.Lives.{Steps, TakesAll, fuse_for}
-use Rattle.dkg_run.specs.Moving.{world_of}
+use Rattle.dkg_lives.specs.Given.{step_of}
+use Rattle.dkg_lives.specs.Lives.{Steps, TakesAll, fuse_for}
+use Rattle.dkg_lives.specs.Moving.{world_of}
 use Rattle.dkg_run.specs.Nodes.{IsView}
-use Rattle.dkg_run.specs.Ways.{by_lines, by_worlds, trace}
+use Rattle.dkg_lives.specs.Ways.{by_lines, by_worlds, trace}
 use Rattle.dkg_run.proofs.Going.{went_none, went_then}
-use Rattle.dkg_run.proofs.Living.{step_here}
-use Rattle.dkg_run.proofs.LivesStand.{lines_lead, worlds_lead}
-use Rattle.dkg_run.proofs.StepsOn.{IsHere, goes_in, here_first, may_step, steps_here, taken_event}
+use Rattle.dkg_lives.proofs.LivesStand.{lines_lead, worlds_lead}
+use Rattle.dkg_run.proofs.StepsOn.{IsHere, goes_in, here_first, may_step, step_here, steps_here, taken_event}
 use Rattle.dkg_run.proofs.Starting.{step_blames_from}
 use Rattle.dkg_run.proofs.Stepping.{takes_end, takes_first, takes_next, takes_stop}
 use Rattle.dkg_run.proofs.Turns.{blocks_same, fit_on, node_lands, not_done, steps_of, stops_with}

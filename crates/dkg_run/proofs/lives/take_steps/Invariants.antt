@@ -5,11 +5,11 @@ use Rattle.std.specs.Int.NonZero.{non_zero_u32_get}
 use Rattle.dkg_types.specs.declared.directory.Unit as directory
 use Rattle.dkg_store.specs.Corrupt.{AreFit}
 use Rattle.dkg_core.specs.Live.{Live}
-use Rattle.dkg_run.specs.Epochs.{IsAt, IsLifeInForm}
-use Rattle.dkg_run.specs.Given.{Lived}
-use Rattle.dkg_run.specs.Moving.{Went, world_of}
+use Rattle.dkg_lives.specs.Epochs.{IsAt, IsLifeInForm}
+use Rattle.dkg_lives.specs.Given.{Lived}
+use Rattle.dkg_lives.specs.Moving.{Went, world_of}
 use Rattle.dkg_run.specs.Nodes.{IsOfLife, IsReadyNode, IsStepHere, IsView}
-use Rattle.dkg_run.specs.Ways.{by_lines, by_worlds, trace}
+use Rattle.dkg_lives.specs.Ways.{by_lines, by_worlds, trace}
 use Rattle.dkg_run.proofs.Stepping.{TakenOn}
 use Rattle.dkg_run.proofs.StepsOn.{IsHere}
 use Rattle.dkg_run.proofs.lives.take_steps.Given as goal

@@ -1,0 +1,10 @@
+pub mod Asks
+pub mod Blamed
+pub mod Causes
+pub mod Ended
+pub mod Epochs
+pub mod Given
+pub mod Lives
+pub mod Moving
+pub mod Stopped
+pub mod Ways

@@ -1,0 +1,9 @@
+pub mod Answers
+pub mod Complete
+pub mod Found
+pub mod GivesBack
+pub mod Leaves
+pub mod Over
+pub mod Promised
+pub mod Refusals
+pub mod SharesStand

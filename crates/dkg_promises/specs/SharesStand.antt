@@ -1,0 +1,126 @@
+-- FITTING SHARES: each share that is committed is this node's in the output that its epoch's info carries; and behind an epoch that the node takes part in it stands exactly where it can.
+use Rattle.std.specs.Prelude.{ℕ, zero, suc, ◌≡◌, ◌+◌, ◌-◌, ◌<◌, ◌≤◌, ◌⊎◌, ◌↔◌, ◌++◌, ◌∷◌, Bool, true, false, Contains, List, Option, Some, IsSome, IsSomeAnd, IsFalse, length, slice_get}
+use Rattle.std.specs.FinMap.{get}
+use Rattle.std.specs.List.{list_any}
+use Rattle.dkg_ceremony.specs.PartialPublics.{partial_public_of, share_public_of}
+use Rattle.dkg_ceremony.specs.declared.phase.Phase.{Phase}
+use Rattle.dkg_journal.specs.Names.{Files}
+use Rattle.dkg_journal.specs.Records.{entries}
+use Rattle.dkg_secrets.specs.Secrets.{Secrets}
+use Rattle.dkg_store.specs.Pairs.{IsWhole}
+use Rattle.dkg_types.specs.Units.{unit_spelling}
+use Rattle.dkg_types.specs.declared.entry.Entry.{Entry}
+use Rattle.dkg_types.specs.declared.entry.Entry.TheVariants.{Committed, Opened, Setup}
+use Rattle.dkg_types.specs.declared.entry.Part.{Part}
+use Rattle.dkg_types.specs.declared.entry.Part.TheVariants.{Player, Both}
+use Rattle.dkg_types.specs.declared.outcome.EpochOutcome.{EpochOutcome}
+use Rattle.dkg_types.specs.declared.outcome.EpochOutcome.TheVariants.{Success, Failure}
+use Rattle.dkg_text.specs.declared.script.Event.TheVariants.{Final}
+use Rattle.dkg_text.specs.declared.script.Life.{Life}
+use Rattle.dkg_text.specs.declared.script.Script.{Script}
+use Rattle.dkg_script.specs.AsCut.{setting_as_cut}
+use Rattle.dkg_script.specs.Blocks.{Block, block_at, known_info}
+use Rattle.dkg_script.specs.Consistent.{IsConsistentScript}
+use Rattle.dkg_script.specs.History.{CarriesNext, IsWholeHistory}
+use Rattle.dkg_script.specs.Inclusion.{IsFormOfInclusion}
+use Rattle.dkg_script.specs.OwnMarks.{OwnMarks}
+use Rattle.dkg_script.specs.Position.{awaited_epoch, awaited_height, cut_of, event_of_step, follows, lacks_boundary}
+use Rattle.dkg_script.specs.Progress.{Progress, progress}
+use Rattle.dkg_script.specs.Schedule.{first, last}
+use Rattle.dkg_script.specs.Setting.{CutAt, Setting, blocks_per_epoch, life_at, me}
+use Rattle.dkg_script.specs.Views.{seen_provided}
+use Rattle.dkg_lives.specs.Given.{provided_by}
+use Rattle.dkg_promises.specs.GivesBack.{SharesFitInfos}
+
+-- IT FITS
+
+-- the script has the epoch's info, and this is the node's share of the output that this carries on
+abbrev pub FitsCarried : Setting → (epoch share : ℕ) → Type 0
+FitsCarried s epoch share = IsSomeAnd (known_info s epoch) (λ info. partial_public_of info.output (me s) ≡ Some (share_public_of share))
+
+-- THE CLAUSE `shares` of the promise: over devices whose shares fit, of a consistent script (judged as it was cut)
+abbrev pub CommitsFit : Script → Files → Secrets → List Entry → Type 0
+CommitsFit script files held out = let s = setting_as_cut script files held out in
+    IsFormOfInclusion s.script → IsConsistentScript s (progress s out).cuts → SharesFitInfos s s.secrets → (epoch share : ℕ) → Contains out (Committed epoch (Some share)) → FitsCarried s epoch share
+
+-- IT STANDS EXACTLY, where a life behind an epoch that it takes part in commits the next
+
+-- a line behind which an earlier setup is no more the last of its life
+abbrev pub is_set_up : Entry → Bool
+is_set_up (Opened life restored) = true
+is_set_up (Setup epoch phase part) = true
+is_set_up _ = false
+
+-- the last setup of the life in hand: it is of this epoch, with this part
+pub record WasSetUp (before : List Entry) (epoch : ℕ) (part : Part) : Type 0 where
+  pub front : List Entry
+  pub phase : Phase
+  pub rest : List Entry
+  pub is : before ≡ front ++ Setup epoch phase part ∷ rest
+  pub last : IsFalse (list_any is_set_up rest)
+
+abbrev pub Plays : Part → Type 0
+Plays Player = Unit {0}
+Plays Both = Unit {0}
+Plays _ = ⊥
+
+-- this node holds a share of the epoch: it was handed in, or committed by then
+abbrev pub HeldShare : Setting → (before : List Entry) → (epoch : ℕ) → Type 0
+HeldShare s before epoch = IsSome (get s.secrets.shares epoch) ⊎ ((share : ℕ) × Contains before (Committed epoch (Some share)))
+
+-- a life's step, behind its first events, delivers the last block of the epoch below, and that isn't behind the life yet
+pub record Enters (s : Setting) (l : ℕ) (life : Life) (events epoch : ℕ) : Type 0 where
+  pub number : ℕ
+  pub event : slice_get life.events events ≡ Some (Final number)
+  pub block : Block
+  pub block_is : block_at s number ≡ Some block
+  pub ends_below : block.height + 1 ≡ first (blocks_per_epoch s) epoch
+  pub awaited : awaited_height s l life events ≤ block.height
+
+-- the steps that may store a share of an epoch: an opening that awaits it and has the block that begins it, and the step that enters it
+abbrev pub MayStore : Setting → (l : ℕ) → Life → (step epoch : ℕ) → Type 0
+MayStore s l life zero epoch = (awaited_epoch s l life 0 ≡ epoch) × (lacks_boundary s l life ≡ false)
+MayStore s l life (suc events) epoch = Enters s l life events epoch
+
+-- An earlier life was cut within the opening or the step by which it came to the epoch: it may have stored a share of the epoch that no line tells.
+pub record WasCutInto (s : Setting) (cuts : List (Option CutAt)) (epoch : ℕ) : Type 0 where
+  pub l : ℕ
+  pub earlier : l < length cuts
+  pub life : Life
+  pub life_is : life_at s l ≡ Some life
+  pub at : CutAt
+  pub at_is : cut_of cuts l ≡ Some at
+  pub within : 0 < at.call
+  pub stores : MayStore s l life at.step epoch
+
+-- By the outcome that the next info tells: behind a success there is a share where the node played, if its marks are known; and behind a failure where it held one.
+abbrev pub StandsBy : Setting → (before : List Entry) → (epoch : ℕ) → Part → (share : Option ℕ) → (marks : Type 0) → EpochOutcome → Type 0
+StandsBy s before epoch part share marks Success = marks → (IsSome share ↔ Plays part)
+StandsBy s before epoch part share marks Failure = (HeldShare s before epoch → IsSome share) × (IsSome share → HeldShare s before epoch ⊎ WasCutInto s (progress s before).cuts epoch)
+
+-- The life in hand set the epoch up. There is a share only where its last block is honest; and where it is, the share stands so.
+abbrev pub StandsSo : Setting → (before : List Entry) → (epoch : ℕ) → (share : Option ℕ) → (honest marks : Type 0) → EpochOutcome → Type 0
+StandsSo s before epoch share honest marks outcome =
+    (part : Part) × WasSetUp before epoch part × (IsSome share → honest) × (honest → StandsBy s before epoch part share marks outcome)
+
+-- the step in hand delivers the last block of an epoch that its life awaits and doesn't follow
+pub record EndsEpoch (s : Setting) (p : Progress) (epoch : ℕ) : Type 0 where
+  pub life : Life
+  pub life_is : life_at s (length p.cuts) ≡ Some life
+  pub number : ℕ
+  pub event : event_of_step life p.step ≡ Some (Final number)
+  pub delivers : IsSomeAnd (block_at s number) (λ b. b.height ≡ last (blocks_per_epoch s) epoch)
+  pub awaited : awaited_epoch s (length p.cuts) life (p.step - 1) ≡ epoch
+  pub takes_part : follows s (length p.cuts) life epoch ≡ false
+
+-- that block carries what the chain's logs of the epoch make
+abbrev pub EndsHonestly : (s : Setting) (p : Progress) (epoch : ℕ) → EndsEpoch s p epoch → Type 0
+EndsHonestly s p epoch ends_it = IsSomeAnd (block_at s ends_it.number) (CarriesNext s (seen_provided unit_spelling (provided_by s.script)))
+
+-- THE CLAUSE `exactly` of the promise: over whole devices whose shares fit, of a script with a whole history, each line that commits the epoch behind one that the life takes part in has a share just there, and
+-- none where that epoch's last block carries another info than its chain's logs make. Behind a success that is so where no log up to it bears an acknowledgement that this node never gave.
+abbrev pub CommitsExactly : Script → Files → Secrets → List Entry → Type 0
+CommitsExactly script files held out = let s = setting_as_cut script files held out in
+    IsFormOfInclusion s.script → IsWholeHistory s (progress s out).cuts → IsWhole (entries s.files) s.secrets → SharesFitInfos s s.secrets
+    → (before after : List Entry) (epoch : ℕ) (share : Option ℕ) → out ≡ before ++ Committed (epoch + 1) share ∷ after → (ends_it : EndsEpoch s (progress s before) epoch)
+    → IsSomeAnd (known_info s (epoch + 1)) (λ info. StandsSo s before epoch share (EndsHonestly s (progress s before) epoch ends_it) (OwnMarks s before) info.outcome)
