@@ -43,7 +43,7 @@ use Rattle.dkg_core.specs.Sources.{Tip}
 use Rattle.dkg_core.specs.Stepping.{dealt_behind, given_itself}
 use Rattle.dkg_core.specs.Through.{IsLiveThrough, asked_by, included}
 use Rattle.dkg_core.proofs.NodeSaying.{node_steps_say_through}
-use Rattle.dkg_promises.specs.Answers.{IsAnsweredSo, IsAskedFor, IsMadeOf, IsUnavailable}
+use Rattle.dkg_promises.specs.Answers.{IsAnsweredSo, IsAskedFor, IsMadeOf, IsProvidedFor, IsUnavailable}
 use Rattle.dkg_lives.specs.Asks.{IsRefusedAt, IsUncancelled, RequestStanding, WereAsked, bounds_in, fed_in, next_bytes, scan_tip, standing_of, turns}
 use Rattle.dkg_lives.specs.Blamed.{IsInfoOf, IsTakenLast, round_by, tip_in}
 use Rattle.dkg_lives.specs.Epochs.{IsLifeInForm, StandsInScript, any_shares, epoch_by}
@@ -54,6 +54,7 @@ use Rattle.dkg_lives.proofs.Awaiting.{IsReached}
 use Rattle.dkg_lives.proofs.Causing.{above_by, taken}
 use Rattle.dkg_lives.proofs.FedRequests.{becomes_open, stands_more}
 use Rattle.dkg_lives.proofs.Former.{Brings, BringsBlock, BringsMail, IsMessage, brings_so, life_in, step_taken, through_at}
+use Rattle.dkg_promises.proofs.Providing.{IsInfoIf, IsProvidedIn, info_lines}
 use Rattle.dkg_promises.proofs.Requested.{AreHeld, AreReady, IsAwaited, IsHeld, IsReadFor, IsSamePart, Knows, KnowsRead, asked_same, block_said, dealt_part, dealt_said, dealt_tip, included_said, keeps_final, keeps_work, less_one, mail_said, observed_part, read_here, sends_info, sends_work, stands_as, were_asked}
 use Rattle.dkg_lives.proofs.Unanswered.{IsUnanswered, block_lines}
 
@@ -94,7 +95,13 @@ module _ {Known : Knows} (g : Lived) (here : IsLifeInForm g) (i : ℕ) (its : Ev
   abbrev e : ℕ
   e = epoch_by g i
 
+  -- what the provider names serves
+  abbrev IsProvidedNow : Type 0
+  IsProvidedNow = IsProvidedIn c st.participation.epoch
+
+  -- what is said here; an info where that holds
   abbrev IsSaidHere : Entry → Type 0
+  IsSaidHere (Answer request (Available payload)) = IsProvidedNow → IsSaidIn Known g.script g.number g.life e (suc i) (Answer request (Available payload))
   IsSaidHere line = IsSaidIn Known g.script g.number g.life e (suc i) line
 
   itself : (a : ℕ) → a ≤ a
@@ -116,6 +123,10 @@ module _ {Known : Knows} (g : Lived) (here : IsLifeInForm g) (i : ℕ) (its : Ev
     its_epoch : st.participation.epoch ≡ e
     its_epoch = stands.epoch apart
 
+    its_provided : IsProvidedNow → IsProvidedFor g.script e
+    unfolding at_step
+    its_provided named = let its = subst (IsProvidedIn c) its_epoch named in record { in_range = its.0; some = its.1; in_bound = its.2 }
+
     module _ (round : Round) (info : EpochInfo U) (of_round : st.participation.round ≡ Some round) (of_info : st.participation.current ≡ Some info) where
       info_is : IsInfoOf g.script g.life (suc i) e info
       info_is = info_later g i e info
@@ -132,10 +143,11 @@ module _ {Known : Knows} (g : Lived) (here : IsLifeInForm g) (i : ℕ) (its : Ev
 
       -- made of these logs
       made_of : (request read : ℕ) (recorded logs : LogMap) (payload : Option (List ℕ)) → read ≤ suc i → epoch_by g (read - 1) ≡ e → WereAsked g.script g.life e request read round recorded logs → payload ≡ payload_by c round info logs
-          → Known e read round recorded → (made : IsMadeOf g.script g.number g.life e (suc i) request payload) × Known e made.at made.round made.recorded
-      made_of request read recorded logs payload within same asked is its_known = (
+          → Known e read round recorded → IsProvidedNow → (made : IsMadeOf g.script g.number g.life e (suc i) request payload) × Known e made.at made.round made.recorded
+      made_of request read recorded logs payload within same asked is its_known named = (
         record {
           takes_part = takes_part;
+          provided = its_provided named;
           info = info;
           info_is = info_is;
           round = round;
@@ -177,11 +189,11 @@ module _ {Known : Knows} (g : Lived) (here : IsLifeInForm g) (i : ℕ) (its : Ev
       found_for : (number : ℕ) (answer : AnswerLine) → IsReadAnswer c x (Answer number answer) → IsSaidHere (Answer number answer)
       found_for number (Available payload) (round, info, of_round, of_info, (r, among, numbered, (found, read, is))) =
           let one : IsHeld g e (suc i) r = all_of (IsHeld g e (suc i)) x.inclusion.queue r among ready.queue in
-          subst (λ (n : ℕ). IsSaidHere (Answer n (Available payload))) numbered (
+          subst (λ (n : ℕ). IsSaidHere (Answer n (Available payload))) numbered (λ named. (
             of_held r one,
             made_of round info (sym same.round ∙ of_round) (sym same.current ∙ of_info) r.number (suc i) (canonical c x) (filled_by (canonical c x) found) payload (itself (suc i)) (ap (epoch_by g) (less_one i))
-                (were_asked g here (suc i) e x x_tip x_epoch round r found read one.fed) is (knows round of_round),
-          )
+                (were_asked g here (suc i) e x x_tip x_epoch round r found read one.fed) is (knows round of_round) named,
+          ))
       found_for number (Unavailable why) (round, of_round, (r, among, numbered, lacks)) =
           let one : IsHeld g e (suc i) r = all_of (IsHeld g e (suc i)) x.inclusion.queue r among ready.queue in
           subst (λ (n : ℕ). IsAskedFor g.script g.number g.life e (suc i) n × IsUnavailable g.script g.number g.life e (suc i) n why) numbered (
@@ -199,11 +211,11 @@ module _ {Known : Knows} (g : Lived) (here : IsLifeInForm g) (i : ℕ) (its : Ev
     waited_for number payload (round, info, of_round, of_info, (job, runs, waits, is)) keeps =
         let one : IsAwaited g Known e i st.inclusion.running st.participation.round number = subst (λ (o : Option ℕ). IfSome o (IsAwaited g Known e i st.inclusion.running st.participation.round)) waits held.ready.waiter in
         let of_job : one.job ≡ job = the_same (sym one.runs ∙ runs) in
-        let of_its : one.its_round ≡ round = the_same (sym one.of_round ∙ of_round) in (
+        let of_its : one.its_round ≡ round = the_same (sym one.of_round ∙ of_round) in λ named. (
           record { at = one.at; before = more one.at one.before; made = one.made; same = one.same; uncancelled = keeps one },
           made_of round info of_round of_info number one.read one.recorded job.logs payload (upto one.read one.within) one.began
               (subst (λ (x : Job). WereAsked g.script g.life e number one.read round one.recorded x.logs) of_job (subst (λ (x : Round). WereAsked g.script g.life e number one.read x one.recorded (one.job).logs) of_its one.asked)) is
-              (subst (λ (x : Round). Known e one.read x one.recorded) of_its one.known),
+              (subst (λ (x : Round). Known e one.read x one.recorded) of_its one.known) named,
         )
       where
         the_same : {A : Type 0} {x y : A} → ◌≡◌ {A = Option A} (Some x) (Some y) → x ≡ y
@@ -362,7 +374,7 @@ module _ {Known : Knows} (g : Lived) (here : IsLifeInForm g) (i : ℕ) (its : Ev
   all_said so [] all = tt
   all_said so (line ∷ lines) all = (so line all.0, all_said so lines all.1)
 
-  both_said : {P Q : Entry → Type 0} → ((line : Entry) → P line → Q line → IsSaidHere line) → (lines : List Entry) → AllByRecursion P lines → AllByRecursion Q lines → AllByRecursion IsSaidHere lines
+  both_said : {P Q R : Entry → Type 0} → ((line : Entry) → P line → Q line → R line) → (lines : List Entry) → AllByRecursion P lines → AllByRecursion Q lines → AllByRecursion R lines
   both_said so [] one other = tt
   both_said so (line ∷ lines) one other = (so line one.0 other.0, both_said so lines one.1 other.1)
 
@@ -406,4 +418,12 @@ module _ {Known : Knows} (g : Lived) (here : IsLifeInForm g) (i : ℕ) (its : Ev
       → (added : List Entry) × (new ≡ old ++ added) × AllByRecursion (IsSaidAt Known g.script g.number g.life (suc i)) added
   step_answers ended old new said =
       let its_lines = step_said ended old new said in
-      (its_lines.0, its_lines.1, subst (λ (k : ℕ). AllByRecursion (IsSaidIn Known g.script g.number g.life k (suc i)) its_lines.0) (sym (ap (epoch_by g) (less_one i))) its_lines.2)
+      let named = info_lines c any_shares (through_at g here (suc i)) (λ h epoch found. tt) st live m.message ended old new said in
+      let all : AllByRecursion (IsSaidIn Known g.script g.number g.life e (suc i)) its_lines.0 =
+      both_said said_where its_lines.0 its_lines.2 (subst (AllByRecursion (IsInfoIf IsProvidedNow)) (append_cancel_left old named.0 its_lines.0 (sym named.1 ∙ its_lines.1)) named.2) in
+      (its_lines.0, its_lines.1, subst (λ (k : ℕ). AllByRecursion (IsSaidIn Known g.script g.number g.life k (suc i)) its_lines.0) (sym (ap (epoch_by g) (less_one i))) all)
+    where
+      said_where : (line : Entry) → IsSaidHere line → IsInfoIf IsProvidedNow line → IsSaidIn Known g.script g.number g.life e (suc i) line
+      said_where (Answer request (Available payload)) said named = said named
+      said_where (Answer request (Unavailable why)) said named = said
+      said_where line said named = tt

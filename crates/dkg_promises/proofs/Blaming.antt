@@ -1,5 +1,5 @@
--- Why the lives of a run stop, and why their requests are answered: its lines tell it, whatever the devices tell.
-use Rattle.std.proofs.Common.{◌≡◌, ◌⊎◌, inl, inr, Bool, true, false, ℕ, suc, ◌+◌, ◌-◌, ◌<◌, ◌≤◌, ◌++◌, ◌∷◌, [], List, Option, Some, None, Result, Ok, Err, arith, refl, sym, ◌∙◌, ap, subst, add-one, append_assoc, drop, length, take}
+-- Why the lives of a run stop, why their requests are answered, and that they commit each epoch that they come into: its lines tell it, whatever the devices tell.
+use Rattle.std.proofs.Common.{◌≡◌, ◌⊎◌, inl, inr, Bool, true, false, ℕ, suc, ◌+◌, ◌-◌, ◌<◌, ◌≤◌, ◌++◌, ◌∷◌, [], List, Option, Some, None, Result, Ok, Err, arith, refl, sym, ◌∙◌, ap, subst, add-one, append_assoc, append-nil, drop, length, take}
 use Rattle.std.specs.Prelude.{⊤, fold, slice_get, IsSomeAnd}
 use Rattle.std.specs.List.{AllByRecursion}
 use Rattle.std.specs.Option.{option_map_or}
@@ -26,7 +26,7 @@ use Rattle.dkg_script.specs.Ends.{EndsWell}
 use Rattle.dkg_script.specs.Epochs.{alone}
 use Rattle.dkg_script.specs.Order.{IsInOrder}
 use Rattle.dkg_script.specs.Position.{awaited_epoch}
-use Rattle.dkg_script.specs.Progress.{AtEachEntry, Progress, read, at_start}
+use Rattle.dkg_script.specs.Progress.{AtEachEntry, Progress, progress, read, at_start}
 use Rattle.dkg_script.specs.Promise.{Adds}
 use Rattle.dkg_script.specs.Setting.{Setting, setting_of}
 use Rattle.dkg_script.proofs.EachEntry.{at_each}
@@ -61,12 +61,14 @@ use Rattle.dkg_lives.specs.Ended.{by_node_stop}
 use Rattle.dkg_lives.specs.Epochs.{IsAt, IsChecked, IsLifeInForm, StandsInScript, any_shares, epoch_by}
 use Rattle.dkg_lives.specs.Given.{Lived, anchor_in, at_step, blocks_in, lived, step_of}
 use Rattle.dkg_lives.specs.Lives.{LivesSo, RunsAllSo, RunsSo, Steps, TakesAll, TellsEnd, fuse_for}
+use Rattle.dkg_promises.specs.SharesStand.{ComesInto, TellsCommit}
 use Rattle.dkg_lives.specs.Ways.{ReadsSomething, Trace, by_lines}
 use Rattle.dkg_promises.proofs.Answered.{IsSaidAt, answered_so, step_answers, unanswered_so}
 use Rattle.dkg_lives.proofs.Apart.{IsApart, Reads, node_apart}
 use Rattle.dkg_lives.proofs.Asking.{AreMade, IsCarried, info_later, opening_carried, opening_made, step_carried, step_made}
 use Rattle.dkg_lives.proofs.Awaiting.{IsBefore as IsUncut, IsReached, before_all, one_more, reached_lit}
 use Rattle.dkg_lives.proofs.Causing.{block_cause, block_clear, info_cause, mail_cause, opening_cause, opening_clear}
+use Rattle.dkg_promises.proofs.Committing.{CommitsInto, TellsInto, commit_over, opening_commits_first, opening_tells, step_commits, step_tells}
 use Rattle.dkg_lives.proofs.Following.{EndsBy, RunEndsBy, all_move, item_at, rest_at}
 use Rattle.dkg_lives.proofs.Former.{Brings, BringsBlock, BringsMail, IsMessage, brings_so, event_in_form, form_at, lacks_nobody, live_at, message_in, step_taken, through_at}
 use Rattle.dkg_lives.proofs.InPlace.{begins, cut_before, cut_within, moves_cut, moves_step}
@@ -341,9 +343,9 @@ module _ (g : Lived) (here : IsLifeInForm g) where
 abbrev pub Judges : Script → Setting → Progress → Entry → Type 0
 Judges script s p one = IsBlamedSo script p one
 
--- .. and each answer is so
+-- .. and each answer is so, and what a step that was completed has told
 abbrev Says : Script → Setting → Progress → Entry → Type 0
-Says script s p one = IsBlamedSo script p one × IsAnswer script p one
+Says script s p one = IsBlamedSo script p one × (IsAnswer script p one × TellsCommit (alone script) p one)
 
 -- entries that are in order lead on, where each of them is judged
 judged_by : (script : Script) (P Q : Setting → Progress → Type 0) (out now added : List Entry) → now ≡ out ++ added → ((s : Setting) (p : Progress) → P s p → Each s (Says script s) p added)
@@ -363,6 +365,19 @@ one_quiet : (script : Script) (p : Progress) (one : Entry) → IsQuiet one → I
 one_quiet script p (entry.Step step) quiet = absurd quiet
 one_quiet script p (entry.Fault its) quiet = absurd quiet
 one_quiet script p one quiet = tt
+
+-- such entries are what the step in hand has written
+quiet_written : (s : Setting) (p : Progress) (one : Entry) → IsQuiet one → (read s p one).written ≡ p.written ++ one ∷ []
+quiet_written s p (entry.Opened life restored) quiet = absurd quiet
+quiet_written s p (entry.Cut step call) quiet = absurd quiet
+quiet_written s p (entry.Step step) quiet = absurd quiet
+quiet_written s p (entry.Fault its) quiet = absurd quiet
+quiet_written s p one quiet = refl
+
+all_written : (s : Setting) (added : List Entry) (p : Progress) → AllByRecursion IsQuiet added → (fold (read s) p added).written ≡ p.written ++ added
+all_written s [] p quiet = sym (append-nil p.written)
+all_written s (one ∷ added) p quiet =
+    all_written s added (read s p one) quiet.1 ∙ ap (λ (xs : List Entry). xs ++ added) (quiet_written s p one quiet.0) ∙ append_assoc p.written (one ∷ []) added
 
 -- it leaves the life and the step in hand
 pub same_place : (s : Setting) (p : Progress) (one : Entry) → IsQuiet one → ((read s p one).cuts ≡ p.cuts) × ((read s p one).step ≡ p.step)
@@ -401,11 +416,19 @@ module _ (script : Script) (life : Life) (l : ℕ) (life_is : slice_get script.l
   said_now j p (entry.Answer request answer) lives step said = here_now (λ n x k. IsAnsweredSo script n x (awaited_epoch (alone script) n x (k - 1)) k request answer) j p lives step (answered_so untold script l life (awaited_epoch (alone script) l life (j - 1)) j request answer said)
   said_now j p one lives step said = tt
 
-  all_quiet : (j : ℕ) (s : Setting) (p : Progress) (added : List Entry) → AllByRecursion IsQuiet added → AllByRecursion (IsSaidAt untold script l life j) added → length p.cuts ≡ l → p.step ≡ j → Each s (Says script s) p added
-  all_quiet j s p [] quiet said lives step = tt
-  all_quiet j s p (one ∷ added) quiet said lives step =
-      let same = same_place s p one quiet.0 in
-      ((one_quiet script p one quiet.0, said_now j p one lives step said.0), all_quiet j s (read s p one) added quiet.1 said.1 (ap length same.0 ∙ lives) (same.1 ∙ step))
+  commit_now : (j : ℕ) (p : Progress) (one : Entry) → length p.cuts ≡ l → p.step ≡ j → IsQuiet one → CommitsInto script l life j one → TellsCommit (alone script) p one
+  commit_now j p (entry.Committed epoch share) lives step quiet into = here_now (λ n x k. ComesInto (alone script) n x k epoch) j p lives step into
+  commit_now j p (entry.Step done) lives step quiet into = absurd quiet
+  commit_now j p one lives step quiet into = tt
+
+  all_quiet : (j : ℕ) (s : Setting) (p : Progress) (added : List Entry) → AllByRecursion IsQuiet added → AllByRecursion (IsSaidAt untold script l life j) added → AllByRecursion (CommitsInto script l life j) added → length p.cuts ≡ l → p.step ≡ j
+      → Each s (Says script s) p added
+  all_quiet j s p [] quiet said into lives step = tt
+  all_quiet j s p (one ∷ added) quiet said into lives step =
+      let same = same_place s p one quiet.0 in (
+        (one_quiet script p one quiet.0, (said_now j p one lives step said.0, commit_now j p one lives step quiet.0 into.0)),
+        all_quiet j s (read s p one) added quiet.1 said.1 into.1 (ap length same.0 ∙ lives) (same.1 ∙ step),
+      )
 
   why_now : (j : ℕ) (p : Progress) (its : Fault) → length p.cuts ≡ l → p.step ≡ j → IsWhy script l life j its → IsWhyNow script p its
   why_now j p its lives step why = inr (here_now (λ n x k. IsWhy script n x k its) j p lives step why)
@@ -421,17 +444,42 @@ module _ (script : Script) (life : Life) (l : ℕ) (life_is : slice_get script.l
   wanted : (P : Setting → Progress → Type 0) (t new : Trace) → new ≡ t → Moves (Says script) P (Ends (Err (FaultOf NoMemory))) t.out new.out
   wanted P t new is = moves_none (Says script) P (Ends (Err (FaultOf NoMemory))) t.out new.out (ap (λ (x : Trace). x.out) is) (λ s p at. inl tt)
 
-  quiet_part : (j : ℕ) (out now : List Entry) → (IsCutBefore life.cut j → ⊥) → (adds : AddsQuiet out now) → AllByRecursion (IsSaidAt untold script l life j) adds.added → Moves (Says script) (IsBefore life l j) (IsWithin life l j false) out now
-  quiet_part j out now not adds said =
-      judged_by script (IsBefore life l j) (IsWithin life l j false) out now adds.added adds.parts (λ s p is. all_quiet j s p adds.added adds.quiet said is.lives is.step) (quiet_so_far life l j out now not adds)
+  quiet_part : (j : ℕ) (out now : List Entry) → (IsCutBefore life.cut j → ⊥) → (adds : AddsQuiet out now) → AllByRecursion (IsSaidAt untold script l life j) adds.added → AllByRecursion (CommitsInto script l life j) adds.added → Moves (Says script) (IsBefore life l j) (IsWithin life l j false) out now
+  quiet_part j out now not adds said into =
+      judged_by script (IsBefore life l j) (IsWithin life l j false) out now adds.added adds.parts (λ s p is. all_quiet j s p adds.added adds.quiet said into is.lives is.step) (quiet_so_far life l j out now not adds)
 
-  opening_part : (out now : List Entry) → (IsCutBefore life.cut 0 → ⊥) → (adds : AddsOpening l out now) → AllByRecursion (IsSaidAt untold script l life 0) adds.more → Moves (Says script) (IsBefore life l 0) (IsWithin life l 0 true) out now
-  opening_part out now not adds said = judged_by script (IsBefore life l 0) (IsWithin life l 0 true) out now (entry.Opened l adds.restored ∷ adds.more) adds.parts
-      (λ s p is. ((tt, tt), all_quiet 0 s (read s p (entry.Opened l adds.restored)) adds.more adds.quiet said is.lives is.step)) (opened_so_far life l out now not adds)
+  opening_part : (out now : List Entry) → (IsCutBefore life.cut 0 → ⊥) → (adds : AddsOpening l out now) → AllByRecursion (IsSaidAt untold script l life 0) adds.more → AllByRecursion (CommitsInto script l life 0) adds.more → Moves (Says script) (IsBefore life l 0) (IsWithin life l 0 true) out now
+  opening_part out now not adds said into = judged_by script (IsBefore life l 0) (IsWithin life l 0 true) out now (entry.Opened l adds.restored ∷ adds.more) adds.parts
+      (λ s p is. ((tt, (tt, tt)), all_quiet 0 s (read s p (entry.Opened l adds.restored)) adds.more adds.quiet said into is.lives is.step)) (opened_so_far life l out now not adds)
 
-  step_part : (j : ℕ) (opened : Bool) (out : List Entry) → (j ≡ 0 → opened ≡ true) → IsClear script l life j → Moves (Says script) (IsWithin life l j opened) (IsBehind life l j) out (out ++ entry.Step j ∷ [])
-  step_part j opened out has clear = judged_by script (IsWithin life l j opened) (IsBehind life l j) out (out ++ entry.Step j ∷ []) (entry.Step j ∷ []) refl
-      (λ s p is. ((here_now (λ n x k. IsClear script n x k) j p is.lives is.step clear, tt), tt)) (moves_step life l j opened out (out ++ entry.Step j ∷ []) has refl)
+  -- behind a step's entries, which tell what they have to
+  abbrev IsToldIn : (j : ℕ) (opened : Bool) → Setting → Progress → Type 0
+  IsToldIn j opened s p = IsWithin life l j opened s p × TellsInto script l life j p.written
+
+  abbrev AddsTelling : (j : ℕ) → (out now : List Entry) → Type 0
+  AddsTelling j out now = (lines : List Entry) × (now ≡ out ++ lines) × TellsInto script l life j lines
+
+  told_part : (j : ℕ) (opened : Bool) (out now added : List Entry) → now ≡ out ++ added → ((s : Setting) (p : Progress) → p.written ≡ [] → (fold (read s) p added).written ≡ added) → AddsTelling j out now
+      → Moves (Says script) (IsBefore life l j) (IsWithin life l j opened) out now → Moves (Says script) (IsBefore life l j) (IsToldIn j opened) out now
+  told_part j opened out now added parts written tells moves = record {
+    added = moves.added;
+    parts = moves.parts;
+    each = moves.each;
+    to = λ s p is. (moves.to s p is, subst (λ (xs : List Entry). TellsInto script l life j (fold (read s) p xs).written) same_added (subst (TellsInto script l life j) (same_lines ∙ sym (written s p is.nothing)) tells.2));
+    no_fault = moves.no_fault;
+  }
+    where
+      same_added : added ≡ moves.added
+      same_added = append_cancel_left out added moves.added (sym parts ∙ moves.parts)
+
+      same_lines : tells.0 ≡ added
+      same_lines = append_cancel_left out tells.0 added (sym tells.1 ∙ parts)
+
+  step_part : (j : ℕ) (opened : Bool) (out : List Entry) → (j ≡ 0 → opened ≡ true) → IsClear script l life j → Moves (Says script) (IsToldIn j opened) (IsBehind life l j) out (out ++ entry.Step j ∷ [])
+  step_part j opened out has clear = judged_by script (IsToldIn j opened) (IsBehind life l j) out (out ++ entry.Step j ∷ []) (entry.Step j ∷ []) refl
+      (λ s p is. ((here_now (λ n x k. IsClear script n x k) j p is.0.lives is.0.step clear, (tt, here_now (λ n x k. TellsInto script n x k p.written) j p is.0.lives is.0.step is.1)), tt))
+      (moves_within IsInOrder (IsWithin life l j opened) (IsToldIn j opened) (IsBehind life l j) (IsBehind life l j) out (out ++ entry.Step j ∷ []) (λ s p is. is.0) (λ s p is. is)
+      (moves_step life l j opened out (out ++ entry.Step j ∷ []) has refl))
 
   -- A STEP with its fuse, of a course whose lines keep within it; where it is lit, it is reached
   module _ (j : ℕ) (opened : Bool) (has : j ≡ 0 → opened ≡ true) (course : Course directory.Unit NodeStop (Live directory.Unit)) (Next : Live directory.Unit → Type 0) (uncut : IsUncut life.cut j)
@@ -439,7 +487,7 @@ module _ (script : Script) (life : Life) (l : ℕ) (life_is : slice_get script.l
       → CameTo (λ (stop : NodeStop). (own : Fault) × (stop ≡ Faulted own) × IsWhy script l life j own) (λ end. Next end × IsClear script l life j) ended)
       (early : IsReached life.cut j → (IsCutBefore life.cut j → ⊥) → (stop : Stop) (out now : List Entry) → Said (on_devices course) (by_node_stop stop) out now
       → Moves (Says script) (IsBefore life l j) (λ s p. (so : Bool) × IsWithin life l j so s p) out now)
-      (whole : IsReached life.cut j → (IsCutBefore life.cut j → ⊥) → (end : Live directory.Unit) (out now : List Entry) → Said (on_devices course) (went end) out now → Moves (Says script) (IsBefore life l j) (IsWithin life l j opened) out now) where
+      (whole : IsReached life.cut j → (IsCutBefore life.cut j → ⊥) → (end : Live directory.Unit) (out now : List Entry) → Said (on_devices course) (went end) out now → Moves (Says script) (IsBefore life l j) (IsToldIn j opened) out now) where
     steps_judged : (fuse : Option Burn) → fuse_for life.cut j ≡ fuse → (t new : Trace) (how : Result (Unit {0}) Stop) (next : Live directory.Unit → Trace → Type 0)
         → (IsReached life.cut j → (end : Live directory.Unit) (mid : Trace) → Next end → next end mid → Moves (Says script) (IsBehind life l j) (Ends how) mid.out new.out)
         → Steps by_lines (entry.Step j) fuse course t how new next → Moves (Says script) (IsBefore life l j) (Ends how) t.out new.out
@@ -456,13 +504,13 @@ module _ (script : Script) (life : Life) (l : ℕ) (life_is : slice_get script.l
         cut_is : (stop : Stop) → (by_node_stop {S = Live directory.Unit} stop ≡ broken by_cut → 0 < f.call) → stop ≡ AtCut → IsCutWithin life.cut j
         cut_is stop so is_cut = lit_within life.cut j f lit (so (ap (λ (x : Stop). by_node_stop {S = Live directory.Unit} x) is_cut))
     steps_judged (Some f) lit t new how next after (inr (inr (end, mid, goes, inl wants))) = subst (λ (r : Result (Unit {0}) Stop). Moves (Says script) (IsBefore life l j) (Ends r) t.out new.out) (sym wants.0)
-        (moves_then (Says script) (IsBefore life l j) (IsWithin life l j opened) (Ends (Err (FaultOf NoMemory))) t.out mid.out new.out (whole (reached_lit life.cut j f lit uncut) (lit_begins life.cut j f lit) end t.out mid.out goes.0)
-        (wanted (IsWithin life l j opened) mid new wants.1))
+        (moves_then (Says script) (IsBefore life l j) (IsToldIn j opened) (Ends (Err (FaultOf NoMemory))) t.out mid.out new.out (whole (reached_lit life.cut j f lit uncut) (lit_begins life.cut j f lit) end t.out mid.out goes.0)
+        (wanted (IsToldIn j opened) mid new wants.1))
     steps_judged (Some f) lit t new how next after (inr (inr (end, mid, goes, inr so))) =
         let reached = reached_lit life.cut j f lit uncut in
         let came = comes reached (went end) t.out mid.out goes.0 in
-        moves_then (Says script) (IsBefore life l j) (IsWithin life l j opened) (Ends how) t.out mid.out new.out (whole (reached_lit life.cut j f lit uncut) (lit_begins life.cut j f lit) end t.out mid.out goes.0)
-        (moves_then (Says script) (IsWithin life l j opened) (IsBehind life l j) (Ends how) mid.out (mid.out ++ entry.Step j ∷ []) new.out (step_part j opened mid.out has came.1)
+        moves_then (Says script) (IsBefore life l j) (IsToldIn j opened) (Ends how) t.out mid.out new.out (whole (reached_lit life.cut j f lit uncut) (lit_begins life.cut j f lit) end t.out mid.out goes.0)
+        (moves_then (Says script) (IsToldIn j opened) (IsBehind life l j) (Ends how) mid.out (mid.out ++ entry.Step j ∷ []) new.out (step_part j opened mid.out has came.1)
         (after reached end (by_lines.says mid (entry.Step j)) came.0 so))
 
 -- A LIFE
@@ -479,7 +527,12 @@ module _ (g : Lived) (here : IsLifeInForm g) where
       (λ reached ended out now said. step_comes g here i e e_is reached st known.stood known.held ended out now said)
       (λ reached not stop out now said. moves_within (Says g.script) (IsBefore g.life g.number (suc i)) (IsBefore g.life g.number (suc i)) (IsWithin g.life g.number (suc i) false) (λ s p. (so : Bool) × IsWithin g.life g.number (suc i) so s p) out now
       (λ s p at. at) (λ s p at. (false, at)) (part reached not (by_node_stop stop) out now said))
-      (λ reached not end out now said. part reached not (went end) out now said)
+      (λ reached not end out now said.
+      let adds : AddsQuiet out now = step_is_quiet g (suc i) e st (went end) out now said in
+      told_part g.script g.life g.number here.life_is (suc i) false out now adds.added adds.parts
+      (λ s p none. all_written s adds.added p adds.quiet ∙ ap (λ (xs : List Entry). xs ++ adds.added) none)
+      (step_tells g here i e e_is reached (m g here i e e_is reached st known.stood) st (its_live g here i e e_is reached st known.stood) ((known.stood).at).stands (known.stood).tip end out now said)
+      (part reached not (went end) out now said))
       (fuse_for g.life.cut (suc i)) refl t new how next after steps
     where
       later : suc i ≡ 0 → ⊥
@@ -490,8 +543,10 @@ module _ (g : Lived) (here : IsLifeInForm g) where
       part reached not ended out now said =
           let adds : AddsQuiet out now = step_is_quiet g (suc i) e st ended out now said in
           let lines = step_lines g here i e e_is reached st known.stood known.held ended out now said in
+          let commits = step_commits g here i e e_is reached (m g here i e e_is reached st known.stood) st (its_live g here i e e_is reached st known.stood) ((known.stood).at).stands (known.stood).tip ended out now said in
           quiet_part g.script g.life g.number here.life_is (suc i) out now not adds
           (subst (λ (xs : List Entry). AllByRecursion (IsSaidAt untold g.script g.number g.life (suc i)) xs) (append_cancel_left out lines.0 adds.added (sym lines.1 ∙ adds.parts)) lines.2)
+          (subst (λ (xs : List Entry). AllByRecursion (CommitsInto g.script g.number g.life (suc i)) xs) (append_cancel_left out commits.0 adds.added (sym commits.1 ∙ adds.parts)) commits.2)
 
   takes_judged : (i : ℕ) (events : List Event) (st : Live directory.Unit) (t new : Trace) (how : Result (Unit {0}) Stop) → i ≤ length g.life.events → events ≡ drop i g.life.events → IsUncut g.life.cut (suc i) → Known g here i st
       → TakesAll by_lines g (suc i) events st t how new → Moves (Says g.script) (IsBehind g.life g.number i) (EndsHere how) t.out new.out
@@ -513,13 +568,19 @@ module _ (g : Lived) (here : IsLifeInForm g) where
 
   opens_part : (IsCutBefore g.life.cut 0 → ⊥) → (ended : Ended NodeStop (Live directory.Unit)) (out now : List Entry) → Said (on_devices (node_opening (at_step g 0))) ended out now → AddsOpening g.number out now
       → Moves (Says g.script) (IsBefore g.life g.number 0) (IsWithin g.life g.number 0 true) out now
-  opens_part not ended out now said adds = opening_part g.script g.life g.number here.life_is out now not adds (all_said adds.more none.1)
+  opens_part not ended out now said adds = opening_part g.script g.life g.number here.life_is out now not adds (all_said adds.more none.1) commits.1
     where
       lines : (added : List Entry) × (now ≡ out ++ added) × AllByRecursion IsUnanswered added
       lines = opening_lines (at_step g 0) (form_at g here 0).reshare ended out now said
 
       none : AllByRecursion IsUnanswered (entry.Opened g.number adds.restored ∷ adds.more)
       none = subst (λ (xs : List Entry). AllByRecursion IsUnanswered xs) (append_cancel_left out lines.0 (entry.Opened g.number adds.restored ∷ adds.more) (sym lines.1 ∙ adds.parts)) lines.2
+
+      its_commits : (added : List Entry) × (now ≡ out ++ added) × AllByRecursion (CommitsInto g.script g.number g.life 0) added
+      its_commits = opening_commits_first g here ended out now said
+
+      commits : AllByRecursion (CommitsInto g.script g.number g.life 0) (entry.Opened g.number adds.restored ∷ adds.more)
+      commits = subst (λ (xs : List Entry). AllByRecursion (CommitsInto g.script g.number g.life 0) xs) (append_cancel_left out its_commits.0 (entry.Opened g.number adds.restored ∷ adds.more) (sym its_commits.1 ∙ adds.parts)) its_commits.2
 
       all_said : (xs : List Entry) → AllByRecursion IsUnanswered xs → AllByRecursion (IsSaidAt untold g.script g.number g.life 0) xs
       all_said [] all = tt
@@ -535,7 +596,11 @@ module _ (g : Lived) (here : IsLifeInForm g) where
   life_judged files t new how (inl steps) =
       steps_judged g.script g.life g.number here.life_is 0 true (λ first. refl) (node_opening (at_step g 0)) (Known g here 0) (before_all g.life.cut) (λ reached. opening_comes g here)
       (λ reached not stop out now said. opens_within not (by_node_stop stop) out now said (opening_added g.number out now (by_node_stop stop) (opened_in g (by_node_stop stop) out now said)))
-      (λ reached not end out now said. opens_part not (went end) out now said (went_opened g.number out now end (opened_in g (went end) out now said)))
+      (λ reached not end out now said.
+      let adds : AddsOpening g.number out now = went_opened g.number out now end (opened_in g (went end) out now said) in
+      told_part g.script g.life g.number here.life_is 0 true out now (entry.Opened g.number adds.restored ∷ adds.more) adds.parts
+      (λ s p none. all_written s adds.more (read s p (entry.Opened g.number adds.restored)) adds.quiet ∙ ap (λ (xs : List Entry). (xs ++ entry.Opened g.number adds.restored ∷ []) ++ adds.more) none)
+      (opening_tells g here end out now said) (opens_part not (went end) out now said adds))
       (fuse_for g.life.cut 0) refl t new how (λ end mid. TakesAll by_lines g 1 g.life.events end mid how new)
       (λ reached end mid next so. takes_judged 0 g.life.events end mid new how (omega arith) refl (before_suc g.life.cut 0 reached) next so) steps
   life_judged files t new how (inr refused) = absurd refused.1.2
@@ -544,7 +609,7 @@ module _ (g : Lived) (here : IsLifeInForm g) where
 
 module _ (script : Script) (checked : IsChecked script) (each_over : (l : ℕ) (life : Life) (seen : Held → Seen) (files : Files) → slice_get script.lives l ≡ Some life → ReadsSomething seen → IsLifeInForm (lived script l life seen files)) where
   cut_judged : (life : Life) (l : ℕ) (its : cut.Cut) (out now : List Entry) → life.cut ≡ Some its → now ≡ out ++ entry.Cut its.step its.call ∷ [] → Moves (Says script) (IsAtCut life l) (IsBetween (l + 1)) out now
-  cut_judged life l its out now cut_is is = judged_by script (IsAtCut life l) (IsBetween (l + 1)) out now (entry.Cut its.step its.call ∷ []) is (λ s p at. ((tt, tt), tt)) (moves_cut life l its out now cut_is is)
+  cut_judged life l its out now cut_is is = judged_by script (IsAtCut life l) (IsBetween (l + 1)) out now (entry.Cut its.step its.call ∷ []) is (λ s p at. ((tt, (tt, tt)), tt)) (moves_cut life l its out now cut_is is)
 
   all_told : (first : Files → Type 0) (t new : Trace) (result : Result (Unit {0}) Fault) → RunsAllSo by_lines script first t result new
       → Moves (Says script) (IsBetweenOf script 0) (RunEndsBy (TellsWhy script) script result) t.out new.out
@@ -565,13 +630,19 @@ module _ (script : Script) (checked : IsChecked script) (each_over : (l : ℕ) (
       causes s p [] each = tt
       causes s p (one ∷ xs) each = (each.0.0, causes s (read s p one) xs each.1)
 
-  -- THE CLAUSES of causes and of answers
+  -- THE CLAUSES of causes, of answers, and of what is committed
+
+  abbrev pub CommitsIn : List Entry → Type 0
+  CommitsIn added = (files : Files) (held : Secrets) → AtEachEntry (setting_of script files held) (TellsCommit (setting_of script files held)) added
 
   abbrev Tells : List Entry → Type 0
-  Tells added = BlamesSo script added × AnswersSo script added
+  Tells added = BlamesSo script added × (AnswersSo script added × CommitsIn added)
 
   tells_so : (added : List Entry) → ((s : Setting) (p : Progress) → IsBetweenOf script 0 s p → Each s (Says script s) p added) → Tells added
-  tells_so added each = ((λ files held before one after is. (told files held before one after is).0), (λ files held before one after is. (told files held before one after is).1))
+  tells_so added each = (
+    λ files held before one after is. (told files held before one after is).0,
+    (λ files held before one after is. (told files held before one after is).1.0, λ files held before one after is. commit_over script files held (progress (setting_of script files held) before) one (told files held before one after is).1.1),
+  )
     where
       told : (files : Files) (held : Secrets) → AtEachEntry (setting_of script files held) (Says script (setting_of script files held)) added
       told files held = let s = setting_of script files held in at_each s (Says script s) added (each_after s (Says script s) added (at_start s) (each s (at_start s) (starts script files held)))
@@ -591,7 +662,7 @@ module _ (script : Script) (checked : IsChecked script) (each_over : (l : ℕ) (
       faulted its moves answered (inr told) = (
         moves.added ++ entry.Fault its ∷ [],
         told.2 ∙ ap (λ (xs : List Entry). xs ++ entry.Fault its ∷ []) moves.parts ∙ append_assoc t.out moves.added (entry.Fault its ∷ []),
-        tells_so (moves.added ++ entry.Fault its ∷ []) (λ s p is. each_of_both s (Says script s) moves.added (entry.Fault its ∷ []) p (moves.each s p is) ((moves.to s p is, tt), tt)),
+        tells_so (moves.added ++ entry.Fault its ∷ []) (λ s p is. each_of_both s (Says script s) moves.added (entry.Fault its ∷ []) p (moves.each s p is) ((moves.to s p is, (tt, tt)), tt)),
       )
 
       by_result : (result : Result (Unit {0}) Fault) → Moves (Says script) (IsBetweenOf script 0) (RunEndsBy (TellsWhy script) script result) t.out run.mid.out
@@ -604,4 +675,7 @@ module _ (script : Script) (checked : IsChecked script) (each_over : (l : ℕ) (
   run_blames first t new answered run = let told = run_tells first t new answered run in (told.0, told.1, told.2.0)
 
   pub run_answers : (first : Files → Type 0) (t new : Trace) (answered : Result (Unit {0}) Fault) → RunsSo by_lines script first t answered new → Adds t.out new.out (AnswersSo script)
-  run_answers first t new answered run = let told = run_tells first t new answered run in (told.0, told.1, told.2.1)
+  run_answers first t new answered run = let told = run_tells first t new answered run in (told.0, told.1, told.2.1.0)
+
+  pub run_commits : (first : Files → Type 0) (t new : Trace) (answered : Result (Unit {0}) Fault) → RunsSo by_lines script first t answered new → Adds t.out new.out CommitsIn
+  run_commits first t new answered run = let told = run_tells first t new answered run in (told.0, told.1, told.2.1.1)

@@ -1,4 +1,4 @@
--- Each share that a run over devices that tell commits stands exactly, where its script has a whole history, last blocks carry what their chain makes, and the devices that were handed in are whole and their shares fit.
+-- Each share that a run over devices that tell commits stands exactly, where its script has a whole past, last blocks carry what their chain makes, and the devices that were handed in are whole and their shares fit.
 use Rattle.std.proofs.Common.{◌≡◌, inl, inr, ◌+◌, ◌++◌, ◌∷◌, [], ℕ, false, List, Option, Some, None, Result, refl, sym, ◌∙◌, subst, append-nil, append_assoc}
 use Rattle.std.specs.Prelude.{fold, IsSomeAnd}
 use Rattle.dkg_journal.specs.Names.{Files}
@@ -12,7 +12,7 @@ use Rattle.dkg_types.specs.declared.outcome.EpochOutcome.TheVariants.{Success, F
 use Rattle.dkg_text.specs.declared.script.Life.{Life}
 use Rattle.dkg_script.specs.Blocks.{known_info}
 use Rattle.dkg_script.specs.Consistent.{MayEndSo}
-use Rattle.dkg_script.specs.History.{IsWholeHistory, WasSeen}
+use Rattle.dkg_script.specs.History.{WasSeen}
 use Rattle.dkg_script.specs.Order.{InOrder}
 use Rattle.dkg_script.specs.OwnMarks.{AreKnownHandedIn, OwnMarks}
 use Rattle.dkg_script.specs.Position.{begun_before}
@@ -28,7 +28,7 @@ use Rattle.dkg_lives.specs.Epochs.{IsLifeInForm}
 use Rattle.dkg_lives.specs.Given.{lived}
 use Rattle.dkg_promises.specs.GivesBack.{SharesFitInfos}
 use Rattle.dkg_lives.specs.Lives.{RunsOver, never}
-use Rattle.dkg_promises.specs.SharesStand.{EndsEpoch, EndsHonestly, StandsBy, StandsSo}
+use Rattle.dkg_promises.specs.SharesStand.{EndsEpoch, EndsHonestly, IsWholePast, StandsBy, StandsSo}
 use Rattle.dkg_lives.specs.Ways.{by_worlds}
 use Rattle.dkg_promises.proofs.ExactSteps.{ExactBetween}
 use Rattle.dkg_promises.proofs.ExactTold.{ExactEntry, SharesBetween, SharesHere, exact_leads}
@@ -64,7 +64,7 @@ plain_exact s ends marks before (entry.Fault its) counted = λ front. tt
 plain_exact s ends marks before line counted = absurd counted
 
 module _ (s : Setting) (built : IsGivenSetting s) (no_plans : s.plans ≡ []) (whole : IsWhole (entries s.files) s.secrets) (fit : SharesFitInfos s s.secrets) (secrets : (seen : Held → Seen) → by_worlds.reads seen → ReadsSecrets seen)
-    (answered : Result (Unit {0}) Fault) (old_out new_out added : List Entry) (secrets_now : Secrets) (is : new_out ≡ old_out ++ added) (history : IsWholeHistory s (progress s added).cuts)
+    (answered : Result (Unit {0}) Fault) (old_out new_out added : List Entry) (secrets_now : Secrets) (is : new_out ≡ old_out ++ added) (history : IsWholePast s (progress s added).cuts)
     (ordered : InOrder s added) where
   abbrev cuts : List (Option CutAt)
   cuts = (progress s added).cuts
@@ -82,11 +82,11 @@ module _ (s : Setting) (built : IsGivenSetting s) (no_plans : s.plans ≡ []) (w
   lives_given = its_given s built no_plans added history.consistent
 
   abbrev AllBetween : OfRests
-  AllBetween = BothBetween s cuts reshare history.consistent lives_given Anything (FirstBetween s cuts reshare history built.form built.bytes may lives_given) (FirstHere s cuts reshare history built.form built.bytes may lives_given) (ExactEntry s cuts)
+  AllBetween = BothBetween s cuts reshare history.consistent lives_given Anything (FirstBetween s cuts reshare history built.form built.bytes lives_given) (FirstHere s cuts reshare history built.form built.bytes lives_given) (ExactEntry s cuts)
       (SharesBetween s cuts reshare history built.form built.bytes may secrets lives_given) (SharesHere s cuts reshare history built.form built.bytes may secrets lives_given)
 
   abbrev AllHere : OfSteps s
-  AllHere = BothHere s cuts reshare history.consistent lives_given Anything (FirstBetween s cuts reshare history built.form built.bytes may lives_given) (FirstHere s cuts reshare history built.form built.bytes may lives_given) (ExactEntry s cuts)
+  AllHere = BothHere s cuts reshare history.consistent lives_given Anything (FirstBetween s cuts reshare history built.form built.bytes lives_given) (FirstHere s cuts reshare history built.form built.bytes lives_given) (ExactEntry s cuts)
       (SharesBetween s cuts reshare history built.form built.bytes may secrets lives_given) (SharesHere s cuts reshare history built.form built.bytes may secrets lives_given)
 
   -- the whole of it is in order, and tells how the lives ended

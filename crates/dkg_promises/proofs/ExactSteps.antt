@@ -1,11 +1,10 @@
 -- What a life holds of shares, and its seat, from step to step: each share of an epoch that it holds was handed in or is told, or an earlier life was cut as it came to that epoch; the last setup that its
 -- lines tell is its own; and what it has read of its epoch's share is still so.
-use Rattle.std.proofs.Common.{◌≡◌, ◌⊎◌, inl, inr, ℕ, Bool, true, false, zero, suc, ◌+◌, ◌-◌, ◌*◌, ◌<◌, ◌≤◌, List, [], ◌∷◌, ◌++◌, Option, Some, None, refl, sym, ◌∙◌, ap, subst, length, arith, add-one, suc-mul, length-append}
+use Rattle.std.proofs.Common.{◌≡◌, ◌⊎◌, inl, inr, ℕ, Bool, true, false, zero, suc, ◌+◌, ◌-◌, ◌*◌, ◌<◌, ◌≤◌, List, [], ◌∷◌, ◌++◌, Option, Some, None, refl, sym, ◌∙◌, ap, subst, length, arith, add-one, length-append}
 use Rattle.std.specs.Prelude.{slice_get, ◌==◌, ◌||◌, IsSome, IsSomeAnd, is_some, max, not, if◌then◌else◌}
 use Rattle.std.specs.FinMap.{get}
 use Rattle.std.specs.List.{AllByRecursion}
 use Rattle.std.specs.Option.{option_flatten}
-use Rattle.std.proofs.lemmas.Bool.Decides.{nat_tests}
 use Rattle.std.proofs.lemmas.List.{append_cancel_left}
 use Rattle.std.proofs.lemmas.List.Elements.{Contains-append_cases, Contains-append_left, Contains-append_right, Contains-push_cases}
 use Rattle.std.proofs.lemmas.List.Sums.{fold-append}
@@ -59,11 +58,12 @@ use Rattle.dkg_core.proofs.Reading.{live_as, step_reads}
 use Rattle.dkg_core.proofs.Storing.{looked_up}
 use Rattle.dkg_lives.specs.Epochs.{IsAt, IsLifeInForm, any_shares}
 use Rattle.dkg_lives.specs.Given.{Lived, at_step, lived, step_of}
-use Rattle.dkg_promises.specs.SharesStand.{Enters, HeldShare, MayStore, WasCutInto}
+use Rattle.dkg_promises.specs.SharesStand.{ComesInto, Enters, HeldShare, WasCutInto}
 use Rattle.dkg_lives.specs.Ways.{StaysHeld, by_worlds}
 use Rattle.dkg_lives.proofs.Alone.{epoch_alike, height_alike, lacks_alike}
 use Rattle.dkg_lives.proofs.Awaiting.{HasHeight, IsReached, block_behind, has_height}
 use Rattle.dkg_lives.proofs.AwaitedRises.{awaited_begun, begun_rises, block_reach, is_current}
+use Rattle.dkg_promises.proofs.Committing.{first_above}
 use Rattle.dkg_lives.proofs.CommitsOver.{IsTakenShare, Tells, block_over}
 use Rattle.dkg_lives.proofs.Currently.{begun_behind, begun_more}
 use Rattle.dkg_lives.proofs.Former.{BringsBlock, BringsOther, BringsPeer, IsMadeOf, IsMessage, brings_kind, event_in_form, form_at, lacks_nobody, life_in, live_through, message_in, step_taken, through_at}
@@ -107,19 +107,6 @@ IsPlayer s st = (round : Round) → st.participation.round ≡ Some round → st
 -- of this epoch a share is there, or none
 abbrev pub SomeAt : (epoch : ℕ) → Bool → OfShares
 SomeAt epoch held other share = other ≡ epoch → is_some share ≡ held
-
--- above an epoch's last height the next begins
-first_above : (n h : ℕ) → 1 ≤ n → (h == last n (epoch_of n h)) ≡ true → h + 1 ≡ first n (epoch_of n h + 1)
-first_above n h some is =
-    let epoch = epoch_of n h in
-    let product : (epoch + 1) * n ≡ epoch * n + n = ap (λ (x : ℕ). x * n) (add-one epoch) ∙ suc-mul epoch n in
-    up ((epoch + 1) * n) (epoch * n) n h product (same h (last n epoch) is) some
-  where
-    same : (a b : ℕ) → (a == b) ≡ true → a ≡ b
-    same a b e = grind (arith, nat_tests)
-
-    up : (q m n h : ℕ) → q ≡ m + n → h ≡ m + n - 1 → 1 ≤ n → h + 1 ≡ q
-    up q m n h product at some = omega (arith, product, at, some)
 
 -- HELD SHARES over more lines
 
@@ -172,7 +159,7 @@ cut_more s cuts more epoch its = record {
     there (x ∷ xs) (suc k) low = there xs k (omega (arith, low))
 
 -- a life that was cut within a step that may store a share of the epoch, as the last of these
-cut_last : (s : Setting) (cuts : List (Option CutAt)) (l : ℕ) (life : Life) (at : CutAt) (epoch : ℕ) → length cuts ≡ l → life_at s l ≡ Some life → 0 < at.call → MayStore s l life at.step epoch → WasCutInto s (cuts ++ Some at ∷ []) epoch
+cut_last : (s : Setting) (cuts : List (Option CutAt)) (l : ℕ) (life : Life) (at : CutAt) (epoch : ℕ) → length cuts ≡ l → life_at s l ≡ Some life → 0 < at.call → ComesInto s l life at.step epoch → WasCutInto s (cuts ++ Some at ∷ []) epoch
 cut_last s cuts l life at epoch lives life_is within stores = record {
   l = l;
   earlier = let is = length-append cuts (Some at ∷ []) in omega (arith, is, lives);
@@ -355,7 +342,7 @@ module _ (s : Setting) (ends : List (Option CutAt)) (form : IsFormOfInclusion s.
     }
 
     -- .. and where it is cut, behind the line of the cut
-    cut_holds : (at : cut.Cut) → (come s (b ++ its.added)).cuts ≡ (come s b).cuts → length (come s b).cuts ≡ l → ((epoch : ℕ) → Into epoch → MayStore s l life at.step epoch) → 0 < at.call
+    cut_holds : (at : cut.Cut) → (come s (b ++ its.added)).cuts ≡ (come s b).cuts → length (come s b).cuts ≡ l → ((epoch : ℕ) → Into epoch → ComesInto s l life at.step epoch) → 0 < at.call
         → HoldsTold s ((b ++ its.added) ++ entry.Cut at.step at.call ∷ []) now new.held
     cut_holds at same lives into within = record {
       sound = λ epoch some. elim (stored_sound epoch some) [
@@ -755,7 +742,7 @@ module _ (s : Setting) (ends : List (Option CutAt)) (form : IsFormOfInclusion s.
             (sym (begun_cut after_it at_cut (suc i) (ap length same_cuts ∙ at.lives) (same_cuts ∙ are) (taken_within life at_cut (suc i) there within)))
             (subst (λ (ls : List Entry). HoldsTold s ((before ++ ls) ++ entry.Cut at_cut.step at_cut.call ∷ []) (bg (suc i)) new.held) (lines_are Where y its)
             (cut_holds Into Where begun_w new x0 y before (bg i) (bg (suc i)) also.held rises its at_cut (subst (λ (ls : List Entry). (come s (before ++ ls)).cuts ≡ (come s before).cuts) (sym (lines_are Where y its)) same_cuts) at.lives
-            (λ epoch into. subst (λ (k : ℕ). MayStore s l life k epoch) (sym there) into) within));
+            (λ epoch into. subst (λ (k : ℕ). ComesInto s l life k epoch) (sym there) into) within));
       }
 
       pub cut_left : (cause : Cause) → ended ≡ broken cause → (at_cut : cut.Cut) → at_cut.step ≡ suc i → 0 < at_cut.call → ExactBetween s (says new (entry.Cut at_cut.step at_cut.call)) (after_it ++ entry.Cut at_cut.step at_cut.call ∷ [])
@@ -876,7 +863,7 @@ module _ (s : Setting) (ends : List (Option CutAt)) (form : IsFormOfInclusion s.
                 (sym (begun_cut (before ++ added) at_cut 0 (ap length same_cuts ∙ at.lives) (same_cuts ∙ are) (taken_within life at_cut 0 there within)))
                 (subst (λ (ls : List Entry). HoldsTold s ((before ++ ls) ++ entry.Cut at_cut.step at_cut.call ∷ []) (bg 0) new.held) (first_lines its.0 its.1)
                 (cut_holds IntoFirst Anywhere opens_w new y0 its.0 before (begun_before s (come s before).cuts (length (come s before).cuts)) (bg 0) between.held later its.1 at_cut (same_of its.0 its.1) at.lives
-                (λ epoch into. subst (λ (k : ℕ). MayStore s l life k epoch) (sym there) into) within));
+                (λ epoch into. subst (λ (k : ℕ). ComesInto s l life k epoch) (sym there) into) within));
           }
 
   -- BEHIND THE LIFE

@@ -25,7 +25,7 @@ use Rattle.dkg_text.specs.declared.script.Event.TheVariants as event
 use Rattle.dkg_text.specs.declared.script.Life.{Life}
 use Rattle.dkg_script.specs.Blocks.{Block, block_at, known_info}
 use Rattle.dkg_script.specs.Consistent.{MayEndSo}
-use Rattle.dkg_script.specs.History.{CarriesNext, IsWholeHistory}
+use Rattle.dkg_script.specs.History.{CarriesNext}
 use Rattle.dkg_script.specs.Inclusion.{IsFormOfInclusion}
 use Rattle.dkg_script.specs.OwnMarks.{IsKnownAt}
 use Rattle.dkg_script.specs.Position.{awaited_before, awaited_epoch, event_of_step, follows}
@@ -51,7 +51,7 @@ use Rattle.dkg_core.proofs.Heights.{epoch_is}
 use Rattle.dkg_core.proofs.Said.{runs_say}
 use Rattle.dkg_lives.specs.Epochs.{IsLifeInForm}
 use Rattle.dkg_lives.specs.Given.{AreBytes, Lived, at_step, lived, provided_by, step_of}
-use Rattle.dkg_promises.specs.SharesStand.{EndsEpoch, EndsHonestly, HeldShare, StandsBy, StandsSo, WasCutInto}
+use Rattle.dkg_promises.specs.SharesStand.{EndsEpoch, EndsHonestly, HeldShare, IsWholePast, StandsBy, StandsSo, WasCutInto}
 use Rattle.dkg_lives.specs.Ways.{by_worlds}
 use Rattle.dkg_lives.proofs.Awaiting.{IsReached}
 use Rattle.dkg_promises.proofs.Blaming.{same_place}
@@ -128,7 +128,7 @@ module _ (s : Setting) (ends : List (Option CutAt)) where
   uncommitted_told (entry.Committed epoch share ∷ lines) last marks before none = absurd none.0
   uncommitted_told (line ∷ lines) last marks before none = ((λ front. tt), uncommitted_told lines (last_line last line) (marks × IsKnownAt s (come s before) line) (before ++ line ∷ []) none.1)
 
-module _ (s : Setting) (ends : List (Option CutAt)) (reshares : is_oneshot s ≡ false) (history : IsWholeHistory s ends) (form : IsFormOfInclusion s.script) (bytes : AreBytes s.script.blocks)
+module _ (s : Setting) (ends : List (Option CutAt)) (reshares : is_oneshot s ≡ false) (history : IsWholePast s ends) (form : IsFormOfInclusion s.script) (bytes : AreBytes s.script.blocks)
     (may : MayEndSo s.script.lives ends) (secrets : (seen : Held → Seen) → by_worlds.reads seen → ReadsSecrets seen)
     (meant : (l : ℕ) (life : Life) (seen : Held → Seen) (files : Files) → life_at s l ≡ Some life → by_worlds.reads seen → IsLifeInForm (lived s.script l life seen files) × IsLifeOfSetting s ends (lived s.script l life seen files)) where
   -- beside what is kept of recorded dealings and logs, and what is noted of the chain's: shares, between lives and within one
@@ -140,10 +140,10 @@ module _ (s : Setting) (ends : List (Option CutAt)) (reshares : is_oneshot s ≡
       ExactHere s ends form reshares history.consistent secrets l life seen files life_is reads (meant l life seen files life_is reads).0 (meant l life seen files life_is reads).1 cuts back i st w b
 
   abbrev First : OfRests
-  First = FirstBetween s ends reshares history form bytes may meant
+  First = FirstBetween s ends reshares history form bytes meant
 
   abbrev FirstIn : OfSteps s
-  FirstIn = FirstHere s ends reshares history form bytes may meant
+  FirstIn = FirstHere s ends reshares history form bytes meant
 
   module _ (l : ℕ) (life : Life) (seen : Held → Seen) (files : Files) (life_is : life_at s l ≡ Some life) (reads : by_worlds.reads seen) (cuts : List (Option CutAt)) (back : awaited_before s cuts l ≤ awaited_epoch s l life 0 + 1) where
     abbrev g : Lived

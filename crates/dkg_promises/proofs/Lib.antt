@@ -6,6 +6,7 @@ pub mod BegunRounds
 pub mod Blaming
 pub mod ClearLives
 pub mod CommitsFitting
+pub mod Committing
 pub mod Completing
 pub mod CutLives
 pub mod Dealings
@@ -36,6 +37,7 @@ pub mod PathsAsked
 pub mod PathsRun
 pub mod PathsTold
 pub mod Promising
+pub mod Providing
 pub mod ReadLogs
 pub mod ReadingRecords
 pub mod RecordingLives

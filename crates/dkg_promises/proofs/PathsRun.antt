@@ -28,7 +28,7 @@ use Rattle.dkg_lives.proofs.LifeSteps.{IsLifeOfSetting}
 use Rattle.dkg_lives.proofs.LineLives.{EachTold, told_at}
 use Rattle.dkg_lives.proofs.LivesTold.{Anything}
 use Rattle.dkg_promises.proofs.NotedFirst.{handed_noted}
-use Rattle.dkg_promises.proofs.PathsTold.{FirstBetween, FirstHere, Nothing, PathEntry, PathsHere, path_leads}
+use Rattle.dkg_promises.proofs.PathsTold.{FirstBetween, FirstHere, Nothing, PathEntry, PathsHere, path_leads, past_of}
 use Rattle.dkg_promises.proofs.RecordsBeside.{IsFront, front_of}
 use Rattle.dkg_promises.proofs.RunTold.{base_begins, begins, each_told, its_given, reshares}
 use Rattle.dkg_lives.proofs.ToldBeside.{BothBetween, BothHere, OfRests, OfSteps}
@@ -67,11 +67,11 @@ module _ (s : Setting) (built : IsGivenSetting s) (no_plans : s.plans ≡ []) (w
   lives_given = its_given s built no_plans added history.consistent
 
   abbrev AllBetween : OfRests
-  AllBetween = BothBetween s cuts reshare history.consistent lives_given Anything (FirstBetween s cuts reshare history built.form built.bytes may lives_given) (FirstHere s cuts reshare history built.form built.bytes may lives_given) (PathEntry s cuts)
+  AllBetween = BothBetween s cuts reshare history.consistent lives_given Anything (FirstBetween s cuts reshare (past_of s cuts history) built.form built.bytes lives_given) (FirstHere s cuts reshare (past_of s cuts history) built.form built.bytes lives_given) (PathEntry s cuts)
       (Nothing s cuts reshare history built.form built.bytes may lives_given) (PathsHere s cuts reshare history built.form built.bytes may lives_given)
 
   abbrev AllHere : OfSteps s
-  AllHere = BothHere s cuts reshare history.consistent lives_given Anything (FirstBetween s cuts reshare history built.form built.bytes may lives_given) (FirstHere s cuts reshare history built.form built.bytes may lives_given) (PathEntry s cuts)
+  AllHere = BothHere s cuts reshare history.consistent lives_given Anything (FirstBetween s cuts reshare (past_of s cuts history) built.form built.bytes lives_given) (FirstHere s cuts reshare (past_of s cuts history) built.form built.bytes lives_given) (PathEntry s cuts)
       (Nothing s cuts reshare history built.form built.bytes may lives_given) (PathsHere s cuts reshare history built.form built.bytes may lives_given)
 
   -- the whole of it is in order, and tells how the lives ended

@@ -34,6 +34,7 @@ use Rattle.dkg_core.proofs.Said.{runs_say}
 use Rattle.dkg_promises.specs.Answers.{IsPathAnswer}
 use Rattle.dkg_lives.specs.Epochs.{IsLifeInForm, any_shares, epoch_by}
 use Rattle.dkg_lives.specs.Given.{AreBytes, Lived, at_step, lived, step_of}
+use Rattle.dkg_promises.specs.SharesStand.{IsWholePast}
 use Rattle.dkg_lives.specs.Ways.{by_worlds}
 use Rattle.dkg_lives.proofs.Alone.{epoch_alike}
 use Rattle.dkg_lives.proofs.Awaiting.{IsReached}
@@ -81,21 +82,36 @@ module _ (s : Setting) (ends : List (Option CutAt)) where
         (ap (λ (p : Progress). p.step) (come_more s before line) ∙ (same_place s (come s before) line quiet.0).1 ∙ step) quiet.1 (λ front. (said front).1),
   )
 
+-- a whole history is such a past
+abbrev pub past_of : (s : Setting) (ends : List (Option CutAt)) → IsWholeHistory s ends → IsWholePast s ends
+past_of s ends history = record { consistent = history.consistent; logs = history.logs; missed = history.missed }
+
+-- what is kept of recorded dealings and logs, and what is noted of the chain's
+module _ (s : Setting) (ends : List (Option CutAt)) (reshares : is_oneshot s ≡ false) (past : IsWholePast s ends) (form : IsFormOfInclusion s.script) (bytes : AreBytes s.script.blocks)
+    (meant : (l : ℕ) (life : Life) (seen : Held → Seen) (files : Files) → life_at s l ≡ Some life → by_worlds.reads seen → IsLifeInForm (lived s.script l life seen files) × IsLifeOfSetting s ends (lived s.script l life seen files)) where
+  abbrev pub FirstBetween : OfRests
+  FirstBetween = BothBetween s ends reshares past.consistent meant Anything (BaseBetween s ends reshares past.consistent meant) (BaseHere s ends reshares past.consistent meant) Anything
+      (RecordsBetween s ends reshares past meant (seen_at s form bytes)) (RecordsHere s ends reshares past meant (seen_at s form bytes))
+
+  abbrev pub FirstHere : OfSteps s
+  FirstHere = BothHere s ends reshares past.consistent meant Anything (BaseBetween s ends reshares past.consistent meant) (BaseHere s ends reshares past.consistent meant) Anything
+      (RecordsBetween s ends reshares past meant (seen_at s form bytes)) (RecordsHere s ends reshares past meant (seen_at s form bytes))
+
 module _ (s : Setting) (ends : List (Option CutAt)) (reshares : is_oneshot s ≡ false) (history : IsWholeHistory s ends) (form : IsFormOfInclusion s.script) (bytes : AreBytes s.script.blocks) (may : MayEndSo s.script.lives ends)
     (meant : (l : ℕ) (life : Life) (seen : Held → Seen) (files : Files) → life_at s l ≡ Some life → by_worlds.reads seen → IsLifeInForm (lived s.script l life seen files) × IsLifeOfSetting s ends (lived s.script l life seen files)) where
   abbrev pub Nothing : OfRests
   Nothing marks l w b = Unit {0}
 
-  -- what is kept of recorded dealings and logs, and what is noted of the chain's
-  abbrev pub FirstBetween : OfRests
-  FirstBetween = BothBetween s ends reshares history.consistent meant Anything (BaseBetween s ends reshares history.consistent meant) (BaseHere s ends reshares history.consistent meant) Anything
-      (RecordsBetween s ends reshares history meant (seen_at s form bytes)) (RecordsHere s ends reshares history meant (seen_at s form bytes))
+  abbrev past : IsWholePast s ends
+  past = past_of s ends history
 
-  abbrev pub FirstHere : OfSteps s
-  FirstHere = BothHere s ends reshares history.consistent meant Anything (BaseBetween s ends reshares history.consistent meant) (BaseHere s ends reshares history.consistent meant) Anything
-      (RecordsBetween s ends reshares history meant (seen_at s form bytes)) (RecordsHere s ends reshares history meant (seen_at s form bytes))
+  abbrev RecordsFirst : OfRests
+  RecordsFirst = FirstBetween s ends reshares past form bytes meant
 
-  -- .. beside what is known of requests where they are read
+  abbrev RecordsIn : OfSteps s
+  RecordsIn = FirstHere s ends reshares past form bytes meant
+
+  -- what is known of requests where they are read
   abbrev pub PathsHere : OfSteps s
   PathsHere l life seen files life_is reads cuts back marks i st w b =
       IsFront s ends b → (begun : l ≤ length ends)
@@ -120,7 +136,7 @@ module _ (s : Setting) (ends : List (Option CutAt)) (reshares : is_oneshot s ≡
         at_least a b c d one two = omega (arith, one, two)
 
     abbrev LeftFirst : (before : List Entry) → ℕ → Ended NodeStop (Live U) → World → Type 0 → List Entry → Type 0
-    LeftFirst = Left s Anything ends reshares history.consistent meant FirstBetween FirstHere l life seen files life_is reads cuts back
+    LeftFirst = Left s Anything ends reshares history.consistent meant RecordsFirst RecordsIn l life seen files life_is reads cuts back
 
     abbrev AfterIt : ℕ → Ended NodeStop (Live U) → World → Type 0 → List Entry → Type 0
     AfterIt = After s (PathEntry s ends) ends reshares history.consistent meant Nothing PathsHere l life seen files life_is reads cuts back
@@ -150,7 +166,7 @@ module _ (s : Setting) (ends : List (Option CutAt)) (reshares : is_oneshot s ≡
 
     -- A STEP answers from the path, and leaves such a state.
     stepped : (marks : Type 0) (i : ℕ) (event : script.Event) → slice_get life.events i ≡ Some event → IsReached life.cut (suc i) → (st : Live U) (w : World) (before : List Entry) → IsAtStep l life (suc i) s (come s before)
-        → FirstHere l life seen files life_is reads cuts back marks i st w before → PathsHere l life seen files life_is reads cuts back marks i st w before
+        → RecordsIn l life seen files life_is reads cuts back marks i st w before → PathsHere l life seen files life_is reads cuts back marks i st w before
         → (f : Burn) (ended : Ended NodeStop (Live U)) (new : World) → EndsSo (step_of g (suc i) event st) ended (record w { fuse = f }) new → (added : List Entry) → new.out ≡ w.out ++ added
         → EachTold s (PathEntry s ends) marks before added × AfterIt (suc i) ended new (KnownAfter s marks before added) (before ++ added)
     stepped marks i event is reached st w before at first state f ended new run added out = (
@@ -184,10 +200,10 @@ module _ (s : Setting) (ends : List (Option CutAt)) (reshares : is_oneshot s ≡
           where
             by_brought : BringsBlock g event m.message ⊎ BringsMail event m.message → IsRecordedTo s (awaited_epoch s l life i) round x
             by_brought (inr (mail, sent, none)) =
-                mail_recorded s ends history l life seen files here its.none_found cuts back i event is reached st going.at going.of_round (logs_in (notes w.held)) going.carries.half.agreed.logs (first.1 front) mail x
+                mail_recorded s ends past l life seen files here its.none_found cuts back i event is reached st going.at going.of_round (logs_in (notes w.held)) going.carries.half.agreed.logs (first.1 front) mail x
                 (subst (λ (y : Message U). IsReadFor (at_step g (suc i)) st y x) sent in_it) round of
             by_brought (inl (number, made_it, final, sent)) =
-                block_recorded s ends history l life seen files here its.none_found cuts back i event is reached st going.at going.of_round (logs_in (notes w.held)) going.carries.half.agreed.logs (first.1 front) number made_it.block
+                block_recorded s ends past l life seen files here its.none_found cuts back i event is reached st going.at going.of_round (logs_in (notes w.held)) going.carries.half.agreed.logs (first.1 front) number made_it.block
                 (is ∙ ap (λ (y : script.Event). Some y) final) (seen_at s form bytes number made_it.block made_it.is) x (subst (λ (y : Message U). IsReadFor (at_step g (suc i)) st y x) sent in_it) round of
 
         -- its lines
@@ -207,7 +223,7 @@ module _ (s : Setting) (ends : List (Option CutAt)) (reshares : is_oneshot s ≡
         by_end (broken cause) later run said = λ at_cut is_cut there within. tt
 
     -- WHAT THE CLAUSE ADDS
-    pub paths_add : Adds s ends reshares history.consistent meant Anything FirstBetween FirstHere (PathEntry s ends) Nothing PathsHere l life seen files life_is reads cuts back
+    pub paths_add : Adds s ends reshares history.consistent meant Anything RecordsFirst RecordsIn (PathEntry s ends) Nothing PathsHere l life seen files life_is reads cuts back
     paths_add = record {
       opening = λ marks w before at are first none reached f ended new run added out left. opened marks w before f ended new run added out;
       step = λ marks i event is reached st w before at are first state f ended new run added out left. stepped marks i event is reached st w before at first state f ended new run added out;
@@ -217,11 +233,11 @@ module _ (s : Setting) (ends : List (Option CutAt)) (reshares : is_oneshot s ≡
     }
 
     -- The law: a life leads on so.
-    pub path_leads : LeadsOn s (PathEntry s ends) ends reshares history.consistent meant (BothBetween s ends reshares history.consistent meant Anything FirstBetween FirstHere (PathEntry s ends) Nothing PathsHere)
-        (BothHere s ends reshares history.consistent meant Anything FirstBetween FirstHere (PathEntry s ends) Nothing PathsHere) l life seen files life_is reads cuts back
+    pub path_leads : LeadsOn s (PathEntry s ends) ends reshares history.consistent meant (BothBetween s ends reshares history.consistent meant Anything RecordsFirst RecordsIn (PathEntry s ends) Nothing PathsHere)
+        (BothHere s ends reshares history.consistent meant Anything RecordsFirst RecordsIn (PathEntry s ends) Nothing PathsHere) l life seen files life_is reads cuts back
     path_leads =
-        both_leads s ends reshares history.consistent meant Anything FirstBetween FirstHere (PathEntry s ends) Nothing PathsHere l life seen files life_is reads cuts back
+        both_leads s ends reshares history.consistent meant Anything RecordsFirst RecordsIn (PathEntry s ends) Nothing PathsHere l life seen files life_is reads cuts back
         (both_leads s ends reshares history.consistent meant Anything (BaseBetween s ends reshares history.consistent meant) (BaseHere s ends reshares history.consistent meant) Anything
-        (RecordsBetween s ends reshares history meant (seen_at s form bytes)) (RecordsHere s ends reshares history meant (seen_at s form bytes)) l life seen files life_is reads cuts back
-        (base_leads s ends reshares history.consistent meant l life seen files life_is reads cuts back) (records_add s ends reshares history meant (seen_at s form bytes) l life seen files life_is reads cuts back))
+        (RecordsBetween s ends reshares past meant (seen_at s form bytes)) (RecordsHere s ends reshares past meant (seen_at s form bytes)) l life seen files life_is reads cuts back
+        (base_leads s ends reshares history.consistent meant l life seen files life_is reads cuts back) (records_add s ends reshares past meant (seen_at s form bytes) l life seen files life_is reads cuts back))
         paths_add

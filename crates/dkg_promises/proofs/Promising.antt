@@ -15,9 +15,11 @@ use Rattle.dkg_script.specs.Ends.{EndsInFault, EndsWell}
 use Rattle.dkg_script.specs.Inclusion.{IsFormOfInclusion}
 use Rattle.dkg_script.specs.Order.{InOrder}
 use Rattle.dkg_script.specs.Promise.{Adds, AnswersDealings, KeepsDealings, RunsAll, RunsInOrder, cuts_in}
-use Rattle.dkg_script.specs.AsCut.{setting_as_cut}
+use Rattle.dkg_script.specs.AsCut.{as_cut, setting_as_cut}
+use Rattle.dkg_script.specs.Progress.{progress}
 use Rattle.dkg_script.specs.SameOffers.{OffersTheSame}
-use Rattle.dkg_script.specs.Setting.{Setting, setting_of}
+use Rattle.dkg_script.specs.Setting.{CutAt, Setting, setting_of}
+use Rattle.dkg_script.proofs.InclusionAsCut.{inclusion_as_cut}
 use Rattle.dkg_promises.specs.Answers.{AnswersSo, AnswersThePath}
 use Rattle.dkg_lives.specs.Blamed.{BlamesSo}
 use Rattle.dkg_lives.specs.Causes.{HasCause}
@@ -32,10 +34,10 @@ use Rattle.dkg_lives.specs.Lives.{AnyFiles, RunsSo, TellsEnd}
 use Rattle.dkg_promises.specs.Over.{Over}
 use Rattle.dkg_promises.specs.Promised.{DoesRun, Promised}
 use Rattle.dkg_promises.specs.Refusals.{BlamesOnlySkips}
-use Rattle.dkg_promises.specs.SharesStand.{CommitsExactly, CommitsFit, FitsCarried}
+use Rattle.dkg_promises.specs.SharesStand.{CommitsEach, CommitsExactly, CommitsFit, FitsCarried}
 use Rattle.dkg_lives.specs.Ways.{by_lines, trace}
 use Rattle.dkg_promises.proofs.Begun.{begun_answers, begun_commits, begun_exactly, begun_keeps, begun_offers, begun_paths, begun_plans, begun_valid, begun_valid_uncut, begun_whole, cut_form, cut_runs, cut_script}
-use Rattle.dkg_promises.proofs.Blaming.{run_answers, run_blames}
+use Rattle.dkg_promises.proofs.Blaming.{CommitsIn, run_answers, run_blames, run_commits}
 use Rattle.dkg_promises.proofs.Completing.{unblamed}
 use Rattle.dkg_promises.proofs.Finishing.{completes}
 use Rattle.dkg_promises.proofs.CutLives.{lines_cut}
@@ -46,7 +48,7 @@ use Rattle.dkg_lives.proofs.Ordered.{run_all_lives, run_in_order}
 use Rattle.dkg_lives.proofs.Places.{all_of_both}
 use Rattle.dkg_promises.proofs.Skipping.{run_skips}
 use Rattle.dkg_promises.proofs.Telling.{run_ends}
-use Rattle.dkg_promises.proofs.Unbegun.{ToldNone, Unmoved, none_answered, none_answers, none_commits, none_committed, none_completes, none_ends, none_keeps, none_left, none_offers, none_paths, none_plans, none_shows, none_skips, none_valid, none_whole}
+use Rattle.dkg_promises.proofs.Unbegun.{ToldNone, Unmoved, none_answered, none_answers, none_commits, none_committed, none_completes, none_ends, none_keeps, none_left, none_offers, none_paths, none_plans, none_shows, none_skips, none_tells, none_valid, none_whole}
 
 -- WHAT IS KNOWN OF WHAT ENDED THE LIVES is known where it is told
 pub known_told : (F : Fault → Type 0) (its answered : Fault) (mid new : List Entry) (picks : List ℕ) → F NoMemory → TellsEnd by_lines (Err its) (Err answered) (trace mid picks) (trace new picks) → F its → F answered
@@ -124,6 +126,7 @@ module _ (script : Script) (form : IsFormOfInclusion script) (o : Over) (disk_of
     pub requests : AnswersSo script added
     pub leaves : LeavesSo script added
     pub paths : o.tells → Stands o.before.files o.before.image → AnswersThePath script o.before.files o.before.held added
+    pub commits : CommitsEach script added
     pub shares : o.tells → Stands o.before.files o.before.image → CommitsFit script o.before.files o.before.held added
     pub exactly : o.tells → Stands o.before.files o.before.image → CommitsExactly script o.before.files o.before.held added
     pub complete : IfErr answered (λ its. IsSoundRun o (IsValidAsCut script added) → its ≡ NoMemory)
@@ -156,6 +159,7 @@ module _ (script : Script) (form : IsFormOfInclusion script) (o : Over) (disk_of
         requests = none_answered script o answered old new added is none;
         leaves = none_left script o answered old new added is none;
         paths = λ told here form history devices. none_paths script o answered old new added is none (setting_as_cut script o.before.files o.before.held added);
+        commits = none_tells script o answered old new added is none;
         shares = λ told here form consistent fit. none_commits script o answered old new added is none (FitsCarried (setting_as_cut script o.before.files o.before.held added));
         exactly = λ told here form history devices fit before after epoch share parts ends_it. absurd (none_committed script o answered old new added is none before after (epoch + 1) share parts);
         complete = none_completes script o answered old new added is none;
@@ -206,6 +210,14 @@ module _ (script : Script) (form : IsFormOfInclusion script) (o : Over) (disk_of
     in_its_order : InOrder its_setting added
     in_its_order = added_so old new added (RunsInOrder its_script) is (run_in_order its_script AnyFiles (trace old []) (trace new picks) answered as_it_was) o.before.files o.before.held
 
+    -- .. of any devices that it may have been over
+    all_committed : CommitsEach script added
+    all_committed files held =
+        let ends : List (Option CutAt) = (progress (setting_of script files held) added).cuts in
+        let form_as_cut : IsFormOfInclusion (as_cut ends script) = inclusion_as_cut ends script form in
+        added_so old new added (CommitsIn (as_cut ends script) checked (lives_over (as_cut ends script) form_as_cut checked)) is
+        (run_commits (as_cut ends script) checked (lives_over (as_cut ends script) form_as_cut checked) AnyFiles (trace old []) (trace new picks) answered (lines_cut script files held answered old new added is AnyFiles picks run)) files held
+
     begun_shown : Shown added
     begun_shown = record {
       ends = subst (λ (c : Option Fault). EndsScript c answered added o.disk_rose o.secrets_rose) (sym checked) run_ended;
@@ -218,6 +230,7 @@ module _ (script : Script) (form : IsFormOfInclusion script) (o : Over) (disk_of
       requests = added_so old new added (AnswersSo script) is (run_answers script checked (lives_over script form checked) AnyFiles (trace old []) (trace new picks) answered run);
       leaves = added_so old new added (LeavesSo script) is (run_leaves script checked (lives_over script form checked) AnyFiles (trace old []) (trace new picks) answered run);
       paths = begun_paths script form checked bytes o disk_of answered old new added is runs itself left in_its_order;
+      commits = all_committed;
       shares = begun_commits script form checked bytes o disk_of answered old new added is runs itself left;
       exactly = begun_exactly script form checked bytes o disk_of answered old new added is runs itself left in_its_order;
       complete = completed answered all_completed;
@@ -252,6 +265,7 @@ module _ (script : Script) (form : IsFormOfInclusion script) (o : Over) (disk_of
     answers = its.requests;
     leaves = its.leaves;
     paths = its.paths;
+    commits = its.commits;
     shares = its.shares;
     exactly = its.exactly;
     complete = its.complete;

@@ -22,7 +22,6 @@ use Rattle.dkg_text.specs.declared.script.Event as script
 use Rattle.dkg_text.specs.declared.script.Event.TheVariants as event
 use Rattle.dkg_text.specs.declared.script.Life.{Life}
 use Rattle.dkg_script.specs.Blocks.{block_at, round_at}
-use Rattle.dkg_script.specs.History.{IsWholeHistory}
 use Rattle.dkg_script.specs.Position.{awaited_before, awaited_epoch, awaited_height, follows}
 use Rattle.dkg_script.specs.Setting.{Setting, CutAt, blocks_per_epoch, found}
 use Rattle.dkg_script.specs.Views.{seen_block}
@@ -41,6 +40,7 @@ use Rattle.dkg_core.proofs.Agreeing.{put_same}
 use Rattle.dkg_core.proofs.StepDealing.{given_same}
 use Rattle.dkg_lives.specs.Epochs.{IsAt, IsLifeInForm}
 use Rattle.dkg_lives.specs.Given.{Lived, at_step, lived}
+use Rattle.dkg_promises.specs.SharesStand.{IsWholePast}
 use Rattle.dkg_lives.proofs.Awaiting.{IsReached}
 use Rattle.dkg_lives.proofs.ChainLogs.{brings_of}
 use Rattle.dkg_lives.proofs.Drawn.{HasRoundOf}
@@ -95,7 +95,7 @@ observed_map c round b st m memory (Some log) = by_tests (is_accepted c round lo
       cleared (with_log round.number log.dealer b.height log.log st) ∙ put_same m st.records.logs (round.number, log.dealer) (recorded_log b.height log.log) memory,
     )
 
-module _ (s : Setting) (ends : List (Option CutAt)) (whole : IsWholeHistory s ends) (l : ℕ) (life : Life) (seen : Held → Seen) (files : Files) (here : IsLifeInForm (lived s.script l life seen files)) (none_found : found s l ≡ None)
+module _ (s : Setting) (ends : List (Option CutAt)) (whole : IsWholePast s ends) (l : ℕ) (life : Life) (seen : Held → Seen) (files : Files) (here : IsLifeInForm (lived s.script l life seen files)) (none_found : found s l ≡ None)
     (cuts : List (Option CutAt)) (never_back : awaited_before s cuts l ≤ awaited_epoch s l life 0 + 1) (i : ℕ) (its : script.Event) (is : slice_get life.events i ≡ Some its) (reached : IsReached life.cut (suc i)) (st : Live U)
     (at : IsAt (lived s.script l life seen files) i st) (of_round : HasRoundOf s st) (m : Notes RecordedLog) (memory : st.records.logs ≡ entries m) (recording : IsRecording s ends l life cuts i m) where
   abbrev g : Lived

@@ -19,7 +19,7 @@ use Rattle.dkg_text.specs.declared.script.Event.TheVariants as event
 use Rattle.dkg_text.specs.declared.script.Life.{Life}
 use Rattle.dkg_script.specs.Blocks.{block_at, delivered_number}
 use Rattle.dkg_script.specs.Epochs.{alone}
-use Rattle.dkg_script.specs.History.{IsWholeHistory, WasSeen}
+use Rattle.dkg_script.specs.History.{WasSeen}
 use Rattle.dkg_script.specs.Position.{awaited_before, awaited_epoch, awaited_height, begun, begun_before, cut_of, event_of_step, events_taken, follows}
 use Rattle.dkg_script.specs.Progress.{Progress}
 use Rattle.dkg_script.specs.Setting.{Setting, CutAt, blocks_per_epoch, is_oneshot, life_at}
@@ -44,6 +44,7 @@ use Rattle.dkg_core.proofs.NodeThrough.{node_steps_lead_through_over}
 use Rattle.dkg_core.proofs.RecordingLogs.{node_steps_record_logs}
 use Rattle.dkg_lives.specs.Epochs.{IsLifeInForm, StandsInScript, any_shares}
 use Rattle.dkg_lives.specs.Given.{Lived, at_step, blocks_in, lived}
+use Rattle.dkg_promises.specs.SharesStand.{IsWholePast}
 use Rattle.dkg_lives.proofs.Alone.{epoch_alike, follows_alike}
 use Rattle.dkg_lives.proofs.Asking.{same_epoch}
 use Rattle.dkg_lives.proofs.Awaiting.{HasHeight, IsReached, event_behind, has_height}
@@ -94,7 +95,7 @@ item_behind : {A : Type 0} (xs : List A) (x : A) (more : List A) → slice_get (
 item_behind [] x more = refl
 item_behind (y ∷ ys) x more = item_behind ys x more
 
-module _ (s : Setting) (ends : List (Option CutAt)) (whole : IsWholeHistory s ends) (l : ℕ) (life : Life) (seen : Held → Seen) (files : Files) where
+module _ (s : Setting) (ends : List (Option CutAt)) (whole : IsWholePast s ends) (l : ℕ) (life : Life) (seen : Held → Seen) (files : Files) where
   abbrev g : Lived
   g = lived s.script l life seen files
 

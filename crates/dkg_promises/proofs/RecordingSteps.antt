@@ -22,7 +22,7 @@ use Rattle.dkg_text.specs.declared.script.Event.TheVariants as event
 use Rattle.dkg_text.specs.declared.script.Life.{Life}
 use Rattle.dkg_script.specs.Blocks.{Block, block_at, chain, round_at}
 use Rattle.dkg_script.specs.Epochs.{alone}
-use Rattle.dkg_script.specs.History.{IsWholeHistory, WasSeen}
+use Rattle.dkg_script.specs.History.{WasSeen}
 use Rattle.dkg_script.specs.Position.{awaited_before, awaited_epoch, awaited_height, begun, begun_before, event_of_step, follows}
 use Rattle.dkg_script.specs.Setting.{Setting, CutAt, blocks_per_epoch, found, is_oneshot, life_at}
 use Rattle.dkg_script.specs.Views.{seen_block}
@@ -40,6 +40,7 @@ use Rattle.dkg_core.specs.Through.{IsLiveThrough, unasked}
 use Rattle.dkg_core.proofs.Heights.{epoch_to}
 use Rattle.dkg_lives.specs.Epochs.{IsAt, IsLifeInForm, StandsInScript, any_shares, epoch_by}
 use Rattle.dkg_lives.specs.Given.{Lived, at_step, lived}
+use Rattle.dkg_promises.specs.SharesStand.{IsWholePast}
 use Rattle.dkg_lives.proofs.Alone.{epoch_alike, follows_alike, height_alike}
 use Rattle.dkg_lives.proofs.Awaiting.{IsReached, block_behind, comes_to}
 use Rattle.dkg_lives.proofs.AwaitedRises.{begun_rises, is_current}
@@ -112,7 +113,7 @@ saw_first s ends l life epoch height (inr given) = absurd (none_some (ap (event_
     least : (k : ℕ) → k ≤ 0 → k ≡ 0
     least k low = omega (arith, low)
 
-module _ (s : Setting) (ends : List (Option CutAt)) (whole : IsWholeHistory s ends) (l : ℕ) (life : Life) (seen : Held → Seen) (files : Files) where
+module _ (s : Setting) (ends : List (Option CutAt)) (whole : IsWholePast s ends) (l : ℕ) (life : Life) (seen : Held → Seen) (files : Files) where
   abbrev g : Lived
   g = lived s.script l life seen files
 

@@ -15,7 +15,7 @@ use Rattle.dkg_text.specs.declared.script.Cut as cut
 use Rattle.dkg_text.specs.declared.script.Event as script
 use Rattle.dkg_text.specs.declared.script.Life.{Life}
 use Rattle.dkg_script.specs.Blocks.{block_at}
-use Rattle.dkg_script.specs.History.{IsWholeHistory, WasSeen}
+use Rattle.dkg_script.specs.History.{WasSeen}
 use Rattle.dkg_script.specs.Order.{InLife, IsInOrder, IsOrderedCut}
 use Rattle.dkg_script.specs.Position.{awaited_before, awaited_epoch, begun, begun_before}
 use Rattle.dkg_script.specs.Progress.{AtEachEntry, Progress, at_start, progress, read}
@@ -31,6 +31,7 @@ use Rattle.dkg_core.specs.Node.{node_opening, node_step}
 use Rattle.dkg_core.specs.Seen.{Seen}
 use Rattle.dkg_lives.specs.Epochs.{IsLifeInForm}
 use Rattle.dkg_lives.specs.Given.{Lived, at_step, blocks_in, lived, step_of}
+use Rattle.dkg_promises.specs.SharesStand.{IsWholePast}
 use Rattle.dkg_lives.specs.Ways.{StaysHeld, by_worlds}
 use Rattle.dkg_lives.proofs.Awaiting.{IsReached}
 use Rattle.dkg_lives.proofs.Currently.{begun_more}
@@ -67,7 +68,7 @@ front_of s ends b more front =
       ends_so = (grown.0 ++ front.ends_so.0, front.ends_so.1 ∙ ap (λ (cs : List (Option CutAt)). cs ++ front.ends_so.0) cuts_are ∙ append_assoc (come s b).cuts grown.0 front.ends_so.0);
     }
 
-module _ (s : Setting) (ends : List (Option CutAt)) (reshares : is_oneshot s ≡ false) (whole : IsWholeHistory s ends)
+module _ (s : Setting) (ends : List (Option CutAt)) (reshares : is_oneshot s ≡ false) (whole : IsWholePast s ends)
     (meant : (l : ℕ) (life : Life) (seen : Held → Seen) (files : Files) → life_at s l ≡ Some life → by_worlds.reads seen → IsLifeInForm (lived s.script l life seen files) × IsLifeOfSetting s ends (lived s.script l life seen files))
     (seen_at : (number : ℕ) (b : made.Block U) → slice_get (blocks_in s.script) number ≡ Some b → block_at s number ≡ Some (seen_block unit_spelling b)) where
   -- what the devices note between lives,

@@ -124,11 +124,11 @@ after_line x (Opened life restored) = record { last = None; untold = x.untold }
 after_line x (Committed epoch (Some share)) = record { last = x.last; untold = None }
 after_line x line = x
 
--- a share is told where it was stored, and an epoch is committed where this is the last setup
-abbrev pub MaySay : (At : Option (ℕ × Part) → Type 0) → Telling → Line → Type 0
-MaySay At x (Committed epoch (Some share)) = (x.untold ≡ Some epoch) × At x.last
-MaySay At x (Committed epoch None) = At x.last
-MaySay At x line = Unit {0}
+-- a share is told where it was stored, and such an epoch is committed where this is the last setup
+abbrev pub MaySay : (Into : ℕ → Type 0) (At : Option (ℕ × Part) → Type 0) → Telling → Line → Type 0
+MaySay Into At x (Committed epoch (Some share)) = (x.untold ≡ Some epoch) × (At x.last × Into epoch)
+MaySay Into At x (Committed epoch None) = At x.last × Into epoch
+MaySay Into At x line = Unit {0}
 
 abbrev pub after_op : Telling → Operation → Telling
 after_op x (Changes (PutShare epoch share)) = record { last = x.last; untold = Some epoch }
@@ -152,9 +152,9 @@ plain_keeps x (Opened life restored) is = absurd is
 plain_keeps x (Committed epoch share) is = absurd is
 plain_keeps x line is = refl
 
-pub plain_said : (At : Option (ℕ × Part) → Type 0) (x : Telling) (line : Line) → IsPlain line → MaySay At x line
-plain_said At x (Committed epoch share) is = absurd is
-plain_said At x line is = tt
+pub plain_said : (Into : ℕ → Type 0) (At : Option (ℕ × Part) → Type 0) (x : Telling) (line : Line) → IsPlain line → MaySay Into At x line
+plain_said Into At x (Committed epoch share) is = absurd is
+plain_said Into At x line is = tt
 
 pub spares_keeps : (x : Telling) (op : Operation) → Spares op → after_op x op ≡ x
 spares_keeps x (Changes (PutShare epoch share)) is = absurd is
@@ -213,7 +213,7 @@ quiet_both L Q (Ask f) so only = λ h. quiet_both L Q (f h) (so h) (only h)
 quiet_both L Q (Goes end) so only = tt
 quiet_both L Q (Stops fault) so only = tt
 
--- the epochs whose shares may be stored, up to which may be pruned, and which setup is the last where an epoch is committed
+-- the epochs whose shares may be stored and that may be committed, up to which may be pruned, and which setup is the last where an epoch is committed
 module _ (Into : ℕ → Type 0) (most : ℕ) (At : Option (ℕ × Part) → Type 0) where
   abbrev pub MayDo : Telling → Operation → Type 0
   MayDo x (Changes (PutShare epoch share)) = (x.untold ≡ None) × Into epoch
@@ -229,7 +229,7 @@ module _ (Into : ℕ → Type 0) (most : ℕ) (At : Option (ℕ × Part) → Typ
 
   -- WHERE A COURSE LEADS, from what was told and stored before it
   abbrev pub LeadsTo : {Dir F S : Type 0} → (goes : Telling → S → Type 0) → Telling → Course Dir F S → Type 0
-  LeadsTo goes x (Say line course) = MaySay At x line × LeadsTo goes (after_line x line) course
+  LeadsTo goes x (Say line course) = MaySay Into At x line × LeadsTo goes (after_line x line) course
   LeadsTo goes x (Do op course) = MayDo x op × LeadsTo goes (after_op x op) course
   LeadsTo goes x (Call outer course) = LeadsTo goes x course
   LeadsTo goes x (Ask f) = (h : Held) → LeadsTo goes x (f h)
@@ -248,7 +248,7 @@ module _ (Into : ℕ → Type 0) (most : ℕ) (At : Option (ℕ × Part) → Typ
   -- behind one that leaves it
   leads_behind : {Dir F S T : Type 0} (goes : Telling → T → Type 0) (x : Telling) (course : Course Dir F S) (next : S → Course Dir F T) → IsQuiet course → ((end : S) → LeadsTo goes x (next end)) → LeadsTo goes x (bind course next)
   leads_behind goes x (Say line course) next so more =
-      (plain_said At x line so.0, subst (λ (y : Telling). LeadsTo goes y (bind course next)) (sym (plain_keeps x line so.0)) (leads_behind goes x course next so.1 more))
+      (plain_said Into At x line so.0, subst (λ (y : Telling). LeadsTo goes y (bind course next)) (sym (plain_keeps x line so.0)) (leads_behind goes x course next so.1 more))
   leads_behind goes x (Do op course) next so more =
       (spares_may x op so.0, subst (λ (y : Telling). LeadsTo goes y (bind course next)) (sym (spares_keeps x op so.0)) (leads_behind goes x course next so.1 more))
   leads_behind goes x (Call outer course) next so more = leads_behind goes x course next so more
@@ -277,7 +277,7 @@ module _ (Into : ℕ → Type 0) (most : ℕ) (At : Option (ℕ × Part) → Typ
   -- by its ends alone, where it leaves it
   quiet_leads : {Dir F S : Type 0} (goes : Telling → S → Type 0) (L : Line → Type 0) (Q : S → Type 0) (x : Telling) (course : Course Dir F S) → SaysSo IsPlain course → OnlySays L Q course → ((end : S) → Q end → goes x end) → LeadsTo goes x course
   quiet_leads goes L Q x (Say line course) so only more =
-      (plain_said At x line so.0, subst (λ (y : Telling). LeadsTo goes y course) (sym (plain_keeps x line so.0)) (quiet_leads goes L Q x course so.1 only.1 more))
+      (plain_said Into At x line so.0, subst (λ (y : Telling). LeadsTo goes y course) (sym (plain_keeps x line so.0)) (quiet_leads goes L Q x course so.1 only.1 more))
   quiet_leads goes L Q x (Do op course) so only more = absurd only
   quiet_leads goes L Q x (Call outer course) so only more = quiet_leads goes L Q x course so only more
   quiet_leads goes L Q x (Ask f) so only more = λ h. quiet_leads goes L Q x (f h) (so h) (only h) more
@@ -469,8 +469,8 @@ module _ {Dir : Type 0} (c : Fixed Dir) where
     -- what is committed is stored and told
     commits : {S : Type 0} (goes : Telling → S → Type 0) (info : EpochInfo Dir) (seed : List ℕ) (put : Option ℕ) (now : Live Dir) (next : Live Dir → Course Dir Fault S) (x : Telling) → x.untold ≡ None → At x.last → Into info.epoch
         → ((y : Telling) → y.untold ≡ None → At y.last → Leads goes y (next (with_participation (record now.participation { current = Some info }) now))) → Leads goes x (bind (s.commits info seed put now) next)
-    commits goes info seed None now next x none at into more = (tt, (at, more x none at))
-    commits goes info seed (Some share) now next x none at into more = ((none, into), (tt, ((refl, at), more (record { last = x.last; untold = None }) refl at)))
+    commits goes info seed None now next x none at into more = (tt, ((at, into), more x none at))
+    commits goes info seed (Some share) now next x none at into more = ((none, into), (tt, ((refl, (at, into)), more (record { last = x.last; untold = None }) refl at)))
 
     judged : (standing : s.Standing) (info : EpochInfo Dir) (now : Live Dir) (valid : Result (Unit {0}) ParticipantsError) (x : Telling) → x.untold ≡ None → At x.last → now.participation.epoch - 1 ≤ most → (standing ≡ s.Uncommitted → Into info.epoch)
         → Leads IsSetUpBy x (s.judged c None standing info now valid)

@@ -73,7 +73,7 @@ module _ (Into : ℕ → Type 0) (most : ℕ) (At : Option (ℕ × Part) → Typ
     pub into : (epoch : ℕ) → x.untold ≡ Some epoch → Into epoch
 
   -- A LINE
-  said_stores : (w : World) (x : Telling) (line : Line) → MaySay At x line → Stores w x → Stores (says w line) (after_line x line)
+  said_stores : (w : World) (x : Telling) (line : Line) → MaySay Into At x line → Stores w x → Stores (says w line) (after_line x line)
   said_stores w x line may its = by_line line may
     where
       out_is : (line : Line) → (says w line).out ≡ w0.out ++ (its.added ++ line ∷ [])
@@ -137,9 +137,9 @@ module _ (Into : ℕ → Type 0) (most : ℕ) (At : Option (ℕ × Part) → Typ
             | inr here ↦ its.put other (untold ∙ ap (λ (e : ℕ). Some e) (number other tells.0 here))
           ]
 
-      by_line : (line : Line) → MaySay At x line → Stores (says w line) (after_line x line)
-      by_line (Committed epoch (Some share)) its_may = committed epoch share its_may.0 its_may.1
-      by_line (Committed epoch None) at = other (Committed epoch None) at (λ n share e. (let wrong : Committed epoch None ≡ Committed n (Some share) = e in cc)) refl refl
+      by_line : (line : Line) → MaySay Into At x line → Stores (says w line) (after_line x line)
+      by_line (Committed epoch (Some share)) its_may = committed epoch share its_may.0 its_may.1.0
+      by_line (Committed epoch None) its_may = other (Committed epoch None) its_may.0 (λ n share e. (let wrong : Committed epoch None ≡ Committed n (Some share) = e in cc)) refl refl
       by_line (Setup epoch phase part) u = other (Setup epoch phase part) tt (λ n share e. cc) refl refl
       by_line (Opened life restored) u = other (Opened life restored) tt (λ n share e. cc) refl refl
       by_line one u = other one tt (λ n share e. cc) refl refl
@@ -268,7 +268,7 @@ pub quiet_to : {Dir F S : Type 0} (Into : ℕ → Type 0) (most : ℕ) (At : Opt
 quiet_to {Dir} {F} {S} Into most At x course so = by_course course x refl so
   where
     by_course : (course : Course Dir F S) (y : Telling) → y ≡ x → IsQuiet course → LeadsTo Into most At (λ z end. z ≡ x) y course
-    by_course (Say line course) y same so = (plain_said At y line so.0, by_course course (after_line y line) (plain_keeps y line so.0 ∙ same) so.1)
+    by_course (Say line course) y same so = (plain_said Into At y line so.0, by_course course (after_line y line) (plain_keeps y line so.0 ∙ same) so.1)
     by_course (Do op course) y same so = (spares_may Into most At y op so.0, by_course course (after_op y op) (spares_keeps y op so.0 ∙ same) so.1)
     by_course (Call outer course) y same so = by_course course y same so
     by_course (Ask f) y same so = λ h. by_course (f h) y same (so h)

@@ -38,6 +38,7 @@ use Rattle.dkg_promises.specs.Leaves.{LeavesSo}
 use Rattle.dkg_lives.specs.Lives.{BeganNone, TellsEnd}
 use Rattle.dkg_promises.specs.Over.{Over, over}
 use Rattle.dkg_promises.specs.Refusals.{BlamesOnlySkips, IsRefusal}
+use Rattle.dkg_promises.specs.SharesStand.{CommitsEach, TellsCommit}
 use Rattle.dkg_lives.specs.Ways.{Trace, by_lines, trace}
 use Rattle.dkg_lives.proofs.Checked.{refused_so}
 use Rattle.dkg_lives.proofs.Currently.{current_all}
@@ -203,6 +204,10 @@ module _ (script : Script) (o : Over) (answered : Result (Unit {0}) Fault) (old 
   pub none_committed : (before after : List Entry) (epoch : ℕ) (share : Option ℕ) → added ≡ before ++ entry.Committed epoch share ∷ after → ⊥
   none_committed before after epoch share parts =
       (all_back IsUncommitted before (entry.Committed epoch share ∷ after) (subst (AllByRecursion IsUncommitted) parts (by_why (λ r es. AllByRecursion IsUncommitted es) tt (λ fault refused. (tt, tt))))).0
+
+  pub none_tells : CommitsEach script added
+  none_tells = by_why (λ r es. CommitsEach script es) (λ files held. (let t = setting_as_cut script files held [] in at_each t (TellsCommit t) [] tt))
+      (λ fault refused files held. (let t = setting_as_cut script files held (entry.Fault fault ∷ []) in at_each t (TellsCommit t) (entry.Fault fault ∷ []) (tt, tt)))
 
   -- .. and none is left open
   pub none_left : LeavesSo script added

@@ -1,5 +1,6 @@
 -- ANSWERS FROM THE PATH: what each answer to a final block's request says, by the entries and the script; first whatever the devices tell, and then over devices that tell.
-use Rattle.std.specs.Prelude.{ℕ, ◌≡◌, ◌≤◌, ◌<◌, ◌-◌, true, false, List, Option, Some, IsSomeAnd, Ok, length, slice_get}
+use Rattle.std.specs.Prelude.{ℕ, ◌≡◌, ◌≤◌, ◌<◌, ◌+◌, ◌-◌, ◌^◌, true, false, List, Option, Some, IsSomeAnd, Ok, length, slice_get}
+use Rattle.std.specs.Int.NonZero.{non_zero_u32_get}
 use Rattle.dkg_ceremony.specs.declared.round.RoundParts.{RoundParts as Round}
 use Rattle.dkg_ceremony.specs.Outcomes.{LogMap}
 use Rattle.dkg_ceremony.specs.Schedule.{last, midpoint}
@@ -27,6 +28,7 @@ use Rattle.dkg_script.specs.Epochs.{alone}
 use Rattle.dkg_script.specs.Blocks.{chain, known_info}
 use Rattle.dkg_script.specs.History.{IsWholeHistory}
 use Rattle.dkg_script.specs.Inclusion.{IsFormOfInclusion}
+use Rattle.dkg_script.specs.Players.{players_at}
 use Rattle.dkg_script.specs.Position.{awaited_epoch, event_of_step, follows}
 use Rattle.dkg_script.specs.Progress.{AtEachEntry, Progress, progress}
 use Rattle.dkg_script.specs.Readings.{with_spelled}
@@ -49,9 +51,17 @@ pub record IsAskedFor (script : Script) (l : ℕ) (life : Life) (epoch j request
   pub same : awaited_epoch (alone script) l life at ≡ epoch
   pub uncancelled : IsUncancelled (standing_of life request j)
 
--- In step j the request is answered by the logs that were asked for as its ancestry was read, in this step or an earlier one that began while this epoch was awaited, in which the life takes part.
+-- The provider names somebody for the epoch two above, and not more than the limit: IsProviderCause of no fault holds of the epoch.
+pub record IsProvidedFor (script : Script) (epoch : ℕ) : Type 0 where
+  pub in_range : epoch + 2 < 2 ^ 64
+  pub some : 1 ≤ length (players_at script.config.players (epoch + 2))
+  pub in_bound : length (players_at script.config.players (epoch + 2)) ≤ non_zero_u32_get script.config.limit
+
+-- In step j the request is answered by the logs that were asked for as its ancestry was read, in this step or an earlier one that began while this epoch was awaited, in which the life takes part
+-- and for which the provider's set is there.
 pub record IsMadeOf (script : Script) (l : ℕ) (life : Life) (epoch j request : ℕ) (payload : Option (List ℕ)) : Type 0 where
   pub takes_part : follows (alone script) l life epoch ≡ false
+  pub provided : IsProvidedFor script epoch
   pub info : EpochInfo U
   pub info_is : IsInfoOf script life j epoch info
   pub round : Round

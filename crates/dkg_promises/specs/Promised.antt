@@ -20,7 +20,7 @@ use Rattle.dkg_promises.specs.Leaves.{LeavesSo}
 use Rattle.dkg_lives.specs.Lives.{AnyFiles, RunsOver, RunsSo, never}
 use Rattle.dkg_promises.specs.Over.{Over}
 use Rattle.dkg_promises.specs.Refusals.{BlamesOnlySkips}
-use Rattle.dkg_promises.specs.SharesStand.{CommitsExactly, CommitsFit}
+use Rattle.dkg_promises.specs.SharesStand.{CommitsEach, CommitsExactly, CommitsFit}
 use Rattle.dkg_lives.specs.Ways.{by_lines, trace}
 
 -- THE ENTRIES are those of a node run of the script, whatever the devices tell: a step that is ended early gives a front of its lines. Each life's end
@@ -61,6 +61,8 @@ pub record Promised (script : Script) (o : Over) (result : Result (Unit {0}) Fau
   pub leaves : LeavesSo script added
   -- Where the past is whole, the logs of an available answer are those of one linked path of blocks.
   pub paths : o.tells → Stands o.before.files o.before.image → AnswersThePath script o.before.files o.before.held added
+  -- Whatever the devices tell, an epoch is committed in a step by which a life comes into it, and in each such step that is completed.
+  pub commits : CommitsEach script added
   -- Each share that is committed is this node's in the output that its epoch's info carries.
   pub shares : o.tells → Stands o.before.files o.before.image → CommitsFit script o.before.files o.before.held added
   -- .. and, where the past is whole, it stands exactly: behind an epoch that a life takes part in there is one just where the ceremony succeeded and the node played, or failed and the node held one.

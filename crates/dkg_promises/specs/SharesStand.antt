@@ -10,7 +10,7 @@ use Rattle.dkg_secrets.specs.Secrets.{Secrets}
 use Rattle.dkg_store.specs.Pairs.{IsWhole}
 use Rattle.dkg_types.specs.Units.{unit_spelling}
 use Rattle.dkg_types.specs.declared.entry.Entry.{Entry}
-use Rattle.dkg_types.specs.declared.entry.Entry.TheVariants.{Committed, Opened, Setup}
+use Rattle.dkg_types.specs.declared.entry.Entry.TheVariants.{Committed, Opened, Setup, Step}
 use Rattle.dkg_types.specs.declared.entry.Part.{Part}
 use Rattle.dkg_types.specs.declared.entry.Part.TheVariants.{Player, Both}
 use Rattle.dkg_types.specs.declared.outcome.EpochOutcome.{EpochOutcome}
@@ -21,11 +21,11 @@ use Rattle.dkg_text.specs.declared.script.Script.{Script}
 use Rattle.dkg_script.specs.AsCut.{setting_as_cut}
 use Rattle.dkg_script.specs.Blocks.{Block, block_at, known_info}
 use Rattle.dkg_script.specs.Consistent.{IsConsistentScript}
-use Rattle.dkg_script.specs.History.{CarriesNext, IsWholeHistory}
+use Rattle.dkg_script.specs.History.{AreChainLogs, CarriesNext, MissesNone}
 use Rattle.dkg_script.specs.Inclusion.{IsFormOfInclusion}
 use Rattle.dkg_script.specs.OwnMarks.{OwnMarks}
 use Rattle.dkg_script.specs.Position.{awaited_epoch, awaited_height, cut_of, event_of_step, follows, lacks_boundary}
-use Rattle.dkg_script.specs.Progress.{Progress, progress}
+use Rattle.dkg_script.specs.Progress.{AtEachEntry, Progress, progress}
 use Rattle.dkg_script.specs.Schedule.{first, last}
 use Rattle.dkg_script.specs.Setting.{CutAt, Setting, blocks_per_epoch, life_at, me}
 use Rattle.dkg_script.specs.Views.{seen_provided}
@@ -42,6 +42,34 @@ FitsCarried s epoch share = IsSomeAnd (known_info s epoch) (λ info. partial_pub
 abbrev pub CommitsFit : Script → Files → Secrets → List Entry → Type 0
 CommitsFit script files held out = let s = setting_as_cut script files held out in
     IsFormOfInclusion s.script → IsConsistentScript s (progress s out).cuts → SharesFitInfos s s.secrets → (epoch share : ℕ) → Contains out (Committed epoch (Some share)) → FitsCarried s epoch share
+
+-- JUST THE EPOCHS THAT A LIFE COMES INTO ARE COMMITTED
+
+-- a life's step, behind its first events, delivers the last block of the epoch below, and that isn't behind the life yet
+pub record Enters (s : Setting) (l : ℕ) (life : Life) (events epoch : ℕ) : Type 0 where
+  pub number : ℕ
+  pub event : slice_get life.events events ≡ Some (Final number)
+  pub block : Block
+  pub block_is : block_at s number ≡ Some block
+  pub ends_below : block.height + 1 ≡ first (blocks_per_epoch s) epoch
+  pub awaited : awaited_height s l life events ≤ block.height
+
+-- the steps by which a life comes into an epoch, and may store a share of it: an opening that awaits it and has the block that begins it, and the step that enters it
+abbrev pub ComesInto : Setting → (l : ℕ) → Life → (step epoch : ℕ) → Type 0
+ComesInto s l life zero epoch = (awaited_epoch s l life 0 ≡ epoch) × (lacks_boundary s l life ≡ false)
+ComesInto s l life (suc events) epoch = Enters s l life events epoch
+
+-- a step that was completed has told so, and no other step tells so
+abbrev pub TellsCommit : Setting → Progress → Entry → Type 0
+TellsCommit s p (Step step) =
+    IsSomeAnd (life_at s (length p.cuts)) (λ life. (epoch : ℕ) → ComesInto s (length p.cuts) life p.step epoch → (share : Option ℕ) × Contains p.written (Committed epoch share))
+TellsCommit s p (Committed epoch share) = IsSomeAnd (life_at s (length p.cuts)) (λ life. ComesInto s (length p.cuts) life p.step epoch)
+TellsCommit s p _ = Unit {0}
+
+-- THE CLAUSE `commits` of the promise: whatever the devices tell, an epoch is committed in a step by which the life comes into it, whether it takes part there or follows; and in each such step that is completed.
+-- (Of the devices it says nothing, so that it stands for any.)
+abbrev pub CommitsEach : Script → List Entry → Type 0
+CommitsEach script out = (files : Files) (held : Secrets) → (let s = setting_as_cut script files held out in AtEachEntry s (TellsCommit s) out)
 
 -- IT STANDS EXACTLY, where a life behind an epoch that it takes part in commits the next
 
@@ -68,20 +96,6 @@ Plays _ = ⊥
 abbrev pub HeldShare : Setting → (before : List Entry) → (epoch : ℕ) → Type 0
 HeldShare s before epoch = IsSome (get s.secrets.shares epoch) ⊎ ((share : ℕ) × Contains before (Committed epoch (Some share)))
 
--- a life's step, behind its first events, delivers the last block of the epoch below, and that isn't behind the life yet
-pub record Enters (s : Setting) (l : ℕ) (life : Life) (events epoch : ℕ) : Type 0 where
-  pub number : ℕ
-  pub event : slice_get life.events events ≡ Some (Final number)
-  pub block : Block
-  pub block_is : block_at s number ≡ Some block
-  pub ends_below : block.height + 1 ≡ first (blocks_per_epoch s) epoch
-  pub awaited : awaited_height s l life events ≤ block.height
-
--- the steps that may store a share of an epoch: an opening that awaits it and has the block that begins it, and the step that enters it
-abbrev pub MayStore : Setting → (l : ℕ) → Life → (step epoch : ℕ) → Type 0
-MayStore s l life zero epoch = (awaited_epoch s l life 0 ≡ epoch) × (lacks_boundary s l life ≡ false)
-MayStore s l life (suc events) epoch = Enters s l life events epoch
-
 -- An earlier life was cut within the opening or the step by which it came to the epoch: it may have stored a share of the epoch that no line tells.
 pub record WasCutInto (s : Setting) (cuts : List (Option CutAt)) (epoch : ℕ) : Type 0 where
   pub l : ℕ
@@ -91,7 +105,7 @@ pub record WasCutInto (s : Setting) (cuts : List (Option CutAt)) (epoch : ℕ) :
   pub at : CutAt
   pub at_is : cut_of cuts l ≡ Some at
   pub within : 0 < at.call
-  pub stores : MayStore s l life at.step epoch
+  pub stores : ComesInto s l life at.step epoch
 
 -- By the outcome that the next info tells: behind a success there is a share where the node played, if its marks are known; and behind a failure where it held one.
 abbrev pub StandsBy : Setting → (before : List Entry) → (epoch : ℕ) → Part → (share : Option ℕ) → (marks : Type 0) → EpochOutcome → Type 0
@@ -117,10 +131,16 @@ pub record EndsEpoch (s : Setting) (p : Progress) (epoch : ℕ) : Type 0 where
 abbrev pub EndsHonestly : (s : Setting) (p : Progress) (epoch : ℕ) → EndsEpoch s p epoch → Type 0
 EndsHonestly s p epoch ends_it = IsSomeAnd (block_at s ends_it.number) (CarriesNext s (seen_provided unit_spelling (provided_by s.script)))
 
--- THE CLAUSE `exactly` of the promise: over whole devices whose shares fit, of a script with a whole history, each line that commits the epoch behind one that the life takes part in has a share just there, and
+-- THE PREMISE of the script's past: it is consistent, the logs that were handed in are the chain's, and no block of an epoch's logs was missed. (That is a whole history, whatever blocks have one digest.)
+pub record IsWholePast (s : Setting) (ends : List (Option CutAt)) : Type 0 where
+  pub consistent : IsConsistentScript s ends
+  pub logs : AreChainLogs s
+  pub missed : MissesNone s ends
+
+-- THE CLAUSE `exactly` of the promise: over whole devices whose shares fit, of a script with a whole past, each line that commits the epoch behind one that the life takes part in has a share just there, and
 -- none where that epoch's last block carries another info than its chain's logs make. Behind a success that is so where no log up to it bears an acknowledgement that this node never gave.
 abbrev pub CommitsExactly : Script → Files → Secrets → List Entry → Type 0
 CommitsExactly script files held out = let s = setting_as_cut script files held out in
-    IsFormOfInclusion s.script → IsWholeHistory s (progress s out).cuts → IsWhole (entries s.files) s.secrets → SharesFitInfos s s.secrets
+    IsFormOfInclusion s.script → IsWholePast s (progress s out).cuts → IsWhole (entries s.files) s.secrets → SharesFitInfos s s.secrets
     → (before after : List Entry) (epoch : ℕ) (share : Option ℕ) → out ≡ before ++ Committed (epoch + 1) share ∷ after → (ends_it : EndsEpoch s (progress s before) epoch)
     → IsSomeAnd (known_info s (epoch + 1)) (λ info. StandsSo s before epoch share (EndsHonestly s (progress s before) epoch ends_it) (OwnMarks s before) info.outcome)

@@ -22,7 +22,7 @@ pub record IsSourceOf (blocks : List (Block directory.Unit)) (life : Life) (take
   pub anchor_is : source.anchor ≡ life.anchor
   pub numbers_are : source.numbers.items ≡ life.held ++ (anchor_numbers life.anchor ++ filter_map delivered_number (take taken life.events))
 
--- It is the life of this number of a script of the form of epochs, which was checked, and this the source of its opening.
+-- It is the life of this number of a script of the form that is run, which was checked, and this the source of its opening.
 pub record IsToOpen (script : Script) (number : ℕ) (life : Life) (source : HeldBlocks) : Type 0 where
   pub form : IsFormOfInclusion script
   pub checked : IsChecked script

@@ -87,7 +87,7 @@ abbrev pub combine_of : Desk → List ℕ → (epoch : ℕ) → List Partial →
 combine_of desk message epoch partials = combine_with (material_of desk epoch) epoch message partials
 
 -- What a call answered is the answer, unless memory ran out.
-abbrev pub Combines : Result Signature CombineError → Result Signature CombineError → Type 0
-Combines answer (Ok signature) = answer ≡ Ok signature
-Combines answer (Err combine.NoMemory) = Unit {0}
-Combines answer (Err e) = answer ≡ Err e
+abbrev pub AnswersSignature : Result Signature CombineError → Result Signature CombineError → Type 0
+AnswersSignature answer (Ok signature) = answer ≡ Ok signature
+AnswersSignature answer (Err combine.NoMemory) = Unit {0}
+AnswersSignature answer (Err e) = answer ≡ Err e

@@ -1,7 +1,7 @@
 //! How partials make a signature: each is checked, and a quorum of them is combined.
 ghost use Rattle.std.specs.Prelude.{◌≡◌, ◌<◌, ◌^◌, ℕ, true, not, List, [], ◌∷◌, length, is_some};
 ghost use Rattle.std.specs.Bool.{OnTrue};
-ghost use Rattle.dkg_sign.specs.Signs.{AreMet, AnswersFault, Combines, combine_of, fault_from, is_valid};
+ghost use Rattle.dkg_sign.specs.Signs.{AreMet, AnswersFault, AnswersSignature, combine_of, fault_from, is_valid};
 ghost use Rattle.dkg_values.specs.Rising.{has_key, place_of};
 
 use crate::desk::{SigningDesk, times_of};
@@ -85,7 +85,7 @@ impl SigningDesk {
         partials: &[Partial],
     ) -> Result<Signature, CombineError>
         requires { length partials.now < 2 ^ 32 }
-        ensures { Combines (combine_of self.now message.now epoch partials.now) result }
+        ensures { AnswersSignature (combine_of self.now message.now epoch partials.now) result }
     {
         let info = match self.material(epoch) {
             Some(info) => info,
