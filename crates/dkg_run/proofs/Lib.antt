@@ -5,6 +5,7 @@ pub mod Entering
 pub mod Finding
 pub mod Going
 pub mod Halves
+pub mod Interrupted
 pub mod Lasting
 pub mod LinesFound
 pub mod Naming

@@ -78,7 +78,7 @@ fn block_on(
 }
 
 /// The blocks of a script, in the order of its lines.
-#[tactic(auto, unfolding(crate::specs::Given::blocks_in))]
+#[tactic(auto, unfolding(dkg_lives::specs::Given::blocks_in))]
 pub fn blocks_of(alloc: Global, script: &Script) -> Mem<Vec<Block<Unit>>>
     ensures blocks { IfOk result (λ blocks. blocks.items ≡ blocks_in script.now) }
     // What the lines' payloads hold is bytes.

@@ -1,5 +1,5 @@
 //! Where a command writes its transcript to: any writer of bytes that may fail, and two in memory.
-ghost use Rattle.std.specs.Prelude.{◌≡◌, ◌<◌, ◌≤◌, ◌++◌, List, [], ℕ, Bool, IsTrue, IsOk, IfOk, OnErr, length, take};
+ghost use Rattle.std.specs.Prelude.{◌≡◌, ◌<◌, ◌≤◌, ◌++◌, List, [], ℕ, Bool, IsTrue, IsOk, IfOk, OnErr, length, take, true, false, if◌then◌else◌};
 ghost use Rattle.dkg_journal.specs.Disk.{Rose};
 
 use crate::calls::Calls;
@@ -36,12 +36,18 @@ pub struct MemorySink {
 
 impl MemorySink {
     /// A sink that fails only where memory runs out.
-    pub fn new(alloc: Global) -> MemorySink {
+    pub fn new(alloc: Global) -> MemorySink
+        ensures empty { result.bytes.items ≡ [] }
+        ensures calls { (result.calls.made ≡ 0) × (result.calls.failing.items ≡ []) × (result.calls.faults ≡ 0) }
+    {
         MemorySink::failing(alloc, Vec::new(alloc))
     }
 
     /// A sink whose calls with these numbers fail. The first call has number 1.
-    pub fn failing(alloc: Global, calls: Vec<u64>) -> MemorySink {
+    pub fn failing(alloc: Global, calls: Vec<u64>) -> MemorySink
+        ensures empty { result.bytes.items ≡ [] }
+        ensures calls { result.calls ≡ record { made = 0; failing = calls; faults = 0 } }
+    {
         MemorySink {
             bytes: Vec::new(alloc),
             calls: Calls::failing(calls),
@@ -49,7 +55,9 @@ impl MemorySink {
     }
 
     /// What the sink holds.
-    pub fn bytes(&self) -> &[u8] {
+    pub fn bytes(&self) -> &[u8]
+        ensures { result.now ≡ self.now.bytes.items }
+    {
         &self.bytes
     }
 }
@@ -81,7 +89,9 @@ pub struct SureSink {
 }
 
 impl SureSink {
-    pub fn new(alloc: Global) -> SureSink {
+    pub fn new(alloc: Global) -> SureSink
+        ensures { (result.bytes.items ≡ []) × (result.is_full ≡ false) }
+    {
         SureSink {
             bytes: Vec::new(alloc),
             is_full: false,
@@ -89,7 +99,9 @@ impl SureSink {
     }
 
     /// What the sink holds.
-    pub fn bytes(&self) -> &[u8] {
+    pub fn bytes(&self) -> &[u8]
+        ensures { result.now ≡ self.now.bytes.items }
+    {
         &self.bytes
     }
 }
@@ -105,6 +117,8 @@ impl Sink for SureSink {
 
     fn write(&mut self, piece: &[u8]) -> Result<usize, Failed>
         ensures sure { result ≡ Ok (length piece.now) }
+        ensures keeps { self.new.bytes.items ≡ (if self.new.is_full then self.old.bytes.items else self.old.bytes.items ++ piece.now) }
+        ensures full { IsTrue self.old.is_full → IsTrue self.new.is_full }
     {
         if !self.is_full && self.bytes.extend_from_slice(piece).is_err() {
             self.is_full = true;

@@ -63,12 +63,18 @@ pub struct MemorySource {
 
 impl MemorySource {
     /// A source that never fails.
-    pub fn new(alloc: Global, bytes: Vec<u8>) -> MemorySource {
+    pub fn new(alloc: Global, bytes: Vec<u8>) -> MemorySource
+        ensures bytes { (result.bytes ≡ bytes) × (result.place ≡ 0) }
+        ensures calls { (result.calls.made ≡ 0) × (result.calls.failing.items ≡ []) × (result.calls.faults ≡ 0) }
+    {
         MemorySource::failing(bytes, Vec::new(alloc))
     }
 
     /// A source whose calls with these numbers fail. The first call has number 1.
-    pub fn failing(bytes: Vec<u8>, calls: Vec<u64>) -> MemorySource {
+    pub fn failing(bytes: Vec<u8>, calls: Vec<u64>) -> MemorySource
+        ensures bytes { (result.bytes ≡ bytes) × (result.place ≡ 0) }
+        ensures calls { result.calls ≡ record { made = 0; failing = calls; faults = 0 } }
+    {
         MemorySource {
             bytes,
             place: 0,
@@ -108,7 +114,9 @@ pub struct SureSource {
 }
 
 impl SureSource {
-    pub fn new(bytes: Vec<u8>) -> SureSource {
+    pub fn new(bytes: Vec<u8>) -> SureSource
+        ensures { (result.bytes ≡ bytes) × (result.place ≡ 0) }
+    {
         SureSource { bytes, place: 0 }
     }
 }
