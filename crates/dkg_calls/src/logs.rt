@@ -1,6 +1,6 @@
 //! Logs as bytes, and the worked round of three of them.
 use crate::asserts::{holds, is, is_at};
-use crate::ceremony::{output, worked_round};
+use crate::ceremony::{followed_round, output, worked_round};
 use crate::reading::faults_of;
 use crate::rounds::{deal, finish, map_of, observe};
 use dkg_ceremony::*;
@@ -61,19 +61,25 @@ fn dealings(alloc: Global, without: u32) -> Result<Map<(Public, Private)>, Fail>
     map_of(alloc, pairs)
 }
 
+/// The share in what a player takes from a round.
+fn share_in(found: &Option<(Output, Share)>) -> Option<u16> {
+    match found {
+        None => None,
+        Some((_, share)) => Some(share.0.get()),
+    }
+}
+
 /// Player 1's share of so many logs, without one dealing.
 fn share_of(
     alloc: Global,
     count: usize,
     without: u32,
 ) -> Result<Result<Option<u16>, FinishError>, Fail> {
-    let previous = output(alloc)?;
-    let round = worked_round(alloc, Some(&previous))?;
+    let round = followed_round(alloc)?;
     let logs = logs(alloc, count)?;
     let dealings = dealings(alloc, without)?;
     match finish(&StandCeremony, alloc, &round, Key(1), &dealings, &logs)? {
-        Ok(None) => Ok(Ok(None)),
-        Ok(Some((_, share))) => Ok(Ok(Some(share.0.get()))),
+        Ok(found) => Ok(Ok(share_in(&found))),
         Err(fault) => Ok(Err(fault)),
     }
 }
@@ -93,13 +99,17 @@ fn dealings_may_be_missing(rt: HostRuntime) -> Result<(), Fail> {
     Ok(())
 }
 
+/// The bytes of what all see of the three logs.
+fn seen_bytes(alloc: Global) -> Result<Blob, Fail> {
+    let round = followed_round(alloc)?;
+    let logs = logs(alloc, 3)?;
+    let seen = observe(&StandCeremony, alloc, &round, &logs)?;
+    Ok(encode(alloc, &seen.ok_or("three logs are enough")?)?)
+}
+
 #[test]
 fn worked_logs_make_the_outcome(rt: HostRuntime) -> Result<(), Fail> {
-    let alloc = rt.alloc();
-    let previous = output(alloc)?;
-    let round = worked_round(alloc, Some(&previous))?;
-    let seen = observe(&StandCeremony, alloc, &round, &logs(alloc, 3)?)?;
-    let bytes = encode(alloc, &seen.ok_or("three logs are enough")?)?;
+    let bytes = seen_bytes(rt.alloc())?;
     is(&rt, bytes.as_slice(), OUTCOME.as_slice());
     Ok(())
 }
@@ -119,8 +129,7 @@ fn is_accepted<C: Ceremony>(
 
 /// What is said of the log of dealer 2, under another dealer's name or its own.
 fn acceptance(alloc: Global, dealer: u32, player: u32) -> Result<(bool, bool), Fail> {
-    let previous = output(alloc)?;
-    let round = worked_round(alloc, Some(&previous))?;
+    let round = followed_round(alloc)?;
     let mut signed = read_log(alloc, &LOGS[1])?;
     signed.dealer = Key(dealer);
     Ok(is_accepted(&StandCeremony, alloc, &round, &signed, Key(player))?)

@@ -262,18 +262,22 @@ fn is_seen<C: Ceremony>(ceremony: &C, output: &Output, share: &Share) -> bool {
     ceremony.partial_public(output, Key(1)) == Some(ceremony.share_public(share))
 }
 
-/// What player 1 takes from a round, where it is what all see.
-fn outcome(alloc: Global, scene: &Scene) -> Result<Option<(Output, Share)>, Fail> {
-    let seen = observe(&StandCeremony, alloc, &scene.round, &scene.logs)?;
-    let found = finish(
+/// What player 1 takes from a round.
+fn taken(alloc: Global, scene: &Scene) -> Result<Option<(Output, Share)>, Fail> {
+    Ok(finish(
         &StandCeremony,
         alloc,
         &scene.round,
         Key(1),
         &scene.dealings,
         &scene.logs,
-    )??;
-    match (seen, found) {
+    )??)
+}
+
+/// What player 1 takes from a round, where it is what all see.
+fn outcome(alloc: Global, scene: &Scene) -> Result<Option<(Output, Share)>, Fail> {
+    let seen = observe(&StandCeremony, alloc, &scene.round, &scene.logs)?;
+    match (seen, taken(alloc, scene)?) {
         (None, None) => Ok(None),
         (Some(seen), Some((output, share))) => {
             if !seen.same(&output) || !is_seen(&StandCeremony, &output, &share) {

@@ -153,6 +153,9 @@ fn more(alloc: Global) -> Result<Set, Fail> {
 fn both(alloc: Global) -> Result<Set, Fail> {
     let some = some(alloc)?;
     let more = more(alloc)?;
+    if some.len() > 9 || more.len() > 9 {
+        return Err(Fail::from("too many keys"));
+    }
     Ok(some.union(alloc, &more)?)
 }
 

@@ -2,7 +2,7 @@
 ghost use Rattle.std.specs.Prelude.{◌≡◌, IfOk};
 ghost use Rattle.dkg_reshare.specs.Actors.{IsNew};
 
-use dkg_ceremony::{Blob, Ceremony, Mode, ModeVersion, Reveal};
+use dkg_ceremony::{Blob, Ceremony, Mode, ModeVersion, Reveal, StandCeremony, StandSigner};
 use dkg_dealing::Config;
 use dkg_reshare::Actor;
 use dkg_types::{Registrar, SchemeInfo, StaticParticipants, Unit};
@@ -15,12 +15,6 @@ use std::test::Fail;
 #[derive(Drop)]
 pub(crate) struct Counting {
     taken: u64,
-}
-
-impl Counting {
-    pub(crate) fn new() -> Counting {
-        Counting { taken: 0 }
-    }
 }
 
 impl Registrar for Counting {
@@ -48,12 +42,12 @@ impl Counted for Counting {
 }
 
 /// Who names key 1, in each epoch.
-pub(crate) fn provider(alloc: Global) -> Mem<StaticParticipants<Unit>> {
+fn provider(alloc: Global) -> Mem<StaticParticipants<Unit>> {
     Ok(StaticParticipants::new(Set::from_any(alloc, &[Key(1)])?, Unit))
 }
 
 /// An actor of these parts, with epochs of so many blocks.
-pub(crate) fn actor_of<C: Ceremony + Drop, P: Drop, R: Drop>(
+fn actor_of<C: Ceremony + Drop, P: Drop, R: Drop>(
     alloc: Global,
     ceremony: C,
     signer: C::Signer,
@@ -82,4 +76,17 @@ where
         return Err(Fail::from("refused"));
     };
     Ok(actor)
+}
+
+/// An actor of key 1 and of the plain ceremony, whose schemes are counted.
+pub(crate) fn plain_actor(
+    alloc: Global,
+    blocks: u64,
+) -> Result<Actor<StandCeremony, StaticParticipants<Unit>, Counting, Unit, Unit>, Fail>
+    ensures { IfOk result (λ actor. IsNew actor.state) }
+{
+    let signer = StandSigner::new(Key(1));
+    let provider = provider(alloc)?;
+    let registrar = Counting { taken: 0 };
+    actor_of(alloc, StandCeremony, signer, provider, registrar, blocks)
 }

@@ -4,10 +4,10 @@ ghost use Rattle.std.specs.Int.NonZero.{non_zero_u64_get};
 ghost use Rattle.dkg_inclusion.specs.InclusionOf.{IsSettledInclusion};
 ghost use Rattle.dkg_reshare.specs.Actors.{BringsWithin, IfIncluding, IsOpenedOn, IsNew};
 
-use crate::actors::{Counted, Counting, actor_of, provider};
+use crate::actors::{Counted, plain_actor};
 use crate::blocks::{bare, first_source};
 use crate::calls::{deliver, open, step};
-use dkg_ceremony::{Blob, Ceremony, StandCeremony, StandSigner};
+use dkg_ceremony::{Blob, Ceremony};
 use dkg_dealing::{BlockSource, Stop};
 use dkg_fence::Fence;
 use dkg_journal::{Disk, Fuse, MemoryDisk};
@@ -149,64 +149,63 @@ fn hears_and_takes<
     Ok((told, height))
 }
 
-/// That of an actor of these parts, over these devices. How many lines were told behind the opening, the dealing and all else, the height of the block
-/// that doesn't fit, and how many schemes were taken.
-fn life_of<
+/// That over these devices, from the block that the source has processed. How many lines were told behind the opening, the dealing and all else, the
+/// height of the block that doesn't fit, and how many schemes were taken.
+fn life_over<
     C: Ceremony + Drop,
-    P: ParticipantsProvider<Dir = Unit> + Drop,
-    R: Registrar + Counted + Drop,
+    P: ParticipantsProvider<Dir = Unit>,
+    R: Registrar + Counted,
     D: Disk,
     X: SecretStore,
     B: BlockSource<Unit>,
 >(
     alloc: Global,
-    ceremony: C,
-    signer: C::Signer,
-    provider: P,
-    registrar: R,
+    actor: &mut Actor<C, P, R, Unit, Unit>,
     disk: &mut D,
     secrets: &mut X,
     source: &B,
 ) -> Result<([usize; 3], u64, u64), Fail>
-where
-    C::Signer: Drop,
+    requires { IsNew actor.old.state }
 {
     let Some(first) = source.anchor() else {
         return Err(Fail::from("no block"));
     };
     let parent = first.digest();
-    let mut actor = actor_of(alloc, ceremony, signer, provider, registrar, 8)?;
     let mut devices = Devices {
         disk,
         secrets,
         fuse: Fuse::never(),
     };
     let mut out = Transcript::new(alloc);
-    let told = hears_and_takes(alloc, &mut actor, &mut devices, source, parent, &mut out)?;
-    let ([opened, heard], height) = told;
-    Ok((
-        [opened, heard, out.entries().len()],
-        height,
-        actor.registrar().taken(),
-    ))
+    let ([opened, heard], height) = hears_and_takes(
+        alloc,
+        actor,
+        &mut devices,
+        source,
+        parent,
+        &mut out,
+    )?;
+    let all = out.entries().len();
+    Ok(([opened, heard, all], height, actor.registrar().taken()))
 }
 
-/// .. of the plain ceremony, over memory.
+/// .. of an actor of the plain ceremony.
+fn plain_life<D: Disk, X: SecretStore, B: BlockSource<Unit>>(
+    alloc: Global,
+    disk: &mut D,
+    secrets: &mut X,
+    source: &B,
+) -> Result<([usize; 3], u64, u64), Fail> {
+    let mut actor = plain_actor(alloc, 8)?;
+    life_over(alloc, &mut actor, disk, secrets, source)
+}
+
+/// .. over memory.
 fn lived(alloc: Global) -> Result<([usize; 3], u64, u64), Fail> {
     let source = first_source(alloc)?;
-    let provider = provider(alloc)?;
     let mut disk = MemoryDisk::new(alloc);
     let mut secrets = MemorySecrets::new(alloc);
-    life_of(
-        alloc,
-        StandCeremony,
-        StandSigner::new(Key(1)),
-        provider,
-        Counting::new(),
-        &mut disk,
-        &mut secrets,
-        &source,
-    )
+    plain_life(alloc, &mut disk, &mut secrets, &source)
 }
 
 #[test]

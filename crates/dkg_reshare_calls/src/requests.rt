@@ -4,10 +4,10 @@ ghost use Rattle.std.specs.Int.NonZero.{non_zero_u64_get};
 ghost use Rattle.dkg_inclusion.specs.InclusionOf.{IsSettledInclusion};
 ghost use Rattle.dkg_reshare.specs.Actors.{IfIncluding, IsOpenedOn, IsNew};
 
-use crate::actors::{Counting, actor_of, provider};
+use crate::actors::plain_actor;
 use crate::blocks::first_source;
 use crate::calls::{open, step, work};
-use dkg_ceremony::{Ceremony, StandCeremony, StandSigner};
+use dkg_ceremony::Ceremony;
 use dkg_dealing::BlockSource;
 use dkg_fence::Fence;
 use dkg_inclusion::{EpochInfoResponse, Told};
@@ -15,7 +15,7 @@ use dkg_journal::{Disk, Fuse, MemoryDisk};
 use dkg_reshare::{Actor, Message};
 use dkg_store::{Devices, MemorySecrets, SecretStore};
 use dkg_types::{Block, ParticipantsProvider, Payload, Registrar, Transcript, Unit};
-use dkg_values::{Height, Key, Mem, Value};
+use dkg_values::{Height, Mem, Value};
 use std::alloc::Global;
 use std::test::Fail;
 
@@ -163,58 +163,55 @@ fn includes<
     verified(alloc, actor, devices, source, &mut fence, out)
 }
 
-/// That of an actor of these parts, over these devices. Whether a request is answered by an info, and how many lines were told.
-fn answer_of<
+/// That over these devices, of which the first block is the one that the source has processed. Whether a request is answered by an info, and how many
+/// lines were told.
+fn answer_over<
     C: Ceremony + Drop,
-    P: ParticipantsProvider<Dir = Unit> + Drop,
-    R: Registrar + Drop,
+    P: ParticipantsProvider<Dir = Unit>,
+    R: Registrar,
     D: Disk,
     X: SecretStore,
     B: BlockSource<Unit>,
 >(
     alloc: Global,
-    ceremony: C,
-    signer: C::Signer,
-    provider: P,
-    registrar: R,
+    actor: &mut Actor<C, P, R, Unit, Unit>,
     disk: &mut D,
     secrets: &mut X,
     source: &B,
 ) -> Result<(bool, usize), Fail>
-where
-    C::Signer: Drop,
+    requires { IsNew actor.old.state }
 {
     let Some(first) = source.anchor() else {
         return Err(Fail::from("no block"));
     };
     let below = first.copy(alloc)?;
-    let mut actor = actor_of(alloc, ceremony, signer, provider, registrar, 2)?;
     let mut devices = Devices {
         disk,
         secrets,
         fuse: Fuse::never(),
     };
     let mut out = Transcript::new(alloc);
-    let answered = includes(alloc, &mut actor, &mut devices, source, below, &mut out)?;
+    let answered = includes(alloc, actor, &mut devices, source, below, &mut out)?;
     Ok((answered, out.entries().len()))
 }
 
-/// .. of the plain ceremony, over memory.
+/// .. of an actor of the plain ceremony.
+fn plain_answer<D: Disk, X: SecretStore, B: BlockSource<Unit>>(
+    alloc: Global,
+    disk: &mut D,
+    secrets: &mut X,
+    source: &B,
+) -> Result<(bool, usize), Fail> {
+    let mut actor = plain_actor(alloc, 2)?;
+    answer_over(alloc, &mut actor, disk, secrets, source)
+}
+
+/// .. over memory.
 fn answered(alloc: Global) -> Result<(bool, usize), Fail> {
     let source = first_source(alloc)?;
-    let provider = provider(alloc)?;
     let mut disk = MemoryDisk::new(alloc);
     let mut secrets = MemorySecrets::new(alloc);
-    answer_of(
-        alloc,
-        StandCeremony,
-        StandSigner::new(Key(1)),
-        provider,
-        Counting::new(),
-        &mut disk,
-        &mut secrets,
-        &source,
-    )
+    plain_answer(alloc, &mut disk, &mut secrets, &source)
 }
 
 #[test]

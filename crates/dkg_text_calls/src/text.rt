@@ -67,22 +67,33 @@ fn a_script_is_read_and_written(rt: HostRuntime) -> Result<(), Fail> {
     returns(&rt, ONE_SHOT, true)
 }
 
-/// How many events the first life of a script has, and the text of the second.
-fn second_event(alloc: Global, script: &Script) -> Result<(usize, Vec<u8>), Fail> {
+/// Whose script it is.
+fn owner_of(script: &Script) -> Key {
+    script.config.me
+}
+
+/// How many events the first life of a script has.
+fn event_count(script: &Script) -> Result<usize, Fail> {
+    let life = script.lives.as_slice().get(0).ok_or("no life")?;
+    Ok(life.events.len())
+}
+
+/// The text of the second one.
+fn second_event(alloc: Global, script: &Script) -> Result<Vec<u8>, Fail> {
     let life = script.lives.as_slice().get(0).ok_or("no life")?;
     if life.events.len() < 2 {
         return Err(Fail::from("a single event"));
     }
     let second = life.events.at(1);
-    Ok((life.events.len(), event_bytes(alloc, &second)?))
+    Ok(event_bytes(alloc, &second)?)
 }
 
 #[test]
 fn a_script_has_its_events(rt: HostRuntime) -> Result<(), Fail> {
     let script = read_script(rt.alloc(), RESHARE.as_bytes(), false)?;
-    is(&rt, script.config.me, Key(1));
-    let (count, event) = second_event(rt.alloc(), &script)?;
-    is(&rt, count, 19);
+    is(&rt, owner_of(&script), Key(1));
+    is(&rt, event_count(&script)?, 19);
+    let event = second_event(rt.alloc(), &script)?;
     is(&rt, event.as_slice(), &b"peer 3 -"[..]);
     Ok(())
 }
