@@ -1,4 +1,4 @@
-//! Tests of the texts: scripts that are read and written, texts that just miss one, and the lines of a transcript; and a made script.
+//! Tests of the texts: scripts that are read and written, and the lines of a transcript; and a made script.
 #![tactic(auto)]
 
 #[cfg(test)]
