@@ -1,5 +1,5 @@
-//! Tests of scripts and of the top call over devices, a source and a sink that a script can't give; and two appends that are composed
-//! through the journal's clauses.
+//! Tests of scripts and of the top call over devices, a source and a sink that a script can't give, and of the reshare actor's calls; and two
+//! appends that are composed through the journal's clauses.
 //!
 //! Worked rows are data: `dkg_replay` runs them.
 #![tactic(auto)]
@@ -15,6 +15,8 @@ mod lives;
 mod observer;
 #[cfg(test)]
 mod requests;
+#[cfg(test)]
+mod reshare;
 #[cfg(test)]
 mod runs;
 #[cfg(test)]
