@@ -8,11 +8,7 @@ mod appends;
 #[cfg(test)]
 mod devices;
 #[cfg(test)]
-mod epochs;
-#[cfg(test)]
 mod lives;
-#[cfg(test)]
-mod observer;
 #[cfg(test)]
 mod requests;
 #[cfg(test)]
@@ -21,6 +17,8 @@ mod reshare;
 mod runs;
 #[cfg(test)]
 mod script;
+#[cfg(test)]
+mod shares;
 #[cfg(test)]
 mod statuses;
 #[cfg(test)]

@@ -68,34 +68,3 @@ fn a_source_of_too_many_bytes_is_refused(rt: HostRuntime) -> Result<(), Fail> {
     }
     Ok(())
 }
-
-/// The first line of a made script, and how long that of the last number is.
-const MADE: (&str, usize) = ("dkg 1\n", 17263);
-
-#[test]
-fn a_made_script_is_written(rt: HostRuntime) -> Result<(), Fail> {
-    let alloc = rt.alloc();
-    let words = "make\n18446744073709551615\nscript";
-    let mut source = MemorySource::new(alloc, Vec::new(alloc));
-    let mut sink = MemorySink::new(alloc);
-    let status = status_of(alloc, words, &mut source, &mut sink)?;
-    assert_eq!(rt; status, 0);
-    assert_eq!(rt; sink.bytes().len(), MADE.1);
-    assert_eq!(rt; sink.bytes().starts_with(MADE.0.as_bytes()), true);
-    Ok(())
-}
-
-/// What the run of a made script sums up to.
-const SUMMARY: &str =
-    "made 7\nlives 6\nsteps 399\nrestored 61\nrecorded 34\nacks 35\noffers 72\nregistered 11\nentered 11\nacknowledged 320\nlogs 4\nanswers 5\nblocked 0\ndone\n";
-
-#[test]
-fn a_made_script_is_run(rt: HostRuntime) -> Result<(), Fail> {
-    let alloc = rt.alloc();
-    let mut source = MemorySource::new(alloc, Vec::new(alloc));
-    let mut sink = MemorySink::new(alloc);
-    let status = status_of(alloc, "make\n7", &mut source, &mut sink)?;
-    assert_eq!(rt; status, 0);
-    assert_eq!(rt; sink.bytes(), SUMMARY.as_bytes());
-    Ok(())
-}
