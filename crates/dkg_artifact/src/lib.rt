@@ -10,8 +10,6 @@ mod laws;
 mod lowest;
 mod requests;
 mod scan;
-#[cfg(test)]
-mod tests;
 mod verification;
 mod verified;
 

@@ -7,8 +7,6 @@
 
 mod fence;
 mod queue;
-#[cfg(test)]
-mod tests;
 
 pub use dkg_turn::{Carries, HistoryEntry, Pass, Turn, TurnError, TurnLock, Turned};
 pub use fence::{Fence, Waited};

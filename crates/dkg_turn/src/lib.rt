@@ -10,8 +10,6 @@ mod carries;
 mod lock;
 mod pass;
 mod play;
-#[cfg(test)]
-mod tests;
 mod turn;
 mod view;
 
