@@ -235,6 +235,7 @@ fn add_and_tell<T: Carries<u64, u64>, R: Threads + Wait + Sync>(
 ) -> Pass<T>
     requires own { IsPassOf lock.now pass }
     requires eight { 8 ≤ pass.parts }
+    ensures { IsPassOf lock.now result }
 {
     let pass = add_by_eight(rt, alloc, lock, pass, 0, 250);
     done.store(1, Ordering::SeqCst);
@@ -245,20 +246,36 @@ fn add_and_tell<T: Carries<u64, u64>, R: Threads + Wait + Sync>(
 fn add_watched<T: Carries<u64, u64>, R: Threads + Wait + Sync + Abort + Clock>(
     rt: &R,
     alloc: Global,
+    lock: &TurnLock<T>,
+    pass: Pass<T>,
+    done: &AtomicU64,
+)
+    requires own { IsPassOf lock.now pass }
+    requires eight { 8 ≤ pass.parts }
+{
+    let (pass, ()) = thread::join(
+        rt,
+        move ||
+            requires { IsPassOf lock.now pass × (8 ≤ pass.parts) }
+            ensures { IsPassOf lock.entry.now result }
+        { add_and_tell(rt, alloc, lock, pass, done) },
+        || watch(rt, done),
+    );
+    drop(pass);
+}
+
+/// .. at a lock round a value
+fn watched<T: Carries<u64, u64>, R: Threads + Wait + Sync + Abort + Clock>(
+    rt: &R,
+    alloc: Global,
     value: T,
 ) -> Result<(), Fail> {
     let (lock, pass) = locked(alloc, value)?;
-    let done = AtomicU64::new(0);
-    let (pass, ()) = thread::join(
-        rt,
-        || add_and_tell(rt, alloc, &lock, pass, &done),
-        || watch(rt, &done),
-    );
-    drop(pass);
+    add_watched(rt, alloc, &lock, pass, &AtomicU64::new(0));
     Ok(())
 }
 
 #[test]
 fn who_sleeps_is_woken(rt: HostRuntime) -> Result<(), Fail> {
-    add_watched(&rt, rt.alloc(), empty_till())
+    watched(&rt, rt.alloc(), empty_till())
 }
