@@ -57,8 +57,8 @@ pub(crate) fn seen<C: Ceremony>(
     Ok(verify_logs(alloc, ceremony, &round, None, logs)?)
 }
 
-fn share_in(result: &Verified) -> Option<u16> {
-    let share = result.share?;
+fn share_in(verified: &Verified) -> Option<u16> {
+    let share = verified.share?;
     Some(share.0.get())
 }
 
