@@ -5,19 +5,24 @@ use crate::asserts::{holds, is_copied};
 use crate::logs::{both, one, round};
 use crate::results::{finished, seen};
 use dkg_artifact::{Artifact, ArtifactCache, Job, Verification, VerifiedLogs};
-use dkg_ceremony::{Ceremony, DealerLog, StandCeremony};
+use dkg_ceremony::{Ceremony, DealerLog, Round, StandCeremony};
 use dkg_types::{Directory, Unit};
 use dkg_values::Map;
 use std::alloc::Global;
 use std::test::Fail;
 
-/// An observer's job.
-fn job<C: Ceremony>(alloc: Global, ceremony: &C, logs: Map<DealerLog>) -> Result<Job, Fail> {
-    Ok(Job {
-        round: round(alloc, ceremony)?,
+fn observing(round: Round, logs: Map<DealerLog>) -> Job {
+    Job {
+        round,
         player: None,
         logs,
-    })
+    }
+}
+
+/// An observer's job.
+fn job<C: Ceremony>(alloc: Global, ceremony: &C, logs: Map<DealerLog>) -> Result<Job, Fail> {
+    let round = round(alloc, ceremony)?;
+    Ok(observing(round, logs))
 }
 
 #[test]
@@ -147,15 +152,17 @@ fn is_cached<Dir>(cache: &ArtifactCache<Dir>, logs: &Map<DealerLog>) -> bool {
 }
 
 /// Whether a cache gives the artifact of both logs once it keeps it, and none for one log.
-fn caches_both<Dir: Drop>(alloc: Global) -> Result<bool, Fail> {
-    let mut cache = ArtifactCache::<Dir>::new();
+fn caches_both<Dir: Drop>(alloc: Global, cache: &mut ArtifactCache<Dir>) -> Result<bool, Fail> {
     cache.keep(both(alloc)?, artifact());
-    Ok(is_cached(&cache, &both(alloc)?) && !is_cached(&cache, &one(alloc)?))
+    let both = both(alloc)?;
+    let one = one(alloc)?;
+    Ok(is_cached(cache, &both) && !is_cached(cache, &one))
 }
 
 #[test]
 fn an_artifact_is_for_its_logs(rt: HostRuntime) -> Result<(), Fail> {
-    let kept = caches_both::<Unit>(rt.alloc())?;
+    let mut cache = ArtifactCache::<Unit>::new();
+    let kept = caches_both(rt.alloc(), &mut cache)?;
     holds(&rt, kept);
     Ok(())
 }
