@@ -107,10 +107,18 @@ module _ {Dir : Type 0} (c : Fixed Dir) (stored : OfShares) (round : Round) (inf
   by_outcome : (found : Option Verified) → r.result ≡ found → option_map (λ (v : Verified). v.output) found ≡ c.rules.outcome_of round r.logs
   by_outcome found is = sym (ap (λ (o : Option Verified). option_map (λ (v : Verified). v.output) o) is) ∙ result.outcome
 
-  of_verified : IsProvided c info → (found : Verified) → r.result ≡ Some found → OfLogs r.logs (with_it found.share)
-  of_verified known found is = record {
+  -- the directory of what is made is one of its peers
+  abbrev IsMatched : Type 0
+  IsMatched = c.directories.matches its_info.directory (i.info_peers its_info) ≡ true
+
+  matched_of : IsMatched → (its : EpochInfo Dir) → ◌≡◌ {A = Option (EpochInfo Dir)} (Some its_info) (Some its) → c.directories.matches its.directory (i.info_peers its) ≡ true
+  matched_of matched its is = subst (λ (x : EpochInfo Dir). c.directories.matches x.directory (i.info_peers x) ≡ true) (some_is its_info its is) matched
+
+  of_verified : IsProvided c info → (found : Verified) → r.result ≡ Some found → IsMatched → OfLogs r.logs (with_it found.share)
+  of_verified known found is matched = record {
     provided = known;
     info_is = ap (λ (x : EpochInfo Dir). Some x) is_next;
+    matched = matched_of matched;
     success = λ output made. (
       result.shared found is,
       λ share has_it. subst (λ (o : Output). c.rules.partial_public_of o c.me ≡ Some (c.rules.share_public_of share)) (some_is found.output output (by_outcome (Some found) is ∙ made))
@@ -119,10 +127,12 @@ module _ {Dir : Type 0} (c : Fixed Dir) (stored : OfShares) (round : Round) (inf
     failure = λ none. absurd (none_apart found.output (sym none ∙ sym (by_outcome (Some found) is)));
   }
 
-  of_failed : IsProvided c info → (share : Option ℕ) → r.result ≡ None → (has info.output.players c.me ≡ true → stored info.epoch share) → (has info.output.players c.me ≡ false → share ≡ None) → OfLogs r.logs (with_it share)
-  of_failed known share is carried other = record {
+  of_failed : IsProvided c info → (share : Option ℕ) → r.result ≡ None → (has info.output.players c.me ≡ true → stored info.epoch share) → (has info.output.players c.me ≡ false → share ≡ None) → IsMatched
+      → OfLogs r.logs (with_it share)
+  of_failed known share is carried other matched = record {
     provided = known;
     info_is = ap (λ (x : EpochInfo Dir). Some x) is_next;
+    matched = matched_of matched;
     success = λ output made. absurd (none_apart output (by_outcome None is ∙ made));
     failure = λ none. (carried, other);
   }
@@ -131,14 +141,14 @@ module _ {Dir : Type 0} (c : Fixed Dir) (stored : OfShares) (round : Round) (inf
   epoch_is None = refl
   epoch_is (Some output) = refl
 
-  made_now : (share : Option ℕ) → OfLogs r.logs (with_it share) → C (i.with_directory c its_info (i.keeping r.logs next (with_it share) st))
+  made_now : (share : Option ℕ) → (IsMatched → OfLogs r.logs (with_it share)) → C (i.with_directory c its_info (i.keeping r.logs next (with_it share) st))
   made_now share of =
       courses.if_so (c.directories.matches its_info.directory (i.info_peers its_info)) (i.keeping r.logs next (with_it share) st) (Stops (DirectoryMismatch its_info.epoch))
       (λ e. so (with_it share) (i.with_cached r.logs (with_it share) st) (record {
-        artifact = of;
+        artifact = of e;
         same = refl;
         is = ap (λ (t : Bool). if t then Some (with_it share) else None) (logs_again r.logs);
-        all = λ d is. subst (λ (x : Cached Dir). OfLogs x.logs x.artifact) (some_is (record { logs = r.logs; artifact = with_it share }) d is) of;
+        all = λ d is. subst (λ (x : Cached Dir). OfLogs x.logs x.artifact) (some_is (record { logs = r.logs; artifact = with_it share }) d is) (of e);
       }))
       (λ e. courses.stopped (DirectoryMismatch its_info.epoch) (
         epoch_is outcome,

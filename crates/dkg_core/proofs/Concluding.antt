@@ -65,33 +65,33 @@ module _ {Dir : Type 0} (c : Fixed Dir) (form : IsFormThrough c) (stored : OfSha
   IsArtifact of made = IsArtifactIn c stored round known.0 st of made
 
   -- by the artifact of the canonical logs
-  concluded : (made : Artifact Dir) (i : Inclusion Dir) → i.used ≡ st.inclusion.used → IsArtifact logs made → ComesOver FinalStop FinalTo (b.concludes c block made (with i)) devices
-  concluded made i used is =
+  concluded : (made : Artifact Dir) (i : Inclusion Dir) → i.used ≡ st.inclusion.used → i.queue ≡ st.inclusion.queue → IsArtifact logs made → ComesOver FinalStop FinalTo (b.concludes c block made (with i)) devices
+  concluded made i used queue is =
       over_as (passing.PassingStop c form.form stored block last st devices) FinalStop FinalTo FinalTo (b.concludes c block made (with i)) devices (λ fault stop. inr stop) (λ end left its. its)
-      (passing.concludes c form.form stored block last st devices made i used
+      (passing.concludes c form.form stored block last st devices made i used queue
       (λ info h. subst (λ (stage : Stage). IsShareTaken c stored st h info (b.share_for c info made) stage) (sym includes) (round, known.0, of_epoch, known.1, (made, is, refl))))
 
   -- .. of a result
-  by_result : (r : VerifiedLogs) (i : Inclusion Dir) → i.used ≡ st.inclusion.used → HasAsked c stored (with i) → r.logs ≡ logs → IsResultIn c round st r
+  by_result : (r : VerifiedLogs) (i : Inclusion Dir) → i.used ≡ st.inclusion.used → i.queue ≡ st.inclusion.queue → HasAsked c stored (with i) → r.logs ≡ logs → IsResultIn c round st r
       → ComesOver FinalStop FinalTo (inc.artifact c r (with i) (b.concludes c block)) devices
-  by_result r i used has are its =
+  by_result r i used queue has are its =
       artifacts_lead c stored round known.0 r (with i) (b.concludes c block) devices FinalStop FinalTo form.form reads has of_epoch known.1 its
       (λ fault stop. inl (round, known.0, of_epoch, known.1, stop)) (λ made here at. by_made made here at)
     where
       by_made : (made : Artifact Dir) (here : Live Dir) → IsMadeIn c stored round known.0 (with i) r.logs made here → ComesOver FinalStop FinalTo (b.concludes c block made here) devices
       by_made made here at =
           subst (λ (x : Live Dir). ComesOver FinalStop FinalTo (b.concludes c block made x) devices) (sym at.same)
-          (concluded made (record i { cached = here.inclusion.cached }) used (subst (λ (l : LogMap). IsArtifact l made) are at.artifact))
+          (concluded made (record i { cached = here.inclusion.cached }) used queue (subst (λ (l : LogMap). IsArtifact l made) are at.artifact))
 
   -- a verification that starts and ends now
-  verifies : (i : Inclusion Dir) → i.used ≡ st.inclusion.used → HasAsked c stored (with i) → (refused : Option ℕ)
+  verifies : (i : Inclusion Dir) → i.used ≡ st.inclusion.used → i.queue ≡ st.inclusion.queue → HasAsked c stored (with i) → (refused : Option ℕ)
       → (if can_finish c round logs (with i) then refused_in c round (with i) else None) ≡ refused
       → ComesOver FinalStop FinalTo (bind (inc.starts_unless (job_for c round logs (with i)) None refused (with i))
       (λ now. inc.artifact c (verified c (job_for c round logs (with i))) (retains c (verified c (job_for c round logs (with i))) now) (b.concludes c block))) devices
-  verifies i used has (Some who) is =
+  verifies i used queue has (Some who) is =
       let both = both_found (can_finish c round logs (with i)) (refused_in c round (with i)) who is in
       inl (round, known.0, of_epoch, known.1, (refl, (logs, both.0), both.1))
-  verifies i used has None is =
+  verifies i used queue has None is =
       let job : Job = job_for c round logs (with i) in
       let its : IsJobIn c round st job = (refl, none_found (can_finish c round logs (with i)) (refused_in c round (with i)) is) in
       let found = verified c job in
@@ -99,20 +99,20 @@ module _ {Dir : Type 0} (c : Fixed Dir) (form : IsFormThrough c) (stored : OfSha
       let begun : Inclusion Dir = record i { running = Some job; waiter = None } in
       let started = included c stored st begun includes (λ none. refl) (λ other e. (round, of_epoch, subst (λ (x : Job). IsJobIn c round st x) (some_is job other e) its)) has.kept has.made in
       let ended = verifying.retained c stored (with begun) devices form.form form.finishing reads live.informed started round of_epoch includes found result begun started refl refl refl in
-      by_result found (retains c found (with begun)).inclusion (ended.used ∙ used) ended.has refl result
+      by_result found (retains c found (with begun)).inclusion (ended.used ∙ used) (ended.queue ∙ queue) ended.has refl result
 
-  derived : (i : Inclusion Dir) → i.used ≡ st.inclusion.used → HasAsked c stored (with i) → (retained : Option VerifiedLogs) → retained_for i.retained logs ≡ retained
+  derived : (i : Inclusion Dir) → i.used ≡ st.inclusion.used → i.queue ≡ st.inclusion.queue → HasAsked c stored (with i) → (retained : Option VerifiedLogs) → retained_for i.retained logs ≡ retained
       → ComesOver FinalStop FinalTo (b.derives_now c round block logs retained (with i)) devices
-  derived i used has (Some r) is =
-      by_result r i used has (retained_logs i.retained logs r is) (of_round st (λ x. IsResultIn c x st r) round of_epoch (has.kept r (retained_is i.retained logs r is)))
-  derived i used has None is = verifies i used has (if can_finish c round logs (with i) then refused_in c round (with i) else None) refl
+  derived i used queue has (Some r) is =
+      by_result r i used queue has (retained_logs i.retained logs r is) (of_round st (λ x. IsResultIn c x st r) round of_epoch (has.kept r (retained_is i.retained logs r is)))
+  derived i used queue has None is = verifies i used queue has (if can_finish c round logs (with i) then refused_in c round (with i) else None) refl
 
   -- behind the verification that ran
-  concludes_by : (i : Inclusion Dir) → i.used ≡ st.inclusion.used → HasAsked c stored (with i) → (before now : Option (Artifact Dir)) → cached_for st.inclusion.cached logs ≡ before → cached_for i.cached logs ≡ now
+  concludes_by : (i : Inclusion Dir) → i.used ≡ st.inclusion.used → i.queue ≡ st.inclusion.queue → HasAsked c stored (with i) → (before now : Option (Artifact Dir)) → cached_for st.inclusion.cached logs ≡ before → cached_for i.cached logs ≡ now
       → ComesOver FinalStop FinalTo (b.concludes_by c round block logs before now (with i)) devices
-  concludes_by i used has (Some made) now is at = concluded made i used (cached_is c stored round known.0 st live.asked.has of_epoch known.1 logs made is)
-  concludes_by i used has None (Some made) is at = concluded made i used (cached_is c stored round known.0 (with i) has of_epoch known.1 logs made at)
-  concludes_by i used has None None is at = derived i used has (retained_for i.retained logs) refl
+  concludes_by i used queue has (Some made) now is at = concluded made i used queue (cached_is c stored round known.0 st live.asked.has of_epoch known.1 logs made is)
+  concludes_by i used queue has None (Some made) is at = concluded made i used queue (cached_is c stored round known.0 (with i) has of_epoch known.1 logs made at)
+  concludes_by i used queue has None None is at = derived i used queue has (retained_for i.retained logs) refl
 
   pub final_comes : ComesOver FinalStop FinalTo (b.final_block c round block st) devices
   final_comes =
@@ -127,4 +127,4 @@ module _ {Dir : Type 0} (c : Fixed Dir) (form : IsFormThrough c) (stored : OfSha
           → ComesOver FinalStop FinalTo (b.concludes_by c round block logs (cached_for st.inclusion.cached logs) (cached_for end.inclusion.cached logs) end) devices
       behind end its =
           subst (λ (x : Live Dir). ComesOver FinalStop FinalTo (b.concludes_by c round block logs (cached_for st.inclusion.cached logs) (cached_for x.inclusion.cached logs) x) devices) (sym its.same)
-          (concludes_by end.inclusion its.used (subst (HasAsked c stored) its.same its.has) (cached_for st.inclusion.cached logs) (cached_for end.inclusion.cached logs) refl refl)
+          (concludes_by end.inclusion its.used its.queue (subst (HasAsked c stored) its.same its.has) (cached_for st.inclusion.cached logs) (cached_for end.inclusion.cached logs) refl refl)

@@ -1,8 +1,9 @@
 -- What an epoch's last block leaves: the carried info is committed and registered, and the next epoch is set up by it.
-use Rattle.std.proofs.Common.{◌≡◌, ℕ, Bool, true, false, List, [], ◌∷◌, Option, Some, None, refl, sym, ◌∙◌, ap, subst, arith}
+use Rattle.std.proofs.Common.{◌≡◌, inl, inr, ℕ, Bool, true, false, List, [], ◌∷◌, Option, Some, None, refl, sym, ◌∙◌, ap, subst, arith}
 use Rattle.std.specs.Prelude.{◌+◌, ◌==◌, ◌&&◌, if◌then◌else◌, is_some, is_none, option_map, IsSomeAnd, Ok}
 use Rattle.std.specs.Option.{option_map_or}
 use Rattle.std.proofs.lemmas.Bool.Decides.{nat_tests}
+use Rattle.dkg_values.specs.Rising.{lookup}
 use Rattle.dkg_ceremony.specs.declared.round.RoundParts.{RoundParts as Round}
 use Rattle.dkg_ceremony.specs.Schedule.{epoch_of}
 use Rattle.dkg_types.specs.Blocks.{Block}
@@ -18,6 +19,7 @@ use Rattle.dkg_core.specs.Fixed.{Fixed, OneShot}
 use Rattle.dkg_core.specs.Live.{Live, Inclusion, Request, Artifact, Told, GaveNone, is_last_height, with_tip, with_participation, with_inclusion, with_told}
 use Rattle.dkg_core.specs.Setup as s
 use Rattle.dkg_core.specs.Blocks as b
+use Rattle.dkg_core.specs.Laws.{IsAmong}
 use Rattle.dkg_core.specs.Endings.{validity}
 use Rattle.dkg_core.specs.Forms.{IsForm, ComesOver, FindsHeld, round_for, current_by, IsSetupFault, IsSeated, share_read, seed_read, committed_by, set_up_by}
 use Rattle.dkg_core.specs.Stepping.{next_epoch}
@@ -76,11 +78,48 @@ module _ {Dir : Type 0} (c : Fixed Dir) (stored : OfShares) where
 
 -- ANSWERING WHAT IS LEFT
 
+-- this number was told last that the epoch has finished
+abbrev IsToldOver : {Dir : Type 0} → List (ℕ × Told Dir) → ℕ → Type 0
+IsToldOver told number = lookup number told ≡ Some (GaveNone Finished)
+
+-- .. each of these
+abbrev pub AreToldOver : {Dir : Type 0} → List (Request Dir) → List (ℕ × Told Dir) → Type 0
+AreToldOver {Dir} queue told = (r : Request Dir) → IsAmong r queue → IsToldOver told r.number
+
+-- .. and it stays so where another is told so
+told_on : {Dir : Type 0} (told : List (ℕ × Told Dir)) (other number : ℕ) → IsToldOver told number → IsToldOver {Dir = Dir} ((other, GaveNone Finished) ∷ told) number
+told_on {Dir} told other number is = either (other == number)
+  where
+    either : (t : Bool) → ◌≡◌ {A = Option (Told Dir)} (if t then Some (GaveNone Finished) else lookup number told) (Some (GaveNone Finished))
+    either true = refl
+    either false = is
+
+told_now : {Dir : Type 0} (told : List (ℕ × Told Dir)) (number : ℕ) → IsToldOver {Dir = Dir} ((number, GaveNone Finished) ∷ told) number
+told_now {Dir} told number = either (number == number) (equal_number number number refl)
+  where
+    either : (t : Bool) → t ≡ true → ◌≡◌ {A = Option (Told Dir)} (if t then Some (GaveNone Finished) else lookup number told) (Some (GaveNone Finished))
+    either true e = refl
+    either false e = absurd (let no : ◌≡◌ {A = Bool} false true = e in cc)
+
 module _ {Dir : Type 0} (stops : Fault → Type 0) (goes : Live Dir → Option Held → Type 0) (devices : Option Held) (next : Live Dir → Course Dir Fault (Live Dir)) where
-  pub answers_all : (queue : List (Request Dir)) (now : Live Dir)
-      → ((told : List (ℕ × Told Dir)) → ComesOver stops goes (next (with_inclusion (record now.inclusion { queue = []; told = told }) now)) devices) → ComesOver stops goes (bind (b.answers_all queue now) next) devices
-  answers_all [] now so = so now.inclusion.told
-  answers_all (r ∷ rs) now so = answers_all rs (with_told r.number (GaveNone Finished) now) so
+  abbrev Next : Live Dir → List (ℕ × Told Dir) → Type 0
+  Next now told = ComesOver stops goes (next (with_inclusion (record now.inclusion { queue = []; told = told }) now)) devices
+
+  -- what was told stays
+  answers_on : (queue : List (Request Dir)) (now : Live Dir)
+      → ((told : List (ℕ × Told Dir)) → ((number : ℕ) → IsToldOver now.inclusion.told number → IsToldOver told number) → AreToldOver queue told → Next now told)
+      → ComesOver stops goes (bind (b.answers_all queue now) next) devices
+  answers_on [] now so = so now.inclusion.told (λ number is. is) (λ r among. absurd among)
+  answers_on (r ∷ rs) now so =
+      answers_on rs (with_told r.number (GaveNone Finished) now)
+      (λ told stays rest. so told (λ number is. stays number (told_on now.inclusion.told r.number number is)) (each told stays rest))
+    where
+      each : (told : List (ℕ × Told Dir)) → ((number : ℕ) → IsToldOver {Dir = Dir} ((r.number, GaveNone Finished) ∷ now.inclusion.told) number → IsToldOver told number) → AreToldOver rs told → AreToldOver (r ∷ rs) told
+      each told stays rest x (inl same) = subst (λ (y : Request Dir). IsToldOver told y.number) same (stays r.number (told_now now.inclusion.told r.number))
+      each told stays rest x (inr more) = rest x more
+
+  pub answers_all : (queue : List (Request Dir)) (now : Live Dir) → ((told : List (ℕ × Told Dir)) → AreToldOver queue told → Next now told) → ComesOver stops goes (bind (b.answers_all queue now) next) devices
+  answers_all queue now so = answers_on queue now (λ told stays all. so told all)
 
 -- A LAST BLOCK
 
@@ -136,7 +175,7 @@ module _ {Dir : Type 0} (c : Fixed Dir) (form : IsForm c) (stored : OfShares) (b
     abbrev pub registered : Inclusion Dir → Live Dir
     registered i = s.with_registered info.epoch (s.scheme_for c info share) (with_participation (record st.participation { current = Some info }) (with_inclusion i st))
 
-    module _ (i : Inclusion Dir) (used : i.used ≡ st.inclusion.used) where
+    module _ (i : Inclusion Dir) (used : i.used ≡ st.inclusion.used) (answered : AreToldOver st.inclusion.queue i.told) where
       abbrev before : Live Dir
       before = s.anew c (with_tip block (registered i))
 
@@ -169,6 +208,7 @@ module _ {Dir : Type 0} (c : Fixed Dir) (form : IsForm c) (stored : OfShares) (b
               seated = its.2;
               emptied = emptied;
               used = ap (λ (x : Inclusion Dir). x.used) its.3 ∙ used;
+              answered = λ r among. ap (λ (x : Inclusion Dir). lookup r.number x.told) its.3 ∙ answered r among;
               leaves = its.4 ∙ ap (λ (epoch : ℕ). option_map (set_up_by s.WasCommitted epoch info (share_read c info its.0) (seed_read c info its.0)) behind) awaited;
             },
           )
@@ -204,20 +244,20 @@ module _ {Dir : Type 0} (c : Fixed Dir) (form : IsForm c) (stored : OfShares) (b
 
   -- WHILE FOLLOWING
 
-  pub follows_into : (info : EpochInfo Dir) → info_of block.payload ≡ Some info → info.epoch ≡ next_epoch c block
+  pub follows_into : (info : EpochInfo Dir) → info_of block.payload ≡ Some info → info.epoch ≡ next_epoch c block → st.inclusion.queue ≡ []
       → ((h : Held) → IsShareTaken c stored st h info (share_read c info h) st.participation.stage) → ComesOver PassingStop PassedTo (b.follows_into c block info st) devices
-  follows_into info carries of_next shared =
+  follows_into info carries of_next none shared =
       over_asks PassingStop PassedTo devices
       (λ h. bind (s.commits info (seed_read c info h) (share_read c info h) st) (λ st. bind (s.registers c info (share_read c info h) st) (λ st. s.setup c None (with_tip block st))))
       (λ h found. commits info carries of_next h found (share_read c info h) (shared h) st.inclusion (λ st. s.setup c None (with_tip block st))
-      (setup info carries of_next h found (share_read c info h) (shared h) st.inclusion refl))
+      (setup info carries of_next h found (share_read c info h) (shared h) st.inclusion refl (λ r among. absurd (subst (IsAmong r) none among))))
 
   -- WHILE INCLUDING
 
   -- the carried info is taken over, with the artifact's share, from a life with another inclusion
-  pub concludes : (made : Artifact Dir) (i : Inclusion Dir) → i.used ≡ st.inclusion.used
+  pub concludes : (made : Artifact Dir) (i : Inclusion Dir) → i.used ≡ st.inclusion.used → i.queue ≡ st.inclusion.queue
       → ((info : EpochInfo Dir) (h : Held) → IsShareTaken c stored st h info (b.share_for c info made) st.participation.stage) → ComesOver PassingStop PassedTo (b.concludes c block made (with_inclusion i st)) devices
-  concludes made i used shared =
+  concludes made i used queue shared =
       subst (λ (o : Option (OneShot Dir)). ComesOver PassingStop PassedTo
       (if is_some o && is_none block.payload then (if is_some made.info then Stops (LocalState OutcomeOmitted) else b.passes_on c block None (with_inclusion i st))
       else b.carried c block (λ info. b.takes_over c block info (b.share_for c info made) (with_inclusion i st))) devices) (sym form.reshare)
@@ -234,4 +274,4 @@ module _ {Dir : Type 0} (c : Fixed Dir) (form : IsForm c) (stored : OfShares) (b
           (λ st. bind (b.answers_all st.inclusion.queue (with_tip block st)) (λ st. if is_some o then b.ends_once c (Some info) st else s.setup c None st)))) devices) (sym form.reshare)
           (commits info carries of_next h found share (shared info h) i (λ st. bind (b.answers_all st.inclusion.queue (with_tip block st)) (λ st. s.setup c None st))
           (answers_all PassingStop PassedTo (option_map (held_with c info share) devices) (λ st. s.setup c None st) i.queue (with_tip block (registered info carries of_next h found share (shared info h) i))
-          (λ told. setup info carries of_next h found share (shared info h) (record i { queue = []; told = told }) used))))
+          (λ told all. setup info carries of_next h found share (shared info h) (record i { queue = []; told = told }) used (λ r among. all r (subst (IsAmong r) (sym queue) among))))))

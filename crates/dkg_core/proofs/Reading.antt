@@ -24,6 +24,7 @@ module _ {Dir : Type 0} (c : Fixed Dir) (stored more : OfShares) (so : (epoch : 
   artifact_as round info st logs made is = record {
     provided = is.provided;
     info_is = is.info_is;
+    matched = is.matched;
     success = is.success;
     failure = λ none. (λ plays. so info.epoch made.share ((is.failure none).0 plays), (is.failure none).1);
   }

@@ -31,7 +31,7 @@ use Rattle.dkg_core.specs.Including as i
 use Rattle.dkg_core.specs.Blocks as b
 use Rattle.dkg_core.specs.Endings.{ComesTo, stage_in}
 use Rattle.dkg_core.specs.Forms.{IsForm, IsMine, IsLiveIn}
-use Rattle.dkg_core.specs.Stepping.{with_taken, own_half, with_own_dealing, with_own_ack, given_in, given_itself, IsDealingStop, dealt_behind, IsSameLife}
+use Rattle.dkg_core.specs.Stepping.{with_taken, own_half, with_own_dealing, with_own_ack, given_in, given_itself, NoOwnDiffers, IsDealingStop, dealt_behind, IsSameLife}
 use Rattle.dkg_core.proofs.Counting.{some_is, comes_if, comes_as, found_pair, recorded_live, taken_live, takes_ack}
 use Rattle.dkg_core.proofs.Heights.{next_below}
 use Rattle.dkg_core.proofs.Splitting.{comes_behind}
@@ -58,6 +58,18 @@ same_as : (kept dealt : List ℕ) → bytes_eq kept dealt ≡ true → kept ≡ 
 same_as kept dealt equal = (bytes_eq-Decides kept dealt).0 equal
 
 -- ITS OWN DEALING
+
+-- a dealing of this node that is recorded where it is still to be offered is what its dealer deals
+abbrev IsOwnAlike : {Dir : Type 0} → Fixed Dir → Live Dir → Round → Dealer → Type 0
+IsOwnAlike c st round dealer =
+    (kept : List ℕ × ℕ) → IsSome (own_half c round dealer) → st.participation.seat ≡ Plays → recorded_at st.records.dealings round.number c.me ≡ Some kept → kept.0 ≡ dealer.public
+
+none_differs : {Dir : Type 0} (c : Fixed Dir) (st : Live Dir) (round : Round) (dealer : Dealer) → st.participation.round ≡ Some round → st.participation.dealer ≡ Some dealer → IsOwnAlike c st round dealer
+    → NoOwnDiffers c st
+none_differs c st round dealer of_epoch of_dealer alike epoch kept dealt other =
+    let by_round : IsOwnAlike c st other.round dealer = subst (λ (r : Round). IsOwnAlike c st r dealer) (some_is round other.round (sym of_epoch ∙ other.of_epoch)) alike in
+    let by_dealer : IsOwnAlike c st other.round other.dealer = subst (IsOwnAlike c st other.round) (some_is dealer other.dealer (sym of_dealer ∙ other.of_dealer)) by_round in
+    other.differs (by_dealer (kept, other.private) other.unsent other.plays other.recorded ∙ sym other.is_dealt)
 
 module _ {Dir : Type 0} (c : Fixed Dir) (st : Live Dir) (round : Round) (of_epoch : st.participation.round ≡ Some round) (dealer : Dealer) (of_dealer : st.participation.dealer ≡ Some dealer) where
   abbrev Stop : Fault → Type 0
@@ -165,7 +177,7 @@ module _ {Dir : Type 0} (c : Fixed Dir) (st : Live Dir) (round : Round) (of_epoc
     given_by found = with_own_ack c round dealer (with_own_dealing c round dealer.public private st found) check
 
     abbrev IsThere : Option (List ℕ × ℕ) → Live Dir → Type 0
-    IsThere found end = (end ≡ given_by found) × IsGiven end
+    IsThere found end = (end ≡ given_by found) × IsGiven end × IsOwnAlike c st round dealer
 
     settled_by : (now : Live Dir) (kept : List ℕ × ℕ) → now.participation.dealer ≡ Some dealer → recorded_at now.records.dealings round.number c.me ≡ Some kept → kept.0 ≡ dealer.public
         → IsGiven (with_own_ack c round dealer now check)
@@ -180,7 +192,11 @@ module _ {Dir : Type 0} (c : Fixed Dir) (st : Live Dir) (round : Round) (of_epoc
     gives (Some kept) is =
         comes_if Stop (IsThere (Some kept)) (bytes_eq kept.0 dealer.public) (d.own_ack c round dealer.public st) (Stops (LocalState (OwnDealing round.number kept.0 dealer.public)))
         (λ e. comes_as Stop Stop (To (given_by (Some kept))) (IsThere (Some kept)) (d.own_ack c round dealer.public st) (λ fault stop. stop)
-        (λ end at. (at, subst IsGiven (sym at) (settled_by st kept of_dealer is (same_as kept.0 dealer.public e)))) (own_ack st of_dealer))
+        (λ end at. (
+          at,
+          subst IsGiven (sym at) (settled_by st kept of_dealer is (same_as kept.0 dealer.public e)),
+          λ other unsent plays recorded. ap (λ (p : List ℕ × ℕ). p.0) (some_is other kept (sym recorded ∙ is)) ∙ same_as kept.0 dealer.public e,
+        )) (own_ack st of_dealer))
         (λ e. record {
           round = round;
           of_epoch = of_epoch;
@@ -197,38 +213,43 @@ module _ {Dir : Type 0} (c : Fixed Dir) (st : Live Dir) (round : Round) (of_epoc
     gives None is =
         let now : Live Dir = d.with_dealing_of round.number c.me dealer.public private st in
         comes_as Stop Stop (To (given_by None)) (IsThere None) (d.own_ack c round dealer.public now) (λ fault stop. stop)
-        (λ end at. (at, subst IsGiven (sym at) (settled_by now (dealer.public, private) of_dealer (found_here st.records.dealings (round.number, c.me) (dealer.public, private)) refl))) (own_ack now of_dealer)
+        (λ end at. (
+          at,
+          subst IsGiven (sym at) (settled_by now (dealer.public, private) of_dealer (found_here st.records.dealings (round.number, c.me) (dealer.public, private)) refl),
+          λ other unsent plays recorded. absurd (none_apart other (sym is ∙ recorded)),
+        )) (own_ack now of_dealer)
 
   abbrev Left : (seat : Seat) → Option ℕ → Live Dir → Type 0
-  Left seat half end = (end ≡ given_in c round dealer st seat half) × Settled end
+  Left seat half end = (end ≡ given_in c round dealer st seat half) × Settled end × IsOwnAlike c st round dealer
 
   to_itself : (seat : Seat) (private : ℕ) → st.participation.seat ≡ seat → IsSome (own_half c round dealer) → ComesTo Stop (Left seat (Some private)) (d.offers_to_itself_in c round dealer.public private st seat)
-  to_itself Watches private is unsent = (refl, inl is)
+  to_itself Watches private is unsent = (refl, inl is, λ other unsent plays recorded. absurd (let no : ◌≡◌ {A = Seat} Plays Watches = sym plays ∙ is in cc))
   to_itself Plays private is unsent =
       let found = recorded_at st.records.dealings round.number c.me in
       comes_as Stop Stop (IsThere unsent is private found) (Left Plays (Some private)) (d.deals_to_itself_in c round dealer.public private st found) (λ fault stop. stop)
-      (λ end there. (there.0, inr there.1)) (gives unsent is private found refl)
+      (λ end there. (there.0, inr there.1, there.2)) (gives unsent is private found refl)
 
   nothing_given : (seat : Seat) → st ≡ given_in c round dealer st seat None
   nothing_given Plays = refl
   nothing_given Watches = refl
 
-  offers : (ps : List (ℕ × ℕ)) → lookup c.me ps ≡ own_half c round dealer
-      → ComesTo Stop (λ end. end ≡ given_in c round dealer st st.participation.seat (lookup c.me ps)) (d.offers c round dealer.public ps st)
-  offers [] half = nothing_given st.participation.seat
+  abbrev Offered : Option ℕ → Live Dir → Type 0
+  Offered half end = (end ≡ given_in c round dealer st st.participation.seat half) × IsOwnAlike c st round dealer
+
+  offers : (ps : List (ℕ × ℕ)) → lookup c.me ps ≡ own_half c round dealer → ComesTo Stop (Offered (lookup c.me ps)) (d.offers c round dealer.public ps st)
+  offers [] half = (nothing_given st.participation.seat, λ other unsent plays recorded. absurd (let no : ◌≡◌ {A = Bool} false true = subst IsSome (sym half) unsent in cc))
   offers (p ∷ ps) half = either (p.0 == c.me) refl half (offers ps)
     where
       has_half : (private : ℕ) (o : Option ℕ) → Some private ≡ o → IsSome o
       has_half private o is = subst IsSome is refl
 
       either : (t : Bool) → (p.0 == c.me) ≡ t → (if t then Some p.1 else lookup c.me ps) ≡ own_half c round dealer
-          → (lookup c.me ps ≡ own_half c round dealer → ComesTo Stop (λ end. end ≡ given_in c round dealer st st.participation.seat (lookup c.me ps)) (d.offers c round dealer.public ps st))
-          → ComesTo Stop (λ end. end ≡ given_in c round dealer st st.participation.seat (if t then Some p.1 else lookup c.me ps))
+          → (lookup c.me ps ≡ own_half c round dealer → ComesTo Stop (Offered (lookup c.me ps)) (d.offers c round dealer.public ps st)) → ComesTo Stop (Offered (if t then Some p.1 else lookup c.me ps))
           (if t then bind (d.offers_to_itself c round dealer.public p.1 st) (λ now. d.offers c round dealer.public ps now) else Say (Offer round.number p.0 dealer.public p.1) (d.offers c round dealer.public ps st))
       either true e its more =
-          comes_behind Stop (Left st.participation.seat (Some p.1)) (λ end. end ≡ given_in c round dealer st st.participation.seat (Some p.1)) (d.offers_to_itself c round dealer.public p.1 st)
+          comes_behind Stop (Left st.participation.seat (Some p.1)) (Offered (Some p.1)) (d.offers_to_itself c round dealer.public p.1 st)
           (λ now. d.offers c round dealer.public ps now) (to_itself st.participation.seat p.1 refl (has_half p.1 (own_half c round dealer) its))
-          (λ now left. subst (λ (x : Live Dir). ComesTo Stop (To x) (d.offers c round dealer.public ps now)) left.0 (offers_again now left.1 ps))
+          (λ now left. comes_as Stop Stop (To now) (Offered (Some p.1)) (d.offers c round dealer.public ps now) (λ fault stop. stop) (λ end at. (at ∙ left.0, left.2)) (offers_again now left.1 ps))
       either false e its more = more its
 
 -- WHATEVER THE LIFE HAS
@@ -238,13 +259,20 @@ module _ {Dir : Type 0} (c : Fixed Dir) (st : Live Dir) where
   given_of found its = option_map_or (λ round. option_map_or (λ dealer. given_in c round dealer st st.participation.seat (own_half c round dealer)) its st) found st
 
   deals_by : (found : Option Round) (its : Option Dealer) → st.participation.round ≡ found → st.participation.dealer ≡ its
-      → ComesTo (IsDealingStop c st) (λ end. end ≡ given_of found its) (option_map_or (λ round. option_map_or (λ dealer. d.offers c round dealer.public (s.unsent round dealer) st) its (Goes st)) found (Goes st))
-  deals_by None its of_epoch of_dealer = refl
-  deals_by (Some round) None of_epoch of_dealer = refl
-  deals_by (Some round) (Some dealer) of_epoch of_dealer = offers c st round of_epoch dealer of_dealer (s.unsent round dealer) refl
+      → ComesTo (IsDealingStop c st) (λ end. (end ≡ given_of found its) × NoOwnDiffers c st) (option_map_or (λ round. option_map_or (λ dealer. d.offers c round dealer.public (s.unsent round dealer) st) its (Goes st)) found (Goes st))
+  deals_by None its of_epoch of_dealer = (refl, λ epoch kept dealt other. none_apart other.round (sym of_epoch ∙ other.of_epoch))
+  deals_by (Some round) None of_epoch of_dealer = (refl, λ epoch kept dealt other. none_apart other.dealer (sym of_dealer ∙ other.of_dealer))
+  deals_by (Some round) (Some dealer) of_epoch of_dealer =
+      comes_as (IsDealingStop c st) (IsDealingStop c st) (Offered c st round of_epoch dealer of_dealer (own_half c round dealer)) (λ end. (end ≡ given_of (Some round) (Some dealer)) × NoOwnDiffers c st)
+      (d.offers c round dealer.public (s.unsent round dealer) st) (λ fault stop. stop) (λ end its. (its.0, none_differs c st round dealer of_epoch of_dealer its.1))
+      (offers c st round of_epoch dealer of_dealer (s.unsent round dealer) refl)
+
+  -- What it leaves is given to itself, and none that is recorded of it is another.
+  pub deals_alike : ComesTo (IsDealingStop c st) (λ end. (end ≡ given_itself c st) × NoOwnDiffers c st) (d.deals c st)
+  deals_alike = deals_by st.participation.round st.participation.dealer refl refl
 
   pub deals : ComesTo (IsDealingStop c st) (λ end. end ≡ given_itself c st) (d.deals c st)
-  deals = deals_by st.participation.round st.participation.dealer refl refl
+  deals = comes_as (IsDealingStop c st) (IsDealingStop c st) (λ end. (end ≡ given_itself c st) × NoOwnDiffers c st) (λ end. end ≡ given_itself c st) (d.deals c st) (λ fault stop. stop) (λ end its. its.0) deals_alike
 
   -- Nothing changes but what is recorded of dealings and acknowledgements, and the dealer: this life goes on so.
   pub record IsSameBut (end : Live Dir) : Type 0 where
@@ -419,11 +447,14 @@ module _ {Dir : Type 0} (c : Fixed Dir) (form : IsForm c) (block : Block Dir) wh
 
   pub dealing_comes : (st : Live Dir) → IsLiveIn c st → st.participation.stage ≡ Deals → st.participation.epoch ≡ epoch_of c.blocks_per_epoch block.height
       → block.height < midpoint c.blocks_per_epoch (epoch_of c.blocks_per_epoch block.height)
-      → ComesTo (IsDealingStop c st) (λ end. IsLiveIn c end × (end ≡ dealt_behind c block (given_itself c st))) (b.deals_at c block st)
+      → ComesTo (IsDealingStop c st) (λ end. IsLiveIn c end × (end ≡ dealt_behind c block (given_itself c st)) × NoOwnDiffers c st) (b.deals_at c block st)
   dealing_comes st live is here low =
       let mid = given_itself c st in
       let same = given_same c st in
       let next : Live Dir → Course Dir Fault (Live Dir) = λ now. if block.height + 1 == midpoint c.blocks_per_epoch now.participation.epoch then i.advanced c (s.begins_inclusion c (with_tip block now)) else Goes (with_tip block now) in
       let Behind_it : Live Dir → Type 0 = λ end. IsLiveIn c end × (end ≡ dealt_behind c block mid) in
-      comes_behind (IsDealingStop c st) (λ end. end ≡ mid) Behind_it (d.deals c st) next (deals c st)
-      (λ now at. subst (λ (x : Live Dir). ComesTo (IsDealingStop c st) Behind_it (next x)) (sym at) (ends mid (given_live c st live) (same.stage ∙ is) (same.same.epoch ∙ here) low (IsDealingStop c st)))
+      let Behind_so : Live Dir → Type 0 = λ end. IsLiveIn c end × (end ≡ dealt_behind c block mid) × NoOwnDiffers c st in
+      comes_behind (IsDealingStop c st) (λ end. (end ≡ mid) × NoOwnDiffers c st) Behind_so (d.deals c st) next (deals_alike c st)
+      (λ now at. subst (λ (x : Live Dir). ComesTo (IsDealingStop c st) Behind_so (next x)) (sym at.0)
+      (comes_as (IsDealingStop c st) (IsDealingStop c st) Behind_it Behind_so (next mid) (λ fault stop. stop) (λ end its. (its.0, its.1, at.1))
+      (ends mid (given_live c st live) (same.stage ∙ is) (same.same.epoch ∙ here) low (IsDealingStop c st))))

@@ -18,8 +18,8 @@ use Rattle.dkg_core.specs.Dealing as d
 use Rattle.dkg_core.specs.Including.{advanced, served_now}
 use Rattle.dkg_core.specs.Blocks as b
 use Rattle.dkg_core.specs.Core.{step}
-use Rattle.dkg_core.specs.Forms.{IsLiveIn, Judged, Applied, judged_block, ComesOver, share_read}
-use Rattle.dkg_core.specs.Stepping.{IsHeardBy, with_taken, own_half, with_own_dealing, with_own_ack, given_in, given_itself, IsDealingStop}
+use Rattle.dkg_core.specs.Forms.{IsLiveIn, Judged, Passed, Applied, judged_block, ComesOver, share_read}
+use Rattle.dkg_core.specs.Stepping.{IsHeardBy, with_taken, own_half, with_own_dealing, with_own_ack, given_in, given_itself, NoOwnDiffers, IsDealingStop}
 use Rattle.dkg_core.specs.Asked.{OfShares, read_somewhere, ReadsShare, InRound, HasAsked, IsInformed, IsAskStop, IsReadOn}
 use Rattle.dkg_core.specs.Through.{IsFormThrough, IsLiveThrough, IsTakenThrough, IsReadFrom, IsShareTaken, IsAppliedStopThrough, IsBlockStopThrough, IsAppliedThrough, IsBlockThrough, IsFollowedThrough, IsIncludedThrough, IsStopThrough, IsNextThrough, StepReads, StepsComeThrough, StepsLeadThrough, StepsLeadThroughOver, WasAsked, asked_by, included, unasked}
 use Rattle.dkg_core.proofs.Advancing.{advances_lead}
@@ -47,6 +47,9 @@ deals_apart e = cc
 
 deals_early : ◌≡◌ {A = Stage} Deals Includes → ⊥
 deals_early e = cc
+
+passed_apart : ◌≡◌ {A = Judged} Passed Applied → ⊥
+passed_apart e = cc
 
 includes_apart : ◌≡◌ {A = Stage} Includes Follows → ⊥
 includes_apart e = cc
@@ -205,6 +208,10 @@ module _ {Dir : Type 0} (c : Fixed Dir) (form : IsFormThrough c) (stored : OfSha
   abbrev To : Stage → Live Dir → Option Held → Type 0
   To stage end left = IsLiveThrough c stored end × IsAppliedThrough c stored block st devices stage end left
 
+  -- .. and where it deals, none of its own dealings is another
+  abbrev ToSo : Stage → Live Dir → Option Held → Type 0
+  ToSo stage end left = To stage end left × (stage ≡ Deals → NoOwnDiffers c st)
+
   reads_now : ReadsShare c stored devices
   reads_now h epoch found = reads h epoch (inl found)
 
@@ -280,22 +287,26 @@ module _ {Dir : Type 0} (c : Fixed Dir) (form : IsFormThrough c) (stored : OfSha
           by_queue (r ∷ rs) there =
               over_as (IsAskStop c begun) (Stop Deals) Begun Begun (advanced c begun) left (λ fault stop. inr (at_middle, (λ none. cons_apart (sym there ∙ none)), stop)) (λ end left its. its) comes
 
-      deals : ComesOver (Stop Deals) (To Deals) (b.deals_at c block st) devices
+      deals : ComesOver (Stop Deals) (ToSo Deals) (b.deals_at c block st) devices
       deals =
           let next : Live Dir → Course Dir Fault (Live Dir) =
           λ now. if block.height + 1 == midpoint c.blocks_per_epoch now.participation.epoch then advanced c (s.begins_inclusion c (with_tip block now)) else Goes (with_tip block now) in
-          over_behind (Stop Deals) (λ end left. end ≡ mid) (To Deals) (d.deals c st) next devices
-          (over_as (IsDealingStop c st) (Stop Deals) (λ end left. end ≡ mid) (λ end left. end ≡ mid) (d.deals c st) devices (λ fault stop. inl stop) (λ end left its. its)
-          (anywhere_over (IsDealingStop c st) (λ end. end ≡ mid) (d.deals c st) devices (dealing.deals c st)))
-          (λ end left its. subst (λ (x : Live Dir). ComesOver (Stop Deals) (To Deals) (next x) left) (sym its) (behind left))
+          let given : Live Dir → Option Held → Type 0 = λ end left. (end ≡ mid) × NoOwnDiffers c st in
+          over_behind (Stop Deals) given (ToSo Deals) (d.deals c st) next devices
+          (over_as (IsDealingStop c st) (Stop Deals) given given (d.deals c st) devices (λ fault stop. inl stop) (λ end left its. its)
+          (anywhere_over (IsDealingStop c st) (λ end. (end ≡ mid) × NoOwnDiffers c st) (d.deals c st) devices (dealing.deals_alike c st)))
+          (λ end left its. subst (λ (x : Live Dir). ComesOver (Stop Deals) (ToSo Deals) (next x) left) (sym its.0) (behind left its.1))
         where
           either : (left : Option Held) (t : Bool) → (block.height + 1 == midpoint c.blocks_per_epoch mid.participation.epoch) ≡ t
               → ComesOver (Stop Deals) (λ end left. IsLiveThrough c stored end × IsReadFrom c (goes t) end) (if t then advanced c begun else Goes tip) left
           either left true e = begins e left
           either left false e = (goes_on e, unread c tip mid.inclusion mid.inclusion refl refl refl refl)
 
-          behind : (left : Option Held) → ComesOver (Stop Deals) (To Deals) (if block.height + 1 == midpoint c.blocks_per_epoch mid.participation.epoch then advanced c begun else Goes tip) left
-          behind left = either left (block.height + 1 == midpoint c.blocks_per_epoch mid.participation.epoch) refl
+          behind : (left : Option Held) → NoOwnDiffers c st
+              → ComesOver (Stop Deals) (ToSo Deals) (if block.height + 1 == midpoint c.blocks_per_epoch mid.participation.epoch then advanced c begun else Goes tip) left
+          behind left none =
+              over_as (Stop Deals) (Stop Deals) (To Deals) (ToSo Deals) (if block.height + 1 == midpoint c.blocks_per_epoch mid.participation.epoch then advanced c begun else Goes tip) left
+              (λ fault stop. stop) (λ end last its. (its, λ deals. none)) (either left (block.height + 1 == midpoint c.blocks_per_epoch mid.participation.epoch) refl)
 
     -- WHILE INCLUDING
 
@@ -359,14 +370,18 @@ module _ {Dir : Type 0} (c : Fixed Dir) (form : IsFormThrough c) (stored : OfSha
           (b.carried c block (λ info. b.follows_into c block info st)) devices (λ fault stop. (last, stop))
           (λ end left its. (its.0, subst (λ (t : Bool). IsFollowedThrough c stored block st devices t end left) (sym last) its.1))
           (passing.by_carried c form.form stored block last st devices (λ info. b.follows_into c block info st)
-          (λ info carries of_next. passing.follows_into c form.form stored block last st devices info carries of_next
+          (λ info carries of_next. passing.follows_into c form.form stored block last st devices info carries of_next (live.asked.has.none is)
           (λ h. subst (λ (stage : Stage). IsShareTaken c stored st h info (share_read c info h) stage) (sym is) refl))))
           (λ below. (at_tip, subst (λ (t : Bool). IsFollowedThrough c stored block st devices t (with_tip block st) devices) (sym below) refl))
 
-    applied : (stage : Stage) → st.participation.stage ≡ stage → ComesOver (Stop stage) (To stage) (b.applies_in c block st stage) devices
+    not_dealing : (stage : Stage) → (stage ≡ Deals → ⊥) → ComesOver (Stop stage) (To stage) (b.applies_in c block st stage) devices → ComesOver (Stop stage) (ToSo stage) (b.applies_in c block st stage) devices
+    not_dealing stage apart comes =
+        over_as (Stop stage) (Stop stage) (To stage) (ToSo stage) (b.applies_in c block st stage) devices (λ fault stop. stop) (λ end left its. (its, λ deals. absurd (apart deals))) comes
+
+    applied : (stage : Stage) → st.participation.stage ≡ stage → ComesOver (Stop stage) (ToSo stage) (b.applies_in c block st stage) devices
     applied Deals is = deals is
-    applied Includes is = in_round is st.participation.round refl
-    applied Follows is = follows is
+    applied Includes is = not_dealing Includes (λ deals. deals_early (sym deals)) (in_round is st.participation.round refl)
+    applied Follows is = not_dealing Follows (λ deals. deals_apart (sym deals)) (follows is)
     applied Ends is = absurd (not_ended c st live.stands is)
 
   -- WHATEVER IT IS
@@ -381,10 +396,10 @@ module _ {Dir : Type 0} (c : Fixed Dir) (form : IsFormThrough c) (stored : OfSha
   block_comes =
       judged_comes c block st devices BlockStop BlockTo
       (λ fault is. subst (λ (j : Judged). IsBlockStopThrough c stored block st devices j fault) (sym is) refl)
-      (λ is. record { live = live; is = subst (λ (j : Judged). IsBlockThrough c stored block st devices j st devices) (sym is) (refl, refl) })
-      (λ is. over_as (Stop st.participation.stage) BlockStop (To st.participation.stage) BlockTo (b.applies c block st) devices
+      (λ is. record { live = live; is = subst (λ (j : Judged). IsBlockThrough c stored block st devices j st devices) (sym is) (refl, refl); own = λ accepted deals. absurd (passed_apart (sym is ∙ accepted)) })
+      (λ is. over_as (Stop st.participation.stage) BlockStop (ToSo st.participation.stage) BlockTo (b.applies c block st) devices
       (λ fault stop. subst (λ (j : Judged). IsBlockStopThrough c stored block st devices j fault) (sym is) stop)
-      (λ end left its. record { live = its.0; is = subst (λ (j : Judged). IsBlockThrough c stored block st devices j end left) (sym is) its.1 })
+      (λ end left its. record { live = its.0.0; is = subst (λ (j : Judged). IsBlockThrough c stored block st devices j end left) (sym is) its.0.1; own = λ accepted. its.1 })
       (applied is st.participation.stage refl))
       (not_ended c st live.stands)
 
@@ -419,17 +434,17 @@ module _ {Dir : Type 0} (c : Fixed Dir) (form : IsFormThrough c) (stored : OfSha
   steps (Finalized block) taken = block_comes c form stored st live block devices reads
   steps (Sent (Peer from bytes)) taken =
       over_as (Never c stored st live from) (IsStopThrough c stored st (Sent (Peer from bytes)) devices) (λ end left. IsHeardBy c st from end × IsLiveThrough c stored end) (Left (Sent (Peer from bytes)))
-      (step c (Sent (Peer from bytes)) st) devices (λ fault never. never) (λ end left its. record { live = its.1; is = its.0 }) (hears c stored st live from bytes st.participation.stage refl devices)
+      (step c (Sent (Peer from bytes)) st) devices (λ fault never. never) (λ end left its. record { live = its.1; is = its.0; own = tt }) (hears c stored st live from bytes st.participation.stage refl devices)
   steps (Sent (NextLog request height)) taken =
       over_as (IsStopThrough c stored st (Sent (NextLog request height)) devices) (IsStopThrough c stored st (Sent (NextLog request height)) devices) (ReadIn (NextLog request height)) (Left (Sent (NextLog request height)))
-      (step c (Sent (NextLog request height)) st) devices (λ fault stop. stop) (λ end left its. record { live = its.0; is = (its.1, its.2) })
+      (step c (Sent (NextLog request height)) st) devices (λ fault stop. stop) (λ end left its. record { live = its.0; is = (its.1, its.2); own = tt })
       (mail.serves c form stored st live devices now_reads (IsStopThrough c stored st (Sent (NextLog request height)) devices) request height (served_now (with_used request st)) refl)
-  steps (Sent (ReleaseLog height)) taken = let its = mail.releases c form stored st live devices now_reads height in record { live = its.0; is = (its.1, its.2) }
-  steps (Sent (EpochInfoOf request)) taken = requests (EpochInfoOf request) tt (λ end left its. record { live = its.0; is = (its.1, its.2) }) taken
-  steps (Sent (Feed request block)) taken = requests (Feed request block) tt (λ end left its. record { live = its.0; is = (its.1, its.2) }) taken
-  steps (Sent (Over request)) taken = requests (Over request) tt (λ end left its. record { live = its.0; is = (its.1, its.2) }) taken
-  steps (Sent (Cancel request)) taken = requests (Cancel request) tt (λ end left its. record { live = its.0; is = (its.1, its.2) }) taken
-  steps (Sent (Work handed)) taken = requests (Work handed) tt (λ end left its. record { live = its.0; is = (its.1, its.2) }) taken
+  steps (Sent (ReleaseLog height)) taken = let its = mail.releases c form stored st live devices now_reads height in record { live = its.0; is = (its.1, its.2); own = tt }
+  steps (Sent (EpochInfoOf request)) taken = requests (EpochInfoOf request) tt (λ end left its. record { live = its.0; is = (its.1, its.2); own = tt }) taken
+  steps (Sent (Feed request block)) taken = requests (Feed request block) tt (λ end left its. record { live = its.0; is = (its.1, its.2); own = tt }) taken
+  steps (Sent (Over request)) taken = requests (Over request) tt (λ end left its. record { live = its.0; is = (its.1, its.2); own = tt }) taken
+  steps (Sent (Cancel request)) taken = requests (Cancel request) tt (λ end left its. record { live = its.0; is = (its.1, its.2); own = tt }) taken
+  steps (Sent (Work handed)) taken = requests (Work handed) tt (λ end left its. record { live = its.0; is = (its.1, its.2); own = tt }) taken
 
 pub steps_come_through : {Dir : Type 0} → StepsComeThrough Dir
 steps_come_through c stored st message devices form reads taken live = steps c form stored st live devices reads message taken

@@ -29,7 +29,7 @@ use Rattle.dkg_core.specs.Behind.{OnlySays, IsAside, IsSameBeside, event_of}
 use Rattle.dkg_core.specs.Endings.{ComesTo, CameTo, stage_in, answer_in}
 use Rattle.dkg_core.specs.NodeEndings.{IsFaultBy}
 use Rattle.dkg_core.specs.Forms.{IsForm, IsLiveIn, IsActiveIn, Judged, Refusal, Passed, Applied, judged_over, judged_block, IsTakenIn, ComesOver, FindsHeld}
-use Rattle.dkg_core.specs.Stepping.{with_taken, held_at_setup, given_itself, dealt_behind, IsDealingStop, IsFollowedEnd, IsAppliedStop, IsBlockStop, IsAppliedEnd, IsBlockEnd, IsStepStop, IsNextIn, IsHeardBy, LeavesTaken, StepsLead, StepsLeadOver, HalvesGoOn, NodeStepsLead, NodeStepsLeadOver, IsSameLife, NextLivesStay}
+use Rattle.dkg_core.specs.Stepping.{with_taken, held_at_setup, given_itself, NoOwnDiffers, dealt_behind, IsDealingStop, IsFollowedEnd, IsAppliedStop, IsBlockStop, IsAppliedEnd, IsBlockEnd, IsStepStop, IsNextIn, IsHeardBy, LeavesTaken, StepsLead, StepsLeadOver, HalvesGoOn, NodeStepsLead, NodeStepsLeadOver, IsSameLife, NextLivesStay}
 use Rattle.dkg_core.proofs.Applied.{place_of, judged_comes}
 use Rattle.dkg_core.proofs.Behind.{heard_aside, block_aside}
 use Rattle.dkg_core.proofs.Counting.{comes_if}
@@ -146,7 +146,7 @@ module _ {Dir : Type 0} (c : Fixed Dir) (form : IsForm c) (st : Live Dir) (live 
 
       dealt : st.participation.stage ≡ Deals → ComesOver Stop To (b.deals_at c block st) devices
       dealt is =
-          let Behind : Live Dir → Type 0 = λ end. IsLiveIn c end × (end ≡ dealt_behind c block (given_itself c st)) in
+          let Behind : Live Dir → Type 0 = λ end. IsLiveIn c end × (end ≡ dealt_behind c block (given_itself c st)) × NoOwnDiffers c st in
           over_as (IsDealingStop c st) Stop (λ end left. Behind end) To (b.deals_at c block st) devices
           (λ fault stop. (known.0, known.1, known.2, known.3, stop_at Deals is known.0 known.1 fault stop))
           (λ end left its. (
@@ -154,7 +154,7 @@ module _ {Dir : Type 0} (c : Fixed Dir) (form : IsForm c) (st : Live Dir) (live 
             known.1,
             known.2,
             known.3,
-            end_at Deals is known.0 known.1 end its.0 its.1,
+            end_at Deals is known.0 known.1 end its.0 (its.1, its.2),
             nothing_taken known.1 left (λ applied follows last. deals_apart (sym is ∙ follows)),
           ))
           (anywhere_over (IsDealingStop c st) Behind (b.deals_at c block st) devices (dealing_comes c form block st live is (here is) (below Deals is deals_apart)))
@@ -482,7 +482,7 @@ module _ {Dir : Type 0} (c : Fixed Dir) (form : IsForm c) (st : Live Dir) (live 
     applied_active : (accepted : judged_block c block st ≡ Applied) (stage : Stage) → st.participation.stage ≡ stage → (h k : Held) (end : Live Dir) → IsLiveIn c end → IsAppliedEnd c block st h k stage end
         → IsActiveIn end × IsBelow block end
     applied_active accepted Deals is h k end alive at =
-        let low = low_where (taken accepted) is in dealt_active is low end alive (subst (Framed is low) (sym at) (framed is low))
+        let low = low_where (taken accepted) is in dealt_active is low end alive (subst (Framed is low) (sym at.0) (framed is low))
     applied_active accepted Includes is h k end alive at = absurd at
     applied_active accepted Follows is h k end alive at = followed_active is h k (is_last_height c block.height) end at
     applied_active accepted Ends is h k end alive at = absurd at
@@ -601,7 +601,7 @@ module _ {Dir : Type 0} (c : Fixed Dir) (st : Live Dir) where
     followed_stays h k false end none its = subst (IsSameLife st) (sym its) (record { epoch = refl; round = refl; seat = refl; current = refl; logs = refl; orchestrator = refl; probe = refl })
 
     applied_stays : (stage : Stage) (h k : Held) (end : Live Dir) → (stage ≡ Follows → is_last_height c block.height ≡ true → ⊥) → IsAppliedEnd c block st h k stage end → IsSameLife st end
-    applied_stays Deals h k end none at = subst (IsSameLife st) (sym at) (dealt_stays (given_itself c st) (given_same c st).same)
+    applied_stays Deals h k end none at = subst (IsSameLife st) (sym at.0) (dealt_stays (given_itself c st) (given_same c st).same)
     applied_stays Includes h k end none at = absurd at
     applied_stays Follows h k end none at = followed_stays h k (is_last_height c block.height) end (none refl) at
     applied_stays Ends h k end none at = absurd at

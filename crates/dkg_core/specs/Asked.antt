@@ -40,11 +40,12 @@ pub record IsProvided {Dir : Type 0} (c : Fixed Dir) (info : EpochInfo Dir) : Ty
   pub some : 1 ≤ length (c.provided.participants (info.epoch + 2))
   pub in_bound : length (c.provided.participants (info.epoch + 2)) ≤ c.limit
 
--- What an artifact is, of some logs of the epoch: the info that follows. Its share fits the outcome, and is there where this node has a player for the logs (plays);
--- or it is what is stored and carried on.
+-- What an artifact is, of some logs of the epoch: the info that follows, whose directory is one of its peers. Its share fits the outcome, and is there where this node
+-- has a player for the logs (plays); or it is what is stored and carried on.
 pub record IsArtifactOf {Dir : Type 0} (c : Fixed Dir) (stored : OfShares) (round : Round) (info : EpochInfo Dir) (plays : Bool) (logs : LogMap) (made : Artifact Dir) : Type 0 where
   pub provided : IsProvided c info
   pub info_is : made.info ≡ Some (next_info c.rules.outcome_of c.provided info round logs)
+  pub matched : (its : EpochInfo Dir) → made.info ≡ Some its → c.directories.matches its.directory (info_peers its) ≡ true
   pub success : (output : Output) → c.rules.outcome_of round logs ≡ Some output
       → (is_some made.share ≡ plays) × ((share : ℕ) → made.share ≡ Some share → c.rules.partial_public_of output c.me ≡ Some (c.rules.share_public_of share))
   pub failure : c.rules.outcome_of round logs ≡ None

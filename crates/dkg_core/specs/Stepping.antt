@@ -105,6 +105,10 @@ pub record OwnDiffers {Dir : Type 0} (c : Fixed Dir) (st : Live Dir) (epoch : �
   pub recorded : recorded_at st.records.dealings round.number c.me ≡ Some (kept, private)
   pub differs : kept ≡ dealt → ⊥
 
+-- .. and none is another
+abbrev pub NoOwnDiffers : {Dir : Type 0} → Fixed Dir → Live Dir → Type 0
+NoOwnDiffers c st = (epoch : ℕ) (kept dealt : List ℕ) → OwnDiffers c st epoch kept dealt → ⊥
+
 abbrev pub IsDealingStop : {Dir : Type 0} → Fixed Dir → Live Dir → Fault → Type 0
 IsDealingStop c st (LocalState (OwnDealing epoch kept dealt)) = OwnDiffers c st epoch kept dealt
 IsDealingStop c st fault = ⊥
@@ -167,9 +171,9 @@ abbrev pub IsFollowedEnd : {Dir : Type 0} → Fixed Dir → Block Dir → Live D
 IsFollowedEnd c b st h k true end = IsTakenOver c b st h k end
 IsFollowedEnd c b st h k false end = end ≡ with_tip b st
 
--- .. and of any: while dealing the own dealing is given
+-- .. and of any: while dealing the own dealing is given, and none that is recorded is another
 abbrev pub IsAppliedEnd : {Dir : Type 0} → Fixed Dir → Block Dir → Live Dir → (h k : Held) → Stage → Live Dir → Type 0
-IsAppliedEnd c b st h k Deals end = end ≡ dealt_behind c b (given_itself c st)
+IsAppliedEnd c b st h k Deals end = (end ≡ dealt_behind c b (given_itself c st)) × NoOwnDiffers c st
 IsAppliedEnd c b st h k Follows end = IsFollowedEnd c b st h k (is_last_height c b.height) end
 IsAppliedEnd c b st h k stage end = ⊥
 

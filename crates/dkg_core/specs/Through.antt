@@ -9,6 +9,7 @@ use Rattle.dkg_ceremony.specs.Schedule.{epoch_of, midpoint}
 use Rattle.dkg_types.specs.Blocks.{Block}
 use Rattle.dkg_types.specs.BlockCodes.{info_of}
 use Rattle.dkg_types.specs.declared.entry.Entry.{Entry as Line}
+use Rattle.dkg_types.specs.declared.entry.Why.TheVariants.{Finished}
 use Rattle.dkg_types.specs.declared.fault.Fault.{Fault}
 use Rattle.dkg_types.specs.declared.fault.Fault.TheVariants.{HeightRange, MissingEpochInfo, WrongEpoch}
 use Rattle.dkg_types.specs.declared.info.EpochInfo.{EpochInfo}
@@ -18,15 +19,16 @@ use Rattle.dkg_store.specs.Acts.{Held, World, Ended, OnDisk, after}
 use Rattle.dkg_core.specs.Courses.{on_devices, EndsSo}
 use Rattle.dkg_core.specs.Said.{Said}
 use Rattle.dkg_core.specs.Fixed.{Fixed}
-use Rattle.dkg_core.specs.Live.{Live, Stage, Deals, Includes, Follows, Ends, Mail, Peer, NextLog, ReleaseLog, EpochInfoOf, Feed, Over, Cancel, Work, Message, Sent, Finalized, Request, Job, Artifact, awaited_height, recorded_at, is_last_height, with_tip, with_inclusion, with_queue, with_used}
+use Rattle.dkg_core.specs.Live.{Live, Stage, Deals, Includes, Follows, Ends, Mail, Peer, NextLog, ReleaseLog, EpochInfoOf, Feed, Over, Cancel, Work, Message, Sent, Finalized, Request, Job, Artifact, GaveNone, awaited_height, recorded_at, is_last_height, with_tip, with_inclusion, with_queue, with_used}
 use Rattle.dkg_core.specs.Logs.{canonical, is_accepted}
 use Rattle.dkg_core.specs.Setup.{Standing, Uncommitted, WasCommitted, is_past_range, with_info}
 use Rattle.dkg_core.specs.Including.{releases, queued, changed, is_of_job}
 use Rattle.dkg_core.specs.Blocks.{without_own_log, with_log, unserved, share_for}
 use Rattle.dkg_core.specs.Core.{no_inclusion, step}
+use Rattle.dkg_core.specs.Laws.{IsAmong}
 use Rattle.dkg_core.specs.Endings.{CameTo}
 use Rattle.dkg_core.specs.Forms.{IsForm, IsLiveIn, Judged, Refusal, Passed, Applied, judged_block, ComesOver, FindsHeld, IsSetupFault, IsSeated, share_read, seed_read, committed_by, set_up_by}
-use Rattle.dkg_core.specs.Stepping.{IsHeardBy, given_itself, IsDealingStop, dealt_behind, next_epoch, taken_over}
+use Rattle.dkg_core.specs.Stepping.{IsHeardBy, given_itself, NoOwnDiffers, IsDealingStop, dealt_behind, next_epoch, taken_over}
 use Rattle.dkg_core.specs.Finishing.{IsFinishing}
 use Rattle.dkg_core.specs.Asked.{OfShares, read_somewhere, IsArtifactIn, IsResultIn, InRound, InEpoch, IsAsked, IsEmptied, IsInformed, IsStarted, IsAskStop}
 
@@ -141,13 +143,15 @@ pub record IsCarriedOn {Dir : Type 0} (c : Fixed Dir) (stored : OfShares) (b : B
   pub k : Held
   pub between : FindsHeld (option_map (held_with c info share) devices) k
 
--- .. by which the life takes part in the next epoch. Nothing is left of requests but which numbers were used and what they were told.
+-- .. by which the life takes part in the next epoch. Nothing is left of requests but which numbers were used and what they were told: each that was still to be read is
+-- told that the epoch has finished.
 pub record IsPassedOn {Dir : Type 0} (c : Fixed Dir) (stored : OfShares) (b : Block Dir) (st : Live Dir) (devices : Option Held) (end : Live Dir) (left : Option Held) : Type 0 where
   pub on : IsCarriedOn c stored b st devices
   pub in_range : is_past_range c (b.height + 1) ≡ false
   pub seated : IsSeated c WasCommitted on.info (share_read c on.info on.k) (seed_read c on.info on.k) (unasked (taken_over c b on.info on.share st)) (unasked end)
   pub emptied : IsEmptied end.inclusion
   pub used : end.inclusion.used ≡ st.inclusion.used
+  pub answered : (r : Request Dir) → IsAmong r st.inclusion.queue → lookup r.number end.inclusion.told ≡ Some (GaveNone Finished)
   pub leaves : left ≡ option_map (set_up_by WasCommitted (next_epoch c b) on.info (share_read c on.info on.k) (seed_read c on.info on.k)) (option_map (held_with c on.info on.share) devices)
 
 -- what it stops by: there is no info, or one of another epoch, the next epoch lies out of range, or the setup stops
@@ -219,10 +223,16 @@ IsEndThrough c stored st (Finalized b) devices end left = IsBlockThrough c store
 IsEndThrough c stored st (Sent (Peer from bytes)) devices end left = IsHeardBy c st from end
 IsEndThrough c stored st (Sent mail) devices end left = IsReadFrom c (asked_by mail st) end × (left ≡ devices)
 
+-- A block that is applied while dealing goes on only where no recorded dealing of this node is another than its dealer deals.
+abbrev pub NoOwnDiffersAt : {Dir : Type 0} → Fixed Dir → Live Dir → Message Dir → Type 0
+NoOwnDiffersAt c st (Finalized b) = judged_block c b st ≡ Applied → st.participation.stage ≡ Deals → NoOwnDiffers c st
+NoOwnDiffersAt c st (Sent mail) = Unit {0}
+
 -- A life of the form is left.
 pub record IsNextThrough {Dir : Type 0} (c : Fixed Dir) (stored : OfShares) (st : Live Dir) (message : Message Dir) (devices : Option Held) (end : Live Dir) (left : Option Held) : Type 0 where
   pub live : IsLiveThrough c stored end
   pub is : IsEndThrough c stored st message devices end left
+  pub own : NoOwnDiffersAt c st message
 
 -- what a read may find in a step that includes a block: what the devices hold, or that with a record more
 abbrev pub FindsOn : Option Held → Held → Type 0

@@ -182,7 +182,7 @@ module _ (g : Lived) (i k : ℕ) where
       → IsArtifactOf (at_step g i) stored round info plays logs made → IsArtifactOf (at_step g k) stored round info plays logs made
   unfolding at_step
   same_artifact stored round info plays logs made is =
-      record { info_is = is.info_is; provided = record { in_range = is.provided.in_range; some = is.provided.some; in_bound = is.provided.in_bound }; success = is.success; failure = is.failure }
+      record { info_is = is.info_is; matched = is.matched; provided = record { in_range = is.provided.in_range; some = is.provided.some; in_bound = is.provided.in_bound }; success = is.success; failure = is.failure }
 
   same_asked : (stored : OfShares) (st : Live directory.Unit) → HasAsked (at_step g i) stored st → HasAsked (at_step g k) stored st
   unfolding at_step
