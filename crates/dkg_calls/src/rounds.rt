@@ -152,6 +152,37 @@ fn log_by(
     Ok(signed.log)
 }
 
+/// A dealer's dealing to player 1.
+fn dealt_to_first(
+    alloc: Global,
+    round: &Round,
+    previous: Option<&Output>,
+    dealer: Key,
+    shift: u32,
+) -> Result<(Public, Private), Fail> {
+    let (public, privates) = deal_by(alloc, round, previous, dealer, shift)?;
+    let private = *privates.get(Key(1)).ok_or("player 1 is dealt to")?;
+    Ok((public, private))
+}
+
+/// What a dealer reveals, of its dealing or of another one.
+fn revealed_by(
+    alloc: Global,
+    round: &Round,
+    previous: Option<&Output>,
+    dealer: Key,
+    code: u8,
+    shift: u32,
+) -> Result<Map<Private>, Fail> {
+    let other = if code == WRONG_REVEAL {
+        shift.wrapping_add(50)
+    } else {
+        shift
+    };
+    let (_, revealed) = deal_by(alloc, round, previous, dealer, other)?;
+    Ok(revealed)
+}
+
 /// What a dealer does in a round: its log, and its dealing to player 1.
 fn part_of(
     alloc: Global,
@@ -161,16 +192,10 @@ fn part_of(
     code: u8,
     shift: u32,
 ) -> Result<(DealerLog, (Public, Private)), Fail> {
-    let (public, privates) = deal_by(alloc, round, previous, dealer, shift)?;
-    let private = *privates.get(Key(1)).ok_or("player 1 is dealt to")?;
-    let other = if code == WRONG_REVEAL {
-        shift.wrapping_add(50)
-    } else {
-        shift
-    };
-    let (_, revealed) = deal_by(alloc, round, previous, dealer, other)?;
-    let log = log_by(alloc, round, dealer, &public, &revealed, code)?;
-    Ok((log, (public, private)))
+    let dealing = dealt_to_first(alloc, round, previous, dealer, shift)?;
+    let revealed = revealed_by(alloc, round, previous, dealer, code, shift)?;
+    let log = log_by(alloc, round, dealer, &dealing.0, &revealed, code)?;
+    Ok((log, dealing))
 }
 
 #[derive(Drop)]
@@ -178,6 +203,62 @@ struct Scene {
     round: Round,
     dealings: Map<(Public, Private)>,
     logs: Map<DealerLog>,
+}
+
+/// What the dealers of a round did so far.
+#[derive(Drop)]
+struct Parts {
+    dealings: Vec<(Key, (Public, Private))>,
+    logs: Vec<(Key, DealerLog)>,
+}
+
+impl Parts {
+    /// Takes a dealer's part, whose log may be missing.
+    fn add(
+        &mut self,
+        dealer: Key,
+        log: DealerLog,
+        dealing: (Public, Private),
+        code: u8,
+    ) -> Result<(), Fail> {
+        self.dealings.push((dealer, dealing))?;
+        if code != NO_LOG {
+            self.logs.push((dealer, log))?;
+        }
+        Ok(())
+    }
+}
+
+/// What each dealer of a round does, as its code says.
+fn parts_of(
+    alloc: Global,
+    round: &Round,
+    previous: Option<&Output>,
+    codes: &[u8],
+    shift: u32,
+) -> Result<Parts, Fail> {
+    let mut parts = Parts {
+        dealings: Vec::new(alloc),
+        logs: Vec::new(alloc),
+    };
+    for (place, dealer) in round.parts().dealers.as_slice().iter().enumerate() {
+        let code = codes.get(place).copied().unwrap_or(0);
+        let (log, dealing) = part_of(alloc, round, previous, *dealer, code, shift)?;
+        parts.add(*dealer, log, dealing, code)?;
+    }
+    Ok(parts)
+}
+
+/// A round of the first keys.
+fn round_of(
+    alloc: Global,
+    previous: Option<&Output>,
+    dealers: u32,
+    players: u32,
+) -> Result<Round, Fail> {
+    let dealers = first_keys(alloc, dealers)?;
+    let players = first_keys(alloc, players)?;
+    Ok(draw(&StandCeremony, alloc, previous, &dealers, &players)?)
 }
 
 /// A round of the first keys in which each dealer does as its code says.
@@ -189,19 +270,8 @@ fn play(
     codes: &[u8],
     shift: u32,
 ) -> Result<Scene, Fail> {
-    let dealers = first_keys(alloc, dealers)?;
-    let players = first_keys(alloc, players)?;
-    let round = draw(&StandCeremony, alloc, previous, &dealers, &players)?;
-    let mut dealings = Vec::new(alloc);
-    let mut logs = Vec::new(alloc);
-    for (place, dealer) in dealers.as_slice().iter().enumerate() {
-        let code = codes.get(place).copied().unwrap_or(0);
-        let (log, dealing) = part_of(alloc, &round, previous, *dealer, code, shift)?;
-        dealings.push((*dealer, dealing))?;
-        if code != NO_LOG {
-            logs.push((*dealer, log))?;
-        }
-    }
+    let round = round_of(alloc, previous, dealers, players)?;
+    let Parts { dealings, logs } = parts_of(alloc, &round, previous, codes, shift)?;
     let dealings = map_of(alloc, dealings)?;
     let logs = map_of(alloc, logs)?;
     Ok(Scene {
