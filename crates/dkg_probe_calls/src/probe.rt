@@ -11,8 +11,9 @@ use dkg_probe::*;
 use dkg_turn::{Carries, Turn, TurnLock};
 use dkg_types::{
     Address, AddressableManager, AddressedPeerManager, Addresses, Block, BlockedWhy, Context,
-    Entry, EpochInfo, Finalization, KeyOnlyManager, MissingAddress, Participants, Payload,
-    PeerManager, Provider, Socket, StandScheme, TrackedPeers, Transcript, Unit,
+    Directory, Entry, EpochInfo, Finalization, KeyOnlyManager, Manager, MissingAddress,
+    Participants, Payload, PeerManager, Provider, Scheme, Socket, StandScheme, TrackedPeers,
+    Transcript, Unit,
 };
 use std::alloc::Global;
 use std::num::{NonZeroU32, NonZeroU64};
@@ -185,19 +186,12 @@ impl AddressedPeerManager for Counts {
 }
 
 /// The keys 1 to 4 as dealers, and no players.
-fn participants(alloc: Global) -> Result<Participants, Fail>
-    ensures { IfOk result (λ made. length made.players + length made.next_players < 2 ^ 32) }
-{
-    let participants = Participants {
+fn participants(alloc: Global) -> Result<Participants, Fail> {
+    Ok(Participants {
         dealers: Set::from_any(alloc, &[Key(1), Key(2), Key(3), Key(4)])?,
         players: Set::from_any(alloc, &[])?,
         next_players: Set::from_any(alloc, &[])?,
-    };
-    if few(&participants) {
-        Ok(participants)
-    } else {
-        Err(Fail::from("too many participants"))
-    }
+    })
 }
 
 fn few(participants: &Participants) -> bool
@@ -208,6 +202,57 @@ fn few(participants: &Participants) -> bool
         .len()
         .checked_add(participants.next_players.len())
         .is_some()
+}
+
+/// A probe of any parts, where its participants are few enough.
+fn made<M: Manager<Dir = Dir> + Drop, S: Scheme + Drop, Dir: Directory + Drop>(
+    alloc: Global,
+    config: Config<M, S, Dir>,
+) -> Result<Actor<M, S, Dir>, Fail>
+where
+    Dir::Cfg: Drop,
+{
+    if few(&config.bootstrap.participants) {
+        Ok(Actor::new(alloc, config))
+    } else {
+        Err(Fail::from("too many participants"))
+    }
+}
+
+/// One event of a probe of any parts.
+fn stepped<M: Manager<Dir = Dir>, S: Scheme, Dir: Directory + Drop, B: Blocks<Dir>>(
+    alloc: Global,
+    probe: &mut Actor<M, S, Dir>,
+    source: &B,
+    event: Event,
+    out: &mut Transcript,
+) -> Result<(), ProbeStop>
+where
+    Dir::Cfg: Drop,
+{
+    probe.step(alloc, source, event, out)
+}
+
+/// One event of a probe of any parts, and the answer to it, twice.
+#[tactic(auto, using(dkg_probe::proofs::Subscribing::meets_known))]
+fn answered<M: Manager<Dir = Dir>, S: Scheme, Dir: Directory + Drop, B: Blocks<Dir>>(
+    alloc: Global,
+    probe: &mut Actor<M, S, Dir>,
+    source: &B,
+    event: &Event,
+    out: &mut Transcript,
+) -> Result<(Option<Artifact<Dir>>, Option<Artifact<Dir>>), ProbeStop>
+where
+    Dir::Cfg: Drop,
+    ensures answer { IfOk result (λ pair. Meets probe.new.state.known event.now pair.0) }
+    ensures again { IfOk result (λ pair. pair.1 ≡ pair.0) }
+{
+    let event = event.copy(alloc)?;
+    probe.step(alloc, source, event, out)?;
+    match probe.artifact() {
+        None => Ok((None, None)),
+        Some(known) => Ok((Some(known.copy(alloc)?), Some(known.copy(alloc)?))),
+    }
 }
 
 type Probe = Actor<KeyOnlyManager<Counts>, StandScheme, Unit>;
@@ -227,7 +272,7 @@ fn new_probe(alloc: Global, least: u64, floor: Option<u64>) -> Result<Probe, Fai
     let floor = floor_of(alloc, floor)?;
     let genesis = info(alloc, 0)?;
     let participants = participants(alloc)?;
-    Ok(Actor::new(
+    made(
         alloc,
         Config {
             manager: KeyOnlyManager::new(Counts { tracked: 0 }),
@@ -242,7 +287,7 @@ fn new_probe(alloc: Global, least: u64, floor: Option<u64>) -> Result<Probe, Fai
             blocks_per_epoch,
             limits,
         },
-    ))
+    )
 }
 
 fn word(why: BlockedWhy) -> &'static str {
@@ -371,7 +416,7 @@ impl Play {
     /// Takes an event.
     fn take(&mut self, alloc: Global, event: Event) -> Result<(), Fail> {
         self.steps = self.steps.saturating_add(1);
-        self.probe.step(alloc, &self.source, event, &mut self.out)?;
+        stepped(alloc, &mut self.probe, &self.source, event, &mut self.out)?;
         Ok(())
     }
 
@@ -492,7 +537,7 @@ fn addressed_probe(
     let genesis = with_directory(info(alloc, 0)?, one_address(alloc)?);
     let directory = one_address(alloc)?;
     let participants = participants(alloc)?;
-    Ok(Actor::new(
+    made(
         alloc,
         Config {
             manager: AddressableManager::new(Counts { tracked: 0 }),
@@ -507,20 +552,26 @@ fn addressed_probe(
             blocks_per_epoch,
             limits,
         },
-    ))
+    )
+}
+
+/// What a probe without the address of a peer answers to a subscriber and to a retry behind it, and whether it tells nothing.
+fn answers_without_an_address(
+    alloc: Global,
+) -> Result<(Result<(), ProbeStop>, Result<(), ProbeStop>, bool), Fail> {
+    let mut probe = addressed_probe(alloc)?;
+    let mut out = Transcript::new(alloc);
+    let first = stepped(alloc, &mut probe, &NoBlocks, Event::Subscribe, &mut out);
+    let second = stepped(alloc, &mut probe, &NoBlocks, Event::Retry, &mut out);
+    Ok((first, second, out.entries().is_empty()))
 }
 
 #[test]
 fn a_peer_without_an_address_stops_the_probe(rt: HostRuntime) -> Result<(), Fail> {
-    let alloc = rt.alloc();
-    let mut probe = addressed_probe(alloc)?;
-    let mut out = Transcript::new(alloc);
-    let missing = ProbeStop::PeerSet(MissingAddress(Key(2)));
-    let answer = probe.step(alloc, &NoBlocks, Event::Subscribe, &mut out);
-    is(&rt, answer, Err(missing));
-    let answer = probe.step(alloc, &NoBlocks, Event::Retry, &mut out);
-    is(&rt, answer, Err(ProbeStop::Failed));
-    holds(&rt, out.entries().is_empty());
+    let (first, second, untold) = answers_without_an_address(rt.alloc())?;
+    is(&rt, first, Err(ProbeStop::PeerSet(MissingAddress(Key(2)))));
+    is(&rt, second, Err(ProbeStop::Failed));
+    holds(&rt, untold);
     Ok(())
 }
 
@@ -686,18 +737,12 @@ type Answer = Option<Artifact<Unit>>;
 
 impl Node {
     /// One event, and the answer to it, twice.
-    #[tactic(auto, using(dkg_probe::proofs::Subscribing::meets_known))]
     fn take(&mut self, alloc: Global, event: &Event) -> Result<(Answer, Answer), ProbeStop>
         ensures answer { IfOk result (λ pair. Meets self.new.probe.state.known event.now pair.0) }
         ensures again { IfOk result (λ pair. pair.1 ≡ pair.0) }
         ensures runs { self.new.stopped ≡ self.old.stopped }
     {
-        let event = event.copy(alloc)?;
-        self.probe.step(alloc, &self.source, event, &mut self.out)?;
-        match self.probe.artifact() {
-            None => Ok((None, None)),
-            Some(known) => Ok((Some(known.copy(alloc)?), Some(known.copy(alloc)?))),
-        }
+        answered(alloc, &mut self.probe, &self.source, event, &mut self.out)
     }
 }
 
