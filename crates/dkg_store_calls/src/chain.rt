@@ -3,28 +3,52 @@ ghost use Rattle.std.specs.Prelude.{◌≡◌, ◌<◌, ◌+◌, ◌^◌, List, 
 ghost use Rattle.std.specs.FinMap as map;
 ghost use Rattle.dkg_types.specs.declared.entry.Entry.{Entry as Line};
 ghost use Rattle.dkg_journal.specs.Journals.{IsOpen};
-ghost use Rattle.dkg_store.specs.Acts.{MadeOn};
-ghost use Rattle.dkg_store.specs.Calls.{ended, recording};
+ghost use Rattle.dkg_store.specs.Acts.{MadeOn, Goes, bind};
+ghost use Rattle.dkg_store.specs.Calls.{ended, recording, noting, pruning};
 ghost use Rattle.dkg_store.specs.Chain.{taking};
 ghost use Rattle.dkg_store.specs.Events.{event_spelling};
 ghost use Rattle.dkg_store.specs.declared.event.Event.TheVariants as events;
 
+use crate::asserts::is;
+use crate::memory::{Memory, opened};
 use crate::prune::{element, public_of};
 use dkg_ceremony::{Ack, Private, Public};
-use dkg_journal::{Disk, Fuse, MemoryDisk};
-use dkg_store::{Devices, MemorySecrets, SecretStore, Store, StoreError};
+use dkg_journal::Disk;
+use dkg_store::{Devices, SecretStore, Store, StoreError};
 use dkg_types::Unit;
 use dkg_values::{Epoch, Key, Mark};
 use std::alloc::Global;
-use std::num::NonZeroU32;
 use std::test::Fail;
+
+/// Records an acknowledgement, and forgets what is below the epoch. What it was told goes out again.
+fn noted_and_pruned<D: Disk, X: SecretStore, Dir: Drop>(
+    alloc: Global,
+    devices: &mut Devices<'_, D, X>,
+    store: &mut Store<Dir>,
+    epoch: Epoch,
+    dealer: Key,
+    ack: Ack,
+    new: bool,
+) -> Result<bool, StoreError>
+    requires open { IsTrue D.tells → IsOpen store.old.journal (D.files devices.old.disk.now) (D.image devices.old.disk.now) }
+    ensures open { OnOk result (IsTrue D.tells → IsOpen store.new.journal (D.files devices.new.disk.now) (D.image devices.new.disk.now)) }
+    ensures acts { IsTrue D.tells → IsTrue X.tells → (out : List Line) → MadeOn D.files D.image X.held
+        (bind (noting (map.contains_key store.old.acks (epoch, dealer)) (epoch, event_spelling (events.Ack dealer ack))) (λ noted. bind (pruning epoch) (λ gone. Goes new)))
+        (ended result) devices.old devices.new out out }
+    ensures same_disk { devices.new.disk.ghost_name ≡ devices.old.disk.ghost_name }
+    ensures same_secrets { devices.new.secrets.ghost_name ≡ devices.old.secrets.ghost_name }
+{
+    store.append_ack(alloc, devices, epoch, dealer, ack)?;
+    store.prune(alloc, devices, epoch)?;
+    Ok(new)
+}
 
 /// Records a dealer's dealing and its acknowledgement of this node's, and forgets what is below the epoch. Whether the dealing is new.
 /// Where the epoch has a share nothing is done.
-fn taken<D: Disk, X: SecretStore>(
+fn taken<D: Disk, X: SecretStore, Dir: Drop>(
     alloc: Global,
     devices: &mut Devices<'_, D, X>,
-    store: &mut Store<Unit>,
+    store: &mut Store<Dir>,
     epoch: Epoch,
     dealer: Key,
     public: Public,
@@ -46,18 +70,15 @@ fn taken<D: Disk, X: SecretStore>(
         return Ok(false);
     }
     let new = store.append_dealing(alloc, devices, epoch, dealer, public, private)?;
-    store.append_ack(alloc, devices, epoch, dealer, ack)?;
-    store.prune(alloc, devices, epoch)?;
-    Ok(new)
+    noted_and_pruned(alloc, devices, store, epoch, dealer, ack, new)
 }
 
 /// Takes a dealing with its acknowledgement, over what the devices hold.
-fn taken_once<D: Disk, X: SecretStore>(
+fn taken_once<D: Disk, X: SecretStore, Dir: Drop>(
     alloc: Global,
     devices: &mut Devices<'_, D, X>,
 ) -> Result<bool, Fail> {
-    let limit = NonZeroU32::new(4).ok_or("no limit")?;
-    let mut store: Store<Unit> = Store::init(alloc, devices, limit)?;
+    let mut store: Store<Dir> = opened(alloc, devices)?;
     let public = public_of(alloc, [15, 7, 1])?;
     let private = Private(element(23)?);
     let ack = Ack(Mark([7; 8]));
@@ -73,21 +94,14 @@ fn taken_once<D: Disk, X: SecretStore>(
     )?)
 }
 
-/// That over an empty disk.
-fn taken_in_memory(alloc: Global) -> Result<bool, Fail> {
-    let mut disk = MemoryDisk::new(alloc);
-    let mut secrets = MemorySecrets::new(alloc);
-    let mut devices = Devices {
-        disk: &mut disk,
-        secrets: &mut secrets,
-        fuse: Fuse::never(),
-    };
-    taken_once(alloc, &mut devices)
-}
-
 #[test]
 fn four_calls_are_made_as_one(rt: HostRuntime) -> Result<(), Fail> {
     let alloc = rt.alloc();
-    assert_eq!(rt; taken_in_memory(alloc)?, true);
+    let mut memory = Memory::new(alloc);
+    is(
+        &rt,
+        taken_once::<_, _, Unit>(alloc, &mut memory.devices())?,
+        true,
+    );
     Ok(())
 }

@@ -1,19 +1,20 @@
 //! A dealer that is made twice from one seed, with an acknowledgement recorded between; and a store that takes one node from the logs
-//! of a round to the next epoch.
+//! of a round to the next epoch. All of it over any ceremony, devices and directory: only the tests pick them.
 ghost use Rattle.std.specs.Prelude.{◌≡◌, OnOk, IfOk, IsTrue, Contains, true};
 ghost use Rattle.dkg_journal.specs.Journals.{IsOpen};
 ghost use Rattle.dkg_store.specs.Dealer.{IsDealerOf};
 
+use crate::asserts::is;
+use crate::memory::{Memory, opened};
 use dkg_ceremony::{
     Ceremony, DealerLog, EncodeSize, Mode, Output, Public, Reveal, Round, Share, Signer,
     StandCeremony, StandSigner, Value,
 };
-use dkg_journal::{Disk, Fuse, MemoryDisk};
-use dkg_store::{AckOutcome, Dealer, Devices, MemorySecrets, SecretStore, Store};
+use dkg_journal::Disk;
+use dkg_store::{AckOutcome, Dealer, Devices, SecretStore, Store};
 use dkg_types::{EpochInfo, EpochOutcome, Unit};
 use dkg_values::{Epoch, Height, Key, Map, Seed, Set};
 use std::alloc::Global;
-use std::num::NonZeroU32;
 use std::test::Fail;
 
 pub(crate) const ME: Key = Key(1);
@@ -24,18 +25,18 @@ const KEYS: [Key; 4] = [Key(1), Key(2), Key(3), Key(4)];
 
 pub(crate) const SEED: Seed = Seed([7; 32]);
 
-pub(crate) fn round_of(alloc: Global) -> Result<Round, Fail> {
+pub(crate) fn round_of<C: Ceremony>(alloc: Global, ceremony: &C) -> Result<Round, Fail> {
     let keys = Set::from_any(alloc, &KEYS)?;
     let mode = Mode::NonZeroCounter;
-    Ok(StandCeremony.round(alloc, b"", 0, None, mode, Reveal::V1, &keys, &keys)?)
+    Ok(ceremony.round(alloc, b"", 0, None, mode, Reveal::V1, &keys, &keys)?)
 }
 
 /// The signer's dealer.
-fn made<C: Ceremony>(
+fn made<C: Ceremony, Dir: Drop>(
     alloc: Global,
     ceremony: &C,
     signer: &C::Signer,
-    store: &Store<Unit>,
+    store: &Store<Dir>,
     round: &Round,
 ) -> Result<Dealer, Fail>
     ensures is_open { IfOk result (λ dealer. dealer.is_open ≡ true) }
@@ -58,13 +59,13 @@ fn public_of(alloc: Global, dealer: &Dealer) -> Result<Public, Fail> {
 }
 
 /// Hands the dealer of this key the acknowledgement of this signer.
-fn acknowledged<C: Ceremony, D: Disk, X: SecretStore>(
+fn acknowledged<C: Ceremony, D: Disk, X: SecretStore, Dir: Drop>(
     alloc: Global,
     ceremony: &C,
     key: Key,
     signer: &C::Signer,
     devices: &mut Devices<'_, D, X>,
-    store: &mut Store<Unit>,
+    store: &mut Store<Dir>,
     dealer: &mut Dealer,
     round: &Round,
 ) -> Result<AckOutcome, Fail>
@@ -93,30 +94,34 @@ fn unsent(alloc: Global, dealer: &Dealer) -> Result<Vec<(Key, u16)>, Fail> {
     Ok(list)
 }
 
-/// A dealing, whom it is sent to at first, and what came of an acknowledgement of it.
+/// A dealing, and whom it is sent to.
 #[derive(Drop)]
-struct Once {
+struct Begun {
     public: Public,
     sent: Vec<(Key, u16)>,
-    outcome: AckOutcome,
 }
 
-/// Makes a dealer, and hands it a player's acknowledgement.
-fn made_once<C: Ceremony, D: Disk, X: SecretStore>(
+fn dealing_of(alloc: Global, dealer: &Dealer) -> Result<Begun, Fail> {
+    let sent = unsent(alloc, dealer)?;
+    let public = public_of(alloc, dealer)?;
+    Ok(Begun { public, sent })
+}
+
+/// Makes a dealer, and hands it a player's acknowledgement: what it deals, and whom it sends that to at first, and what came of the acknowledgement.
+fn made_once<C: Ceremony, D: Disk, X: SecretStore, Dir: Drop>(
     alloc: Global,
     ceremony: &C,
     signer: &C::Signer,
     player: &C::Signer,
     devices: &mut Devices<'_, D, X>,
-    store: &mut Store<Unit>,
+    store: &mut Store<Dir>,
     round: &Round,
-) -> Result<Once, Fail>
+) -> Result<(Begun, AckOutcome), Fail>
     requires open { IsTrue D.tells → IsOpen store.old.journal (D.files devices.old.disk.now) (D.image devices.old.disk.now) }
     ensures open { OnOk result (IsTrue D.tells → IsOpen store.new.journal (D.files devices.new.disk.now) (D.image devices.new.disk.now)) }
 {
     let mut dealer = made(alloc, ceremony, signer, store, round)?;
-    let sent = unsent(alloc, &dealer)?;
-    let public = public_of(alloc, &dealer)?;
+    let begun = dealing_of(alloc, &dealer)?;
     let key = signer.public_key();
     let outcome = acknowledged(
         alloc,
@@ -128,69 +133,102 @@ fn made_once<C: Ceremony, D: Disk, X: SecretStore>(
         &mut dealer,
         round,
     )?;
-    Ok(Once {
-        public,
-        sent,
-        outcome,
-    })
+    Ok((begun, outcome))
 }
 
-fn made_twice<D: Disk, X: SecretStore>(
+/// Whom a list has beside this player.
+fn others(alloc: Global, list: &[(Key, u16)], player: Key) -> Result<Vec<(Key, u16)>, Fail> {
+    let mut rest = Vec::new(alloc);
+    for (key, private) in list {
+        if *key != player {
+            rest.push((*key, *private))?;
+        }
+    }
+    Ok(rest)
+}
+
+/// Whether the second dealing is the first, and is sent to all of four but this player.
+fn is_again(alloc: Global, first: &Begun, second: &Begun, player: Key) -> Result<bool, Fail> {
+    let others = others(alloc, &first.sent, player)?;
+    Ok(
+        first.public.same(&second.public)
+            && first.sent.len() == 4
+            && second.sent.len() == 3
+            && others.as_slice() == second.sent.as_slice(),
+    )
+}
+
+/// Makes a dealer twice, with an acknowledgement behind each. Whether the second dealing is as it is to be, and what came of the acknowledgements.
+fn made_twice<C: Ceremony, D: Disk, X: SecretStore, Dir: Drop>(
     alloc: Global,
+    ceremony: &C,
+    signer: &C::Signer,
+    player: &C::Signer,
     devices: &mut Devices<'_, D, X>,
-) -> Result<(Once, Once), Fail> {
-    let limit = NonZeroU32::new(4).ok_or("no limit")?;
-    let round = round_of(alloc)?;
-    let mut store: Store<Unit> = Store::init(alloc, devices, limit)?;
-    let me = StandSigner::new(ME);
-    let player = StandSigner::new(PLAYER);
-    let first = made_once(
-        alloc,
-        &StandCeremony,
-        &me,
-        &player,
-        devices,
-        &mut store,
-        &round,
-    )?;
-    let second = made_once(
-        alloc,
-        &StandCeremony,
-        &me,
-        &player,
-        devices,
-        &mut store,
-        &round,
-    )?;
-    Ok((first, second))
+    store: &mut Store<Dir>,
+    round: &Round,
+) -> Result<(bool, AckOutcome, AckOutcome), Fail>
+    requires open { IsTrue D.tells → IsOpen store.old.journal (D.files devices.old.disk.now) (D.image devices.old.disk.now) }
+{
+    let (first, once) = made_once(alloc, ceremony, signer, player, devices, store, round)?;
+    let (second, twice) = made_once(alloc, ceremony, signer, player, devices, store, round)?;
+    let again = is_again(alloc, &first, &second, player.public_key())?;
+    Ok((again, once, twice))
 }
 
-/// That over an empty disk.
-fn twice_in_memory(alloc: Global) -> Result<(Once, Once), Fail> {
-    let mut disk = MemoryDisk::new(alloc);
-    let mut secrets = MemorySecrets::new(alloc);
-    let mut devices = Devices {
-        disk: &mut disk,
-        secrets: &mut secrets,
-        fuse: Fuse::never(),
-    };
-    made_twice(alloc, &mut devices)
+/// That in a store of its own.
+fn again_in<C: Ceremony, D: Disk, X: SecretStore, Dir: Drop>(
+    alloc: Global,
+    ceremony: &C,
+    signer: &C::Signer,
+    player: &C::Signer,
+    devices: &mut Devices<'_, D, X>,
+) -> Result<(bool, AckOutcome, AckOutcome), Fail> {
+    let round = round_of(alloc, ceremony)?;
+    let mut store: Store<Dir> = opened(alloc, devices)?;
+    made_twice(alloc, ceremony, signer, player, devices, &mut store, &round)
 }
 
 #[test]
 fn a_dealer_made_again_has_one_player_fewer(rt: HostRuntime) -> Result<(), Fail> {
     let alloc = rt.alloc();
-    let (first, second) = twice_in_memory(alloc)?;
-    assert!(rt; first.public.same(&second.public));
-    assert_eq!(rt; first.sent.len(), 4);
-    assert_eq!(rt; second.sent.len(), 3);
-    for one in &second.sent {
-        assert!(rt; first.sent.contains(one));
-        assert!(rt; one.0 != PLAYER);
-    }
-    assert_eq!(rt; first.outcome, AckOutcome::Recorded);
-    assert_eq!(rt; second.outcome, AckOutcome::Duplicate);
+    let mut memory = Memory::new(alloc);
+    let again = again_in::<_, _, _, Unit>(
+        alloc,
+        &StandCeremony,
+        &StandSigner::new(ME),
+        &StandSigner::new(PLAYER),
+        &mut memory.devices(),
+    )?;
+    is(
+        &rt,
+        again,
+        (true, AckOutcome::Recorded, AckOutcome::Duplicate),
+    );
     Ok(())
+}
+
+/// Whether a dealer makes its log at the first call, not at the second, and is closed then.
+fn closes_once<C: Ceremony>(
+    alloc: Global,
+    ceremony: &C,
+    signer: &C::Signer,
+    dealer: &mut Dealer,
+) -> Result<bool, Fail>
+    requires me { C.Signer.key_of signer.now ≡ dealer.old.me }
+    requires dealer { IsDealerOf C.deal_of C.check_ack_of dealer.old }
+{
+    let first = dealer.finalize(alloc, ceremony, signer)?;
+    let again = dealer.finalize(alloc, ceremony, signer)?;
+    Ok(first && !again && !dealer.is_open())
+}
+
+/// The log of a dealer that has made it.
+fn log_of(alloc: Global, dealer: &Dealer) -> Result<DealerLog, Fail> {
+    match dealer.finalized() {
+        Some(signed) => Ok(signed.log.copy(alloc)?),
+        None => Err(Fail::from("no log")),
+    }
 }
 
 /// The log of a dealer, which it makes once.
@@ -198,17 +236,15 @@ fn closed<C: Ceremony>(
     alloc: Global,
     ceremony: &C,
     signer: &C::Signer,
-    mut dealer: Dealer,
+    dealer: &mut Dealer,
 ) -> Result<DealerLog, Fail>
-    requires me { C.Signer.key_of signer.now ≡ dealer.me }
-    requires dealer { IsDealerOf C.deal_of C.check_ack_of dealer }
+    requires me { C.Signer.key_of signer.now ≡ dealer.old.me }
+    requires dealer { IsDealerOf C.deal_of C.check_ack_of dealer.old }
 {
-    let first = dealer.finalize(alloc, ceremony, signer)?;
-    let again = dealer.finalize(alloc, ceremony, signer)?;
-    if !first || again || dealer.is_open() {
+    if !closes_once(alloc, ceremony, signer, dealer)? {
         return Err(Fail::from("it isn't closed once"));
     }
-    let log = dealer.finalized().ok_or("no log")?.log.copy(alloc)?;
+    let log = log_of(alloc, dealer)?;
     dealer.clear_finalized();
     if dealer.finalized().is_some() {
         return Err(Fail::from("the log stays"));
@@ -216,38 +252,36 @@ fn closed<C: Ceremony>(
     Ok(log)
 }
 
-/// Hands the dealer of this key the acknowledgements of the players 2, 3 and 4. Whether those were a quorum before the first, before the last, and
-/// behind it.
-fn acknowledged_by_three<C: Ceremony, D: Disk, X: SecretStore>(
+/// Hands the dealer of this key the acknowledgements of these players. Whether there was a quorum before one of them, and behind the last.
+fn acknowledged_by<C: Ceremony, D: Disk, X: SecretStore, Dir: Drop>(
     alloc: Global,
     ceremony: &C,
     key: Key,
-    signers: &[C::Signer; 3],
+    players: &[C::Signer],
     devices: &mut Devices<'_, D, X>,
-    store: &mut Store<Unit>,
+    store: &mut Store<Dir>,
     dealer: &mut Dealer,
     round: &Round,
-) -> Result<[bool; 3], Fail>
+) -> Result<(bool, bool), Fail>
     requires is_open { IsTrue dealer.old.is_open }
     requires open { IsTrue D.tells → IsOpen store.old.journal (D.files devices.old.disk.now) (D.image devices.old.disk.now) }
     ensures me { dealer.new.me ≡ dealer.old.me }
     ensures dealer { IsDealerOf C.deal_of C.check_ack_of dealer.old → IsDealerOf C.deal_of C.check_ack_of dealer.new }
     ensures open { OnOk result (IsTrue D.tells → IsOpen store.new.journal (D.files devices.new.disk.now) (D.image devices.new.disk.now)) }
 {
-    let [two, three, four] = signers;
-    let none = dealer.has_acknowledgement_quorum(4);
-    acknowledged(alloc, ceremony, key, two, devices, store, dealer, round)?;
-    acknowledged(alloc, ceremony, key, three, devices, store, dealer, round)?;
-    let few = dealer.has_acknowledgement_quorum(4);
-    acknowledged(alloc, ceremony, key, four, devices, store, dealer, round)?;
-    Ok([none, few, dealer.has_acknowledgement_quorum(4)])
+    let mut early = false;
+    for player in players {
+        early = early | dealer.has_acknowledgement_quorum(4);
+        acknowledged(alloc, ceremony, key, player, devices, store, dealer, round)?;
+    }
+    Ok((early, dealer.has_acknowledgement_quorum(4)))
 }
 
 /// Records a log, and the dealer's again, which is not new.
-fn noted<D: Disk, X: SecretStore>(
+fn noted<D: Disk, X: SecretStore, Dir: Drop>(
     alloc: Global,
     devices: &mut Devices<'_, D, X>,
-    store: &mut Store<Unit>,
+    store: &mut Store<Dir>,
     dealer: Key,
     log: DealerLog,
 ) -> Result<(), Fail>
@@ -263,199 +297,262 @@ fn noted<D: Disk, X: SecretStore>(
     Ok(())
 }
 
-/// Deals as this signer, and records the log. Whether there was a quorum before and behind the acknowledgements.
-fn dealt<C: Ceremony, D: Disk, X: SecretStore>(
+/// Deals as this signer, and records the log. Whether there was a quorum before one of the acknowledgements, and behind the last.
+fn dealt<C: Ceremony, D: Disk, X: SecretStore, Dir: Drop>(
     alloc: Global,
     ceremony: &C,
     signer: &C::Signer,
-    signers: &[C::Signer; 3],
+    players: &[C::Signer],
     devices: &mut Devices<'_, D, X>,
-    store: &mut Store<Unit>,
+    store: &mut Store<Dir>,
     round: &Round,
-) -> Result<[bool; 3], Fail>
+) -> Result<(bool, bool), Fail>
     requires open { IsTrue D.tells → IsOpen store.old.journal (D.files devices.old.disk.now) (D.image devices.old.disk.now) }
     ensures open { OnOk result (IsTrue D.tells → IsOpen store.new.journal (D.files devices.new.disk.now) (D.image devices.new.disk.now)) }
 {
     let mut dealer = made(alloc, ceremony, signer, store, round)?;
     let key = signer.public_key();
-    let quorums = acknowledged_by_three(
+    let quorums = acknowledged_by(
         alloc,
         ceremony,
         key,
-        signers,
+        players,
         devices,
         store,
         &mut dealer,
         round,
     )?;
-    let log = closed(alloc, ceremony, signer, dealer)?;
+    let log = closed(alloc, ceremony, signer, &mut dealer)?;
     noted(alloc, devices, store, key, log)?;
     Ok(quorums)
 }
 
-/// Deals as the keys 1, 2 and 3 to players that these three acknowledge for. Whether each dealer had a quorum before and behind its acknowledgements.
-pub(crate) fn dealt_by_three<D: Disk, X: SecretStore>(
+/// Deals as each of these signers to players that acknowledge for it. Whether one had a quorum before one of the acknowledgements, and whether each
+/// had it behind the last.
+pub(crate) fn dealt_by<C: Ceremony, D: Disk, X: SecretStore, Dir: Drop>(
     alloc: Global,
+    ceremony: &C,
+    dealers: &[C::Signer],
+    players: &[C::Signer],
     devices: &mut Devices<'_, D, X>,
-    store: &mut Store<Unit>,
+    store: &mut Store<Dir>,
     round: &Round,
-    signers: &[StandSigner; 3],
-) -> Result<[[bool; 3]; 3], Fail>
+) -> Result<(bool, bool), Fail>
     requires open { IsTrue D.tells → IsOpen store.old.journal (D.files devices.old.disk.now) (D.image devices.old.disk.now) }
     ensures open { OnOk result (IsTrue D.tells → IsOpen store.new.journal (D.files devices.new.disk.now) (D.image devices.new.disk.now)) }
 {
-    let one = StandSigner::new(Key(1));
-    let two = StandSigner::new(Key(2));
-    let three = StandSigner::new(Key(3));
-    let first = dealt(alloc, &StandCeremony, &one, signers, devices, store, round)?;
-    let second = dealt(alloc, &StandCeremony, &two, signers, devices, store, round)?;
-    let third = dealt(
-        alloc,
-        &StandCeremony,
-        &three,
-        signers,
-        devices,
-        store,
-        round,
-    )?;
-    Ok([first, second, third])
+    let (mut early, mut late) = (false, true);
+    for dealer in dealers {
+        let quorum = dealt(alloc, ceremony, dealer, players, devices, store, round)?;
+        early = early | quorum.0;
+        late = late & quorum.1;
+    }
+    Ok((early, late))
 }
 
 /// The outcome of the recorded logs, and this node's share.
-fn finished(
+fn finished<C: Ceremony, Dir: Drop>(
     alloc: Global,
-    store: &Store<Unit>,
+    ceremony: &C,
+    store: &Store<Dir>,
     round: &Round,
     logs: &Map<DealerLog>,
 ) -> Result<(Output, Share), Fail> {
     if !round.parts().players.has(ME) {
         return Err(Fail::from("the key is no player"));
     }
-    let player = store.create_player_with_logs(alloc, &StandCeremony, Epoch(0), ME, round, logs)?;
+    let player = store.create_player_with_logs(alloc, ceremony, Epoch(0), ME, round, logs)?;
     let player = player.ok_or("no player")?;
-    let found = player.finalize(alloc, &StandCeremony, logs)?;
+    let found = player.finalize(alloc, ceremony, logs)?;
     Ok(found.ok_or("no outcome")?)
 }
 
 /// Whether a share fits its output.
-pub(crate) fn fits(output: &Output, share: &Share) -> bool {
-    StandCeremony.partial_public(output, ME) == Some(StandCeremony.share_public(share))
+pub(crate) fn fits<C: Ceremony>(ceremony: &C, output: &Output, share: &Share) -> bool {
+    ceremony.partial_public(output, ME) == Some(ceremony.share_public(share))
 }
 
-/// Commits the next epoch with this output and share. Whether it is the current one, with both secrets.
-fn committed<D: Disk, X: SecretStore>(
+/// What the next epoch is committed with.
+fn info_of<Dir: Drop>(
     alloc: Global,
-    devices: &mut Devices<'_, D, X>,
-    store: &mut Store<Unit>,
+    directory: Dir,
     output: Output,
-    share: Share,
-) -> Result<bool, Fail>
-    requires open { IsTrue D.tells → IsOpen store.old.journal (D.files devices.old.disk.now) (D.image devices.old.disk.now) }
-    ensures open { OnOk result (IsTrue D.tells → IsOpen store.new.journal (D.files devices.new.disk.now) (D.image devices.new.disk.now)) }
-{
-    let keys = Set::from_any(alloc, &KEYS)?;
-    let info = EpochInfo {
+) -> Result<EpochInfo<Dir>, Fail> {
+    let players = Set::from_any(alloc, &KEYS)?;
+    let next_players = Set::from_any(alloc, &KEYS)?;
+    Ok(EpochInfo {
         outcome: EpochOutcome::Success,
         epoch: Epoch(1),
         output,
-        players: keys.copy(alloc)?,
-        next_players: keys,
-        directory: Unit,
-    };
-    store.commit_epoch(alloc, devices, info, SEED, Some(share))?;
-    let epoch = store.current().map(|info| info.epoch);
-    let kept = store.share(alloc, devices, Epoch(1))?;
-    let seed = store.seed(alloc, devices, Epoch(1))?;
-    Ok(epoch == Some(Epoch(1)) && kept == Some(share) && seed == Some(SEED))
+        players,
+        next_players,
+        directory,
+    })
+}
+
+/// Commits the next epoch with this output and share.
+fn committed<D: Disk, X: SecretStore, Dir: Drop>(
+    alloc: Global,
+    devices: &mut Devices<'_, D, X>,
+    store: &mut Store<Dir>,
+    directory: Dir,
+    output: Output,
+    share: Share,
+) -> Result<(), Fail>
+    requires open { IsTrue D.tells → IsOpen store.old.journal (D.files devices.old.disk.now) (D.image devices.old.disk.now) }
+    ensures open { OnOk result (IsTrue D.tells → IsOpen store.new.journal (D.files devices.new.disk.now) (D.image devices.new.disk.now)) }
+{
+    let info = info_of(alloc, directory, output)?;
+    Ok(store.commit_epoch(alloc, devices, info, SEED, Some(share))?)
 }
 
 /// Forgets the round. How many of its logs and dealings are left.
-fn forgotten<D: Disk, X: SecretStore>(
+fn forgotten<D: Disk, X: SecretStore, Dir: Drop>(
     alloc: Global,
     devices: &mut Devices<'_, D, X>,
-    store: &mut Store<Unit>,
+    store: &mut Store<Dir>,
 ) -> Result<(u32, u32), Fail>
     requires open { IsTrue D.tells → IsOpen store.old.journal (D.files devices.old.disk.now) (D.image devices.old.disk.now) }
 {
     store.prune(alloc, devices, Epoch(1))?;
-    let logs = store.logs(alloc, Epoch(0), Height(4), Some(Height(4)))?;
-    let dealings = store.dealings(alloc, Epoch(0))?;
-    Ok((logs.len(), dealings.len()))
+    left(alloc, store)
 }
 
-/// Whether each dealer had a quorum before and behind its acknowledgements, whether the share fits, whether the next epoch is kept, and
-/// what is left of the round.
-struct Ended {
-    quorums: [[bool; 3]; 3],
-    fits: bool,
-    kept: bool,
-    left: (u32, u32),
+/// How many logs and dealings of the round there are.
+fn left<Dir: Drop>(alloc: Global, store: &Store<Dir>) -> Result<(u32, u32), Fail> {
+    let logs = store
+        .logs(alloc, Epoch(0), Height(4), Some(Height(4)))?
+        .len();
+    let dealings = store.dealings(alloc, Epoch(0))?.len();
+    Ok((logs, dealings))
 }
 
-/// What follows once the logs are recorded.
-fn taken_on<D: Disk, X: SecretStore>(
+/// Whether the next epoch is the current one.
+fn is_current<Dir: Drop>(store: &Store<Dir>) -> bool {
+    match store.current() {
+        Some(info) => info.epoch == Epoch(1),
+        None => false,
+    }
+}
+
+/// Whether the next epoch is the current one, with both secrets.
+fn kept<D: Disk, X: SecretStore, Dir: Drop>(
     alloc: Global,
     devices: &mut Devices<'_, D, X>,
-    store: &mut Store<Unit>,
+    store: &mut Store<Dir>,
+    share: Share,
+) -> Result<bool, Fail> {
+    let kept = store.share(alloc, devices, Epoch(1))?;
+    let seed = store.seed(alloc, devices, Epoch(1))?;
+    Ok(is_current(store) && kept == Some(share) && seed == Some(SEED))
+}
+
+/// The outcome of the logs that are recorded and count, and this node's share.
+fn outcome_of<C: Ceremony, Dir: Drop>(
+    alloc: Global,
+    ceremony: &C,
+    store: &Store<Dir>,
     round: &Round,
-    quorums: [[bool; 3]; 3],
+) -> Result<(Output, Share), Fail> {
+    let logs = store.logs(alloc, Epoch(0), Height(4), Some(Height(4)))?;
+    finished(alloc, ceremony, store, round, &logs)
+}
+
+/// What came of a round: whether a dealer had a quorum before one of the acknowledgements, and whether each had it behind the last; whether the share
+/// fits; how many logs and dealings are left; and whether the next epoch is kept.
+#[derive(Drop)]
+struct Ended {
+    early: bool,
+    late: bool,
+    fits: bool,
+    left: (u32, u32),
+    kept: bool,
+}
+
+/// Commits the next epoch, and forgets the round. How many logs and dealings are left, and whether the next epoch is kept.
+fn taken_on<D: Disk, X: SecretStore, Dir: Drop>(
+    alloc: Global,
+    devices: &mut Devices<'_, D, X>,
+    store: &mut Store<Dir>,
+    directory: Dir,
+    output: Output,
+    share: Share,
+) -> Result<((u32, u32), bool), Fail>
+    requires open { IsTrue D.tells → IsOpen store.old.journal (D.files devices.old.disk.now) (D.image devices.old.disk.now) }
+{
+    committed(alloc, devices, store, directory, output, share)?;
+    let left = forgotten(alloc, devices, store)?;
+    let kept = kept(alloc, devices, store, share)?;
+    Ok((left, kept))
+}
+
+/// A round of some dealers in this store.
+fn ended_by<C: Ceremony, D: Disk, X: SecretStore, Dir: Drop>(
+    alloc: Global,
+    ceremony: &C,
+    dealers: &[C::Signer],
+    players: &[C::Signer],
+    devices: &mut Devices<'_, D, X>,
+    store: &mut Store<Dir>,
+    directory: Dir,
+    round: &Round,
 ) -> Result<Ended, Fail>
     requires open { IsTrue D.tells → IsOpen store.old.journal (D.files devices.old.disk.now) (D.image devices.old.disk.now) }
 {
-    let logs = store.logs(alloc, Epoch(0), Height(4), Some(Height(4)))?;
-    let (output, share) = finished(alloc, store, round, &logs)?;
-    let fits = fits(&output, &share);
-    let kept = committed(alloc, devices, store, output, share)?;
-    let left = forgotten(alloc, devices, store)?;
+    let (early, late) = dealt_by(alloc, ceremony, dealers, players, devices, store, round)?;
+    let (output, share) = outcome_of(alloc, ceremony, store, round)?;
+    let fits = fits(ceremony, &output, &share);
+    let (left, kept) = taken_on(alloc, devices, store, directory, output, share)?;
     Ok(Ended {
-        quorums,
+        early,
+        late,
         fits,
-        kept,
         left,
+        kept,
     })
 }
 
-/// A round of three dealers in one store.
-fn round_in<D: Disk, X: SecretStore>(
+/// That in a store of its own.
+fn round_in<C: Ceremony, D: Disk, X: SecretStore, Dir: Drop>(
     alloc: Global,
+    ceremony: &C,
+    dealers: &[C::Signer],
+    players: &[C::Signer],
     devices: &mut Devices<'_, D, X>,
+    directory: Dir,
 ) -> Result<Ended, Fail> {
-    let limit = NonZeroU32::new(4).ok_or("no limit")?;
-    let round = round_of(alloc)?;
-    let mut store: Store<Unit> = Store::init(alloc, devices, limit)?;
-    let signers = [
-        StandSigner::new(Key(2)),
-        StandSigner::new(Key(3)),
-        StandSigner::new(Key(4)),
-    ];
-    let quorums = dealt_by_three(alloc, devices, &mut store, &round, &signers)?;
-    taken_on(alloc, devices, &mut store, &round, quorums)
+    let round = round_of(alloc, ceremony)?;
+    let mut store: Store<Dir> = opened(alloc, devices)?;
+    ended_by(
+        alloc, ceremony, dealers, players, devices, &mut store, directory, &round,
+    )
 }
 
-/// That over an empty disk.
-fn round_in_memory(alloc: Global) -> Result<Ended, Fail> {
-    let mut disk = MemoryDisk::new(alloc);
-    let mut secrets = MemorySecrets::new(alloc);
-    let mut devices = Devices {
-        disk: &mut disk,
-        secrets: &mut secrets,
-        fuse: Fuse::never(),
-    };
-    round_in(alloc, &mut devices)
+/// The signers of three keys from this one on.
+pub(crate) fn three_from(key: u32) -> [StandSigner; 3] {
+    let key = key.min(9);
+    [
+        StandSigner::new(Key(key)),
+        StandSigner::new(Key(key + 1)),
+        StandSigner::new(Key(key + 2)),
+    ]
 }
 
 #[test]
 fn a_round_ends_in_a_share_that_is_kept(rt: HostRuntime) -> Result<(), Fail> {
     let alloc = rt.alloc();
-    let Ended {
-        quorums,
-        fits,
-        kept,
-        left,
-    } = round_in_memory(alloc)?;
-    assert_eq!(rt; quorums, [[false, false, true]; 3]);
-    assert!(rt; fits);
-    assert!(rt; kept);
-    assert_eq!(rt; left, (0, 0));
+    let (dealers, players) = (three_from(1), three_from(2));
+    let mut memory = Memory::new(alloc);
+    let ended = round_in(
+        alloc,
+        &StandCeremony,
+        &dealers,
+        &players,
+        &mut memory.devices(),
+        Unit,
+    )?;
+    let early_late_fits_kept = (ended.early, ended.late, ended.fits, ended.kept);
+    is(&rt, early_late_fits_kept, (false, true, true, true));
+    is(&rt, ended.left, (0, 0));
     Ok(())
 }

@@ -2,13 +2,14 @@
 ghost use Rattle.std.specs.Prelude.{OnOk, IsTrue};
 ghost use Rattle.dkg_journal.specs.Journals.{IsOpen};
 
+use crate::asserts::{is, is_at};
+use crate::memory::{Memory, opened};
 use dkg_ceremony::DealerLog;
-use dkg_journal::{Disk, Fuse, MemoryDisk};
-use dkg_store::{Devices, MemorySecrets, SecretStore, Store};
+use dkg_journal::Disk;
+use dkg_store::{Devices, SecretStore, Store};
 use dkg_types::Unit;
 use dkg_values::{EncodeSize, Epoch, Height, Key, Name, decode_cfg};
 use std::alloc::Global;
-use std::num::NonZeroU32;
 use std::test::Fail;
 
 /// A log of the dealing 15 + 7x + x² with one acknowledgement.
@@ -30,26 +31,25 @@ fn put_old<D: Disk>(alloc: Global, disk: &mut D) -> Result<(), Fail> {
     Ok(())
 }
 
-/// Whether just these dealers' logs count at a tip.
-fn counts(
+/// Whose logs count at a tip.
+fn counted<Dir: Drop>(
     alloc: Global,
-    store: &Store<Unit>,
+    store: &Store<Dir>,
     tip: Option<Height>,
-    wanted: &[Key],
-) -> Result<bool, Fail> {
+) -> Result<Vec<Key>, Fail> {
     let logs = store.logs(alloc, Epoch(0), Height(4), tip)?;
     let mut keys = Vec::new(alloc);
     for (key, _) in logs.iter() {
         keys.push(key)?;
     }
-    Ok(keys.as_slice() == wanted)
+    Ok(keys)
 }
 
 /// Records this log of a dealer at height 5. Whether it is new.
-fn noted<D: Disk, X: SecretStore>(
+fn noted<D: Disk, X: SecretStore, Dir: Drop>(
     alloc: Global,
     devices: &mut Devices<'_, D, X>,
-    store: &mut Store<Unit>,
+    store: &mut Store<Dir>,
     dealer: Key,
 ) -> Result<bool, Fail>
     requires { IsTrue D.tells → IsOpen store.old.journal (D.files devices.old.disk.now) (D.image devices.old.disk.now) }
@@ -62,39 +62,32 @@ fn noted<D: Disk, X: SecretStore>(
     Ok(store.append_log(alloc, devices, Epoch(0), dealer, Height(5), log)?)
 }
 
-/// Opens a store over that file, and records a log of key 3, and one of key 2. Whether the first alone is new, and at each of four tips the
-/// logs that are to count do.
-fn two_logs<D: Disk, X: SecretStore>(
+/// Opens a store over that file, and records a log of key 3, and one of key 2. Whether each is new.
+fn two_logs<D: Disk, X: SecretStore, Dir: Drop>(
     alloc: Global,
     devices: &mut Devices<'_, D, X>,
-) -> Result<bool, Fail> {
+) -> Result<(Store<Dir>, bool, bool), Fail> {
     put_old(alloc, devices.disk)?;
-    let limit = NonZeroU32::new(4).ok_or("no limit")?;
-    let mut store: Store<Unit> = Store::init(alloc, devices, limit)?;
+    let mut store = opened(alloc, devices)?;
     let first = noted(alloc, devices, &mut store, Key(3))?;
     let second = noted(alloc, devices, &mut store, Key(2))?;
-    let below = counts(alloc, &store, Some(Height(3)), &[])?;
-    let midpoint = counts(alloc, &store, Some(Height(4)), &[Key(2)])?;
-    let above = counts(alloc, &store, Some(Height(5)), &[Key(2), Key(3)])?;
-    let none = counts(alloc, &store, None, &[])?;
-    Ok(first && !second && below && midpoint && above && none)
-}
-
-/// That over an empty disk.
-fn two_logs_in_memory(alloc: Global) -> Result<bool, Fail> {
-    let mut disk = MemoryDisk::new(alloc);
-    let mut secrets = MemorySecrets::new(alloc);
-    let mut devices = Devices {
-        disk: &mut disk,
-        secrets: &mut secrets,
-        fuse: Fuse::never(),
-    };
-    two_logs(alloc, &mut devices)
+    Ok((store, first, second))
 }
 
 #[test]
 fn logs_count_from_their_heights_on(rt: HostRuntime) -> Result<(), Fail> {
-    let held = two_logs_in_memory(rt.alloc())?;
-    assert!(rt; held);
+    let alloc = rt.alloc();
+    let mut memory = Memory::new(alloc);
+    let (store, first, second) = two_logs::<_, _, Unit>(alloc, &mut memory.devices())?;
+    is(&rt, (first, second), (true, false));
+    let rows: [(Option<Height>, &[Key]); 4] = [
+        (Some(Height(3)), &[]),
+        (Some(Height(4)), &[Key(2)]),
+        (Some(Height(5)), &[Key(2), Key(3)]),
+        (None, &[]),
+    ];
+    for (tip, wanted) in rows {
+        is_at(&rt, counted(alloc, &store, tip)?.as_slice(), wanted, tip);
+    }
     Ok(())
 }

@@ -3,11 +3,15 @@
 #![tactic(auto)]
 
 #[cfg(test)]
+mod asserts;
+#[cfg(test)]
 mod chain;
 #[cfg(test)]
 mod dealing;
 #[cfg(test)]
 mod heights;
+#[cfg(test)]
+mod memory;
 #[cfg(test)]
 mod playing;
 #[cfg(test)]

@@ -5,17 +5,18 @@ ghost use Rattle.dkg_ceremony.specs.Finishes.{AnswersFinish};
 ghost use Rattle.dkg_journal.specs.Journals.{IsOpen};
 ghost use Rattle.dkg_store.specs.Recorded.{AreChecked, at_epoch};
 
-use crate::dealing::{ME, SEED, dealt_by_three, fits, round_of};
+use crate::asserts::is;
+use crate::dealing::{ME, SEED, dealt_by, fits, round_of, three_from};
+use crate::memory::{Memory, opened};
 use dkg_ceremony::{
     Ceremony, DealerLog, FinishError, Output, Private, Public, Round, Share, Signer, StandCeremony,
     StandSigner,
 };
-use dkg_journal::{Disk, Fuse, MemoryDisk};
-use dkg_store::{Devices, MemorySecrets, Player, SecretStore, Store};
+use dkg_journal::Disk;
+use dkg_store::{Devices, Player, SecretStore, Store};
 use dkg_types::{Transcript, Unit};
 use dkg_values::{Epoch, Height, Key, Map};
 use std::alloc::Global;
-use std::num::NonZeroU32;
 use std::test::Fail;
 
 /// A dealing that comes in.
@@ -27,12 +28,12 @@ struct Heard {
 }
 
 /// Hands a player one dealing.
-fn hear<C: Ceremony, D: Disk, X: SecretStore>(
+fn hear<C: Ceremony, D: Disk, X: SecretStore, Dir: Drop>(
     alloc: Global,
     ceremony: &C,
     signer: &C::Signer,
     devices: &mut Devices<'_, D, X>,
-    store: &mut Store<Unit>,
+    store: &mut Store<Dir>,
     out: &mut Transcript,
     epoch: Epoch,
     player: &mut Player,
@@ -64,12 +65,12 @@ fn hear<C: Ceremony, D: Disk, X: SecretStore>(
 }
 
 /// Hands a player one dealing after another.
-fn hear_all<C: Ceremony, D: Disk, X: SecretStore>(
+fn hear_all<C: Ceremony, D: Disk, X: SecretStore, Dir: Drop>(
     alloc: Global,
     ceremony: &C,
     signer: &C::Signer,
     devices: &mut Devices<'_, D, X>,
-    store: &mut Store<Unit>,
+    store: &mut Store<Dir>,
     out: &mut Transcript,
     epoch: Epoch,
     player: &mut Player,
@@ -95,12 +96,12 @@ fn hear_all<C: Ceremony, D: Disk, X: SecretStore>(
 
 /// Makes a player, hands it dealings, and ends its round. What comes of it is what the ceremony gives over the dealings that the store
 /// has of the epoch at the end: the clauses of the three calls say so.
-fn played<C: Ceremony, D: Disk, X: SecretStore>(
+fn played<C: Ceremony, D: Disk, X: SecretStore, Dir: Drop>(
     alloc: Global,
     ceremony: &C,
     signer: &C::Signer,
     devices: &mut Devices<'_, D, X>,
-    store: &mut Store<Unit>,
+    store: &mut Store<Dir>,
     epoch: Epoch,
     round: &Round,
     heard: Vec<Heard>,
@@ -128,42 +129,34 @@ fn played<C: Ceremony, D: Disk, X: SecretStore>(
     Ok(player.finalize(alloc, ceremony, logs))
 }
 
-/// The logs of the dealers 1, 2 and 3, each with the acknowledgements of the players 1, 2 and 3.
-fn logs_in<D: Disk, X: SecretStore>(
+/// The logs of these dealers, each with the acknowledgements of these players.
+fn logs_in<C: Ceremony, D: Disk, X: SecretStore, Dir: Drop>(
     alloc: Global,
+    ceremony: &C,
+    dealers: &[C::Signer],
+    players: &[C::Signer],
     devices: &mut Devices<'_, D, X>,
     round: &Round,
 ) -> Result<Map<DealerLog>, Fail> {
-    let limit = NonZeroU32::new(4).ok_or("no limit")?;
-    let mut store: Store<Unit> = Store::init(alloc, devices, limit)?;
-    let signers = [
-        StandSigner::new(Key(1)),
-        StandSigner::new(Key(2)),
-        StandSigner::new(Key(3)),
-    ];
-    let _quorums = dealt_by_three(alloc, devices, &mut store, round, &signers)?;
+    let mut store: Store<Dir> = opened(alloc, devices)?;
+    let _quorum = dealt_by(
+        alloc, ceremony, dealers, players, devices, &mut store, round,
+    )?;
     Ok(store.logs(alloc, Epoch(0), Height(4), Some(Height(4)))?)
 }
 
-/// Those, made over an empty disk.
-fn logs_in_memory(alloc: Global, round: &Round) -> Result<Map<DealerLog>, Fail> {
-    let mut disk = MemoryDisk::new(alloc);
-    let mut secrets = MemorySecrets::new(alloc);
-    let mut devices = Devices {
-        disk: &mut disk,
-        secrets: &mut secrets,
-        fuse: Fuse::never(),
-    };
-    logs_in(alloc, &mut devices, round)
-}
-
 /// What this dealer deals to this node.
-fn dealing_from(alloc: Global, dealer: Key, round: &Round) -> Result<Heard, Fail> {
+fn dealing_from<C: Ceremony>(
+    alloc: Global,
+    ceremony: &C,
+    signer: &C::Signer,
+    round: &Round,
+) -> Result<Heard, Fail> {
+    let dealer = signer.public_key();
     if !round.parts().dealers.has(dealer) {
         return Err(Fail::from("the key doesn't deal"));
     }
-    let signer = StandSigner::new(dealer);
-    let (public, privates) = StandCeremony.deal(alloc, round, &signer, None, &SEED)?;
+    let (public, privates) = ceremony.deal(alloc, round, signer, None, &SEED)?;
     let private = privates.get(ME).copied().ok_or("no private half")?;
     Ok(Heard {
         dealer,
@@ -172,28 +165,39 @@ fn dealing_from(alloc: Global, dealer: Key, round: &Round) -> Result<Heard, Fail
     })
 }
 
-/// What this node takes from the round, where it hears these dealers.
-fn ended_in<D: Disk, X: SecretStore>(
+/// What these dealers deal to this node, each one behind the other.
+fn dealings_from<C: Ceremony>(
     alloc: Global,
-    devices: &mut Devices<'_, D, X>,
+    ceremony: &C,
+    dealers: &[C::Signer],
     round: &Round,
-    dealers: &[Key],
-    logs: &Map<DealerLog>,
-) -> Result<Result<Option<(Output, Share)>, FinishError>, Fail> {
-    if !round.parts().players.has(ME) {
-        return Err(Fail::from("the key is no player"));
-    }
-    let limit = NonZeroU32::new(4).ok_or("no limit")?;
-    let mut store: Store<Unit> = Store::init(alloc, devices, limit)?;
+) -> Result<Vec<Heard>, Fail> {
     let mut heard = Vec::new(alloc);
     for dealer in dealers {
-        heard.push(dealing_from(alloc, *dealer, round)?)?;
+        heard.push(dealing_from(alloc, ceremony, dealer, round)?)?;
     }
-    let me = StandSigner::new(ME);
+    Ok(heard)
+}
+
+/// What this node takes from the round, where it hears these dealers.
+fn ended_in<C: Ceremony, D: Disk, X: SecretStore, Dir: Drop>(
+    alloc: Global,
+    ceremony: &C,
+    me: &C::Signer,
+    dealers: &[C::Signer],
+    devices: &mut Devices<'_, D, X>,
+    round: &Round,
+    logs: &Map<DealerLog>,
+) -> Result<Result<Option<(Output, Share)>, FinishError>, Fail> {
+    if !round.parts().players.has(me.public_key()) {
+        return Err(Fail::from("the key is no player"));
+    }
+    let heard = dealings_from(alloc, ceremony, dealers, round)?;
+    let mut store: Store<Dir> = opened(alloc, devices)?;
     played(
         alloc,
-        &StandCeremony,
-        &me,
+        ceremony,
+        me,
         devices,
         &mut store,
         Epoch(0),
@@ -206,32 +210,53 @@ fn ended_in<D: Disk, X: SecretStore>(
 /// That over an empty disk.
 fn ended_in_memory(
     alloc: Global,
+    dealers: &[StandSigner],
     round: &Round,
-    dealers: &[Key],
     logs: &Map<DealerLog>,
 ) -> Result<Result<Option<(Output, Share)>, FinishError>, Fail> {
-    let mut disk = MemoryDisk::new(alloc);
-    let mut secrets = MemorySecrets::new(alloc);
-    let mut devices = Devices {
-        disk: &mut disk,
-        secrets: &mut secrets,
-        fuse: Fuse::never(),
-    };
-    ended_in(alloc, &mut devices, round, dealers, logs)
+    let me = StandSigner::new(ME);
+    let mut memory = Memory::new(alloc);
+    ended_in::<_, _, _, Unit>(
+        alloc,
+        &StandCeremony,
+        &me,
+        dealers,
+        &mut memory.devices(),
+        round,
+        logs,
+    )
+}
+
+/// Whether the share that came of a round fits its output.
+fn ends_fit<C: Ceremony>(
+    ceremony: &C,
+    ended: Result<Option<(Output, Share)>, FinishError>,
+) -> Result<bool, Fail> {
+    let (output, share) = ended?.ok_or("no outcome")?;
+    Ok(fits(ceremony, &output, &share))
 }
 
 #[test]
 fn a_player_ends_its_round_from_its_own_dealings(rt: HostRuntime) -> Result<(), Fail> {
     let alloc = rt.alloc();
-    let round = round_of(alloc)?;
-    let logs = logs_in_memory(alloc, &round)?;
-    let ended = ended_in_memory(alloc, &round, &[Key(3), Key(1), Key(2)], &logs)?;
-    let (output, share) = ended?.ok_or("no outcome")?;
-    assert!(rt; fits(&output, &share));
-    let ended = ended_in_memory(alloc, &round, &[Key(3), Key(1)], &logs)?;
-    let Err(error) = ended else {
-        return Err(Fail::from("no dealing is missing"));
-    };
-    assert_eq!(rt; error, FinishError::MissingDealing { dealer: Key(2) });
+    let round = round_of(alloc, &StandCeremony)?;
+    let [one, two, three] = three_from(1);
+    let mut memory = Memory::new(alloc);
+    let logs = logs_in::<_, _, _, Unit>(
+        alloc,
+        &StandCeremony,
+        &[one, two, three],
+        &[one, two, three],
+        &mut memory.devices(),
+        &round,
+    )?;
+    let ended = ended_in_memory(alloc, &[three, one, two], &round, &logs)?;
+    is(&rt, ends_fit(&StandCeremony, ended)?, true);
+    let ended = ended_in_memory(alloc, &[three, one], &round, &logs)?;
+    is(
+        &rt,
+        ended.err(),
+        Some(FinishError::MissingDealing { dealer: Key(2) }),
+    );
     Ok(())
 }

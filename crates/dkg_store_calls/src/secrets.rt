@@ -1,5 +1,6 @@
 //! The memory stores against the reference model: what a cut leaves, and which calls fail.
 
+use crate::asserts::{is, is_at};
 use dkg_ceremony::{Private, Share};
 use dkg_secrets::{MemorySecrets, SecretError, SecretOp, SecretStore};
 use dkg_values::{Element, Epoch, Key, Seed};
@@ -10,88 +11,146 @@ fn number(value: u16) -> Result<Element, Fail> {
     Ok(Element::new(value).ok_or("no element")?)
 }
 
-fn filled(alloc: Global) -> Result<MemorySecrets, Fail> {
-    let mut secrets = MemorySecrets::new(alloc);
+const DEALINGS: [(u64, u32); 4] = [(0, 5), (0, 7), (1, 3), (3, 1)];
+
+fn fill_shares<X: SecretStore>(alloc: Global, secrets: &mut X) -> Result<(), Fail> {
     for epoch in [0, 1, 2] {
         secrets.put_share(alloc, Epoch(epoch), Share(number(1)?))?;
     }
+    Ok(())
+}
+
+fn fill_seeds<X: SecretStore>(alloc: Global, secrets: &mut X) -> Result<(), Fail> {
     for epoch in [0, 1, 3] {
         secrets.put_seed(alloc, Epoch(epoch), Seed([7; 32]))?;
     }
-    for (epoch, dealer) in [(0, 5), (0, 7), (1, 3), (3, 1)] {
+    Ok(())
+}
+
+fn fill_dealings<X: SecretStore>(alloc: Global, secrets: &mut X) -> Result<(), Fail> {
+    for (epoch, dealer) in DEALINGS {
         secrets.put_dealing(alloc, Epoch(epoch), Key(dealer), Private(number(2)?))?;
     }
-    Ok(secrets)
+    Ok(())
+}
+
+/// A letter, or a dot where it isn't there.
+fn letter_of(letter: char, is_there: bool) -> char {
+    if is_there { letter } else { '.' }
+}
+
+fn shares_there<X: SecretStore>(
+    alloc: Global,
+    secrets: &mut X,
+    list: &mut String,
+) -> Result<(), Fail> {
+    for epoch in [0, 1, 2] {
+        let share = secrets.get_share(alloc, Epoch(epoch))?;
+        list.push(letter_of('s', share.is_some()))?;
+    }
+    Ok(())
+}
+
+fn seeds_there<X: SecretStore>(
+    alloc: Global,
+    secrets: &mut X,
+    list: &mut String,
+) -> Result<(), Fail> {
+    for epoch in [0, 1, 3] {
+        let seed = secrets.get_seed(alloc, Epoch(epoch))?;
+        list.push(letter_of('e', seed.is_some()))?;
+    }
+    Ok(())
+}
+
+fn dealings_there<X: SecretStore>(
+    alloc: Global,
+    secrets: &mut X,
+    list: &mut String,
+) -> Result<(), Fail> {
+    for (epoch, dealer) in DEALINGS {
+        let private = secrets.get_dealing(alloc, Epoch(epoch), Key(dealer))?;
+        list.push(letter_of('p', private.is_some()))?;
+    }
+    Ok(())
 }
 
 /// Which of the filled store's keys are there: shares 0, 1, 2, seeds 0, 1, 3, private halves (0, 5), (0, 7), (1, 3), (3, 1).
-fn there(alloc: Global, secrets: &mut MemorySecrets) -> Result<Vec<bool>, Fail> {
-    let mut list = Vec::new(alloc);
-    for epoch in [0, 1, 2] {
-        list.push(secrets.get_share(alloc, Epoch(epoch))?.is_some())?;
-    }
-    for epoch in [0, 1, 3] {
-        list.push(secrets.get_seed(alloc, Epoch(epoch))?.is_some())?;
-    }
-    for (epoch, dealer) in [(0, 5), (0, 7), (1, 3), (3, 1)] {
-        let private = secrets.get_dealing(alloc, Epoch(epoch), Key(dealer))?;
-        list.push(private.is_some())?;
-    }
+fn there<X: SecretStore>(alloc: Global, secrets: &mut X) -> Result<String, Fail> {
+    let mut list = String::new(alloc);
+    shares_there(alloc, secrets, &mut list)?;
+    seeds_there(alloc, secrets, &mut list)?;
+    dealings_there(alloc, secrets, &mut list)?;
     Ok(list)
+}
+
+/// What a prune that is cut leaves of a filled store.
+fn left_of<X: SecretStore>(alloc: Global, secrets: &mut X, pick: u64) -> Result<String, Fail> {
+    fill_shares(alloc, secrets)?;
+    fill_seeds(alloc, secrets)?;
+    fill_dealings(alloc, secrets)?;
+    secrets.cut(alloc, &SecretOp::Prune { min: Epoch(2) }, pick)?;
+    there(alloc, secrets)
 }
 
 // The expected keys are those of the reference model.
 #[test]
 fn cut_prunes_go_by_the_bits(rt: HostRuntime) -> Result<(), Fail> {
     let alloc = rt.alloc();
-    let (t, f) = (true, false);
-    let table = [
-        (0, [f, f, t, f, f, t, f, f, f, t]),
-        (1, [t, f, t, f, f, t, f, f, f, t]),
-        (2, [f, t, t, f, f, t, f, f, f, t]),
-        (5, [t, f, t, t, f, t, f, f, f, t]),
-        (0x55, [t, f, t, t, f, t, t, f, t, t]),
-        (0x7f, [t; 10]),
-        (1 << 63, [f, f, t, f, f, t, f, f, f, t]),
-        (u64::MAX, [t; 10]),
-    ];
-    for (pick, expected) in table {
-        let mut secrets = filled(alloc)?;
-        secrets.cut(alloc, &SecretOp::Prune { min: Epoch(2) }, pick)?;
-        let left = there(alloc, &mut secrets)?;
-        assert_eq!(rt; left.as_slice(), expected.as_slice(), "at pick {pick}");
+    for (pick, expected) in [
+        (0, "..s..e...p"),
+        (1, "s.s..e...p"),
+        (2, ".ss..e...p"),
+        (5, "s.se.e...p"),
+        (0x55, "s.se.ep.pp"),
+        (0x7f, "ssseeepppp"),
+        (1 << 63, "..s..e...p"),
+        (u64::MAX, "ssseeepppp"),
+    ] {
+        let left = left_of(alloc, &mut MemorySecrets::new(alloc), pick)?;
+        is_at(&rt, left.as_str(), expected, pick);
     }
     Ok(())
+}
+
+/// Whether a put that is cut is done.
+fn is_put<X: SecretStore>(alloc: Global, secrets: &mut X, pick: u64) -> Result<bool, Fail> {
+    let put = SecretOp::PutDealing {
+        epoch: Epoch(4),
+        dealer: Key(9),
+        private: Private(number(3)?),
+    };
+    secrets.cut(alloc, &put, pick)?;
+    secrets.crash(1);
+    Ok(secrets.get_dealing(alloc, Epoch(4), Key(9))?.is_some())
 }
 
 #[test]
 fn cut_puts_are_done_where_the_pick_is_even(rt: HostRuntime) -> Result<(), Fail> {
     let alloc = rt.alloc();
     for (pick, done) in [(0, true), (1, false), (6, true), (7, false)] {
-        let mut secrets = MemorySecrets::new(alloc);
-        let put = SecretOp::PutDealing {
-            epoch: Epoch(4),
-            dealer: Key(9),
-            private: Private(number(3)?),
-        };
-        secrets.cut(alloc, &put, pick)?;
-        secrets.crash(1);
-        let private = secrets.get_dealing(alloc, Epoch(4), Key(9))?;
-        assert_eq!(rt; private.is_some(), done, "at pick {pick}");
+        let found = is_put(alloc, &mut MemorySecrets::new(alloc), pick)?;
+        is_at(&rt, found, done, pick);
     }
     Ok(())
+}
+
+/// Puts a share, and prunes and reads twice behind it: what came of the prune and of the first read, and whether the second gave the share.
+fn pruned<X: SecretStore>(
+    alloc: Global,
+    secrets: &mut X,
+) -> Result<(Option<SecretError>, Option<SecretError>, bool), Fail> {
+    secrets.put_share(alloc, Epoch(0), Share(number(1)?))?;
+    let pruned = secrets.prune(alloc, Epoch(1)).err();
+    let read = secrets.get_share(alloc, Epoch(0)).err();
+    Ok((pruned, read, secrets.get_share(alloc, Epoch(0))?.is_some()))
 }
 
 #[test]
 fn told_calls_fail_and_change_nothing(rt: HostRuntime) -> Result<(), Fail> {
     let alloc = rt.alloc();
     let mut secrets = MemorySecrets::failing(alloc, vec![in alloc; 2, 3]?);
-    secrets.put_share(alloc, Epoch(0), Share(number(1)?))?;
-    assert_eq!(rt; secrets.prune(alloc, Epoch(1)), Err(SecretError::Failed));
-    assert_eq!(rt;
-        secrets.get_share(alloc, Epoch(0)),
-        Err(SecretError::Failed)
-    );
-    assert!(rt; secrets.get_share(alloc, Epoch(0))?.is_some());
+    let failed = Some(SecretError::Failed);
+    is(&rt, pruned(alloc, &mut secrets)?, (failed, failed, true));
     Ok(())
 }
