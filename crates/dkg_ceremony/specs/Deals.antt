@@ -54,7 +54,7 @@ deal_of round signer share seed =
     else Ok (both_halves (dealt_poly (again_of round.previous share) seed (dealt_length (length round.players))) round.players)
 
 -- What a call answered is the answer, unless memory ran out.
-abbrev pub Deals : Result (List ℕ × List (ℕ × ℕ)) DealError → Result (List ℕ × List (ℕ × ℕ)) DealError → Type 0
-Deals answer (Ok dealt) = answer ≡ Ok dealt
-Deals answer (Err NoMemory) = Unit {0}
-Deals answer (Err e) = answer ≡ Err e
+abbrev pub AnswersDeal : Result (List ℕ × List (ℕ × ℕ)) DealError → Result (List ℕ × List (ℕ × ℕ)) DealError → Type 0
+AnswersDeal answer (Ok dealt) = answer ≡ Ok dealt
+AnswersDeal answer (Err NoMemory) = Unit {0}
+AnswersDeal answer (Err e) = answer ≡ Err e

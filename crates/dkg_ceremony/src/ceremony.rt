@@ -88,7 +88,7 @@ pub trait Ceremony {
     ghost use Rattle.dkg_ceremony.specs.declared.dealer_log.DealerLog.{DealerLog};
     ghost use Rattle.dkg_ceremony.specs.declared.signed_log.SignedDealerLog.{SignedDealerLog};
     ghost use Rattle.dkg_ceremony.specs.Rounds.{AnswersRound};
-    ghost use Rattle.dkg_ceremony.specs.Deals.{Deals};
+    ghost use Rattle.dkg_ceremony.specs.Deals.{AnswersDeal};
     ghost use Rattle.dkg_ceremony.specs.Acks.{AnswersAckCheck};
     ghost use Rattle.dkg_ceremony.specs.ValidLogs.{has_entry};
     ghost use Rattle.dkg_ceremony.specs.Finishes.{AnswersFinish, IsMissing};
@@ -163,7 +163,7 @@ pub trait Ceremony {
         seed: &Seed,
     ) -> Result<(Public, Map<Private>), DealError>
         requires { Contains round.now.dealers (Self.Signer.key_of signer.now) }
-        ensures { Deals (deal_of round.now (Self.Signer.key_of signer.now) (option_copied share.entry) seed.now) result };
+        ensures { AnswersDeal (deal_of round.now (Self.Signer.key_of signer.now) (option_copied share.entry) seed.now) result };
 
     /// Checks a dealing to the player `me`.
     fn check_dealing(

@@ -4,7 +4,7 @@
 //! the dealer's share.
 ghost use Rattle.std.specs.Prelude.{◌≤◌, ◌≡◌, ℕ, ◌+◌, ◌<◌, IfOk, map};
 ghost use Rattle.std.specs.Option.{option_copied};
-ghost use Rattle.dkg_ceremony.specs.Deals.{Deals, again_of, coefficient_of, deal_of, dealt_at, dealt_poly, halves_from, is_share_of};
+ghost use Rattle.dkg_ceremony.specs.Deals.{AnswersDeal, again_of, coefficient_of, deal_of, dealt_at, dealt_poly, halves_from, is_share_of};
 ghost use Rattle.dkg_ceremony.specs.declared.deal.DealError.TheVariants.{NoMemory as NoMemoryLeft};
 
 use crate::evaluate::{fits, value_of};
@@ -145,7 +145,7 @@ pub(crate) fn deal(
     share: Option<&Share>,
     seed: &Seed,
 ) -> Result<(Public, Map<Private>), DealError>
-    ensures { Deals (deal_of round.now dealer (option_copied share.entry) seed.now) result }
+    ensures { AnswersDeal (deal_of round.now dealer (option_copied share.entry) seed.now) result }
 {
     if !is_share(&round.parts().previous, dealer, share) {
         return Err(DealError::ShareRefused);

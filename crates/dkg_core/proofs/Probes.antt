@@ -12,7 +12,7 @@ use Rattle.dkg_probe.specs.declared.event.Event.{Event as ProbeEvent}
 use Rattle.dkg_probe.specs.declared.event.Event.TheVariants.{Subscribe, Unsubscribe, Attach, Peer, Retry}
 use Rattle.dkg_probe.specs.declared.state.State.{State}
 use Rattle.dkg_probe.specs.declared.wire.Request.{Request}
-use Rattle.dkg_probe.specs.Acts.{Say, Track, Goes, Stops, bind, says_all, Completes, Ended, went, stopped, broken, Runs}
+use Rattle.dkg_probe.specs.Acts.{Say, Track, Goes, Stops, bind, says_all, ProbeCompletes, ProbeEnded, went, stopped, broken, ProbeRuns}
 use Rattle.dkg_probe.specs.Candidates.{Awaiting, Candidate, with_candidate, is_candidate}
 use Rattle.dkg_probe.specs.Probing as probing
 use Rattle.dkg_probe.specs.Probing.{Probes, latest_request, with_sample, with_awaited, asks_dealers, asks_next, activates, one_more, is_done, is_first, subscribes, retries_in, retries, of_genesis, resolves, begins_at, awaits_block, from_floor, dealers_in, chooses, samples, is_dealer, blocks, hears_latest, adds, hears_boundary, found_in, from_body, hears_body, hears_block, hears_in, discovers, response_to, answers, serves, takes, then_serves, steps}
@@ -43,7 +43,7 @@ module _ {Dir : Type 0} (m : ℕ) where
   Stays (Goes end) = end.sample.minimum ≡ m
   Stays (Stops fault) = Unit {0}
 
-  stays_at : (acts : Probes Dir) (end : State Dir) (out new : List Line) → Stays acts → Completes acts end out new → end.sample.minimum ≡ m
+  stays_at : (acts : Probes Dir) (end : State Dir) (out new : List Line) → Stays acts → ProbeCompletes acts end out new → end.sample.minimum ≡ m
   stays_at (Say line acts) end out new all done = stays_at acts end (out ++ line ∷ []) new all done
   stays_at (Track epoch peers acts) end out new all done = stays_at acts end out new all done
   stays_at (Goes its) end out new all done = ap (λ (st : State Dir). st.sample.minimum) done.1 ∙ all
@@ -190,7 +190,7 @@ module _ {Dir : Type 0} (c : Fixed Dir) (s : Snapshot Dir) (event : ProbeEvent) 
   its_state : state_of (least_epoch s) st.probe ≡ state
   its_state = ap (state_of (least_epoch s)) has.part ∙ ap (λ (minimum : ℕ). state_of minimum (probe_of state)) (sym has.minimum) ∙ again state
 
-  still : (ended : Ended ℕ (State Dir)) (out new : List Line) → Runs (steps_from c s event state) ended out new → IfWentTo ended (λ end. HasState s (with_probe st end) end)
+  still : (ended : ProbeEnded ℕ (State Dir)) (out new : List Line) → ProbeRuns (steps_from c s event state) ended out new → IfWentTo ended (λ end. HasState s (with_probe st end) end)
   still (went end) out new ran = record {
     part = refl;
     minimum = stays_at (least_epoch s) (steps_from c s event state) end out new (stepping (least_epoch s) (given c s) (lack_in c s) (served_from c.source) event state has.minimum) ran;
@@ -198,11 +198,11 @@ module _ {Dir : Type 0} (c : Fixed Dir) (s : Snapshot Dir) (event : ProbeEvent) 
   still (stopped fault) out new ran = tt
   still broken out new ran = tt
 
-  runs : (ended : Ended ℕ (State Dir)) (w : World) (new : List Line) → Runs (steps_from c s event state) ended w.out new
+  runs : (ended : ProbeEnded ℕ (State Dir)) (w : World) (new : List Line) → ProbeRuns (steps_from c s event state) ended w.out new
       → EndsSo (probes_in c (Some s) (Some event) st) (ended_as PeerSet (with_probe st) ended) w (with_out new w)
   runs ended w new ran =
       probes_join s.directory PeerSet (with_probe st) (steps_from c s event (state_of (least_epoch s) st.probe)) ended w new
-      (subst (λ (x : State Dir). Runs (steps_from c s event x) ended w.out new) (sym its_state) ran)
+      (subst (λ (x : State Dir). ProbeRuns (steps_from c s event x) ended w.out new) (sym its_state) ran)
 
 pub probes_step : {Dir : Type 0} → ProbesStep Dir
 probes_step {Dir} c s event its st state ended w new snapshot is has ran = (

@@ -4,7 +4,7 @@ use Rattle.dkg_types.specs.declared.entry.Entry.{Entry as Line}
 use Rattle.dkg_types.specs.declared.participants.TrackedPeers.{TrackedPeers}
 use Rattle.dkg_types.specs.Tracking.{with_set}
 use Rattle.dkg_probe.specs.Acts as of_probe
-use Rattle.dkg_probe.specs.Acts.{Acts, Runs, tracked_after}
+use Rattle.dkg_probe.specs.Acts.{ProbeActs, ProbeRuns, tracked_after}
 use Rattle.dkg_store.specs.Acts as of_store
 use Rattle.dkg_store.specs.Acts.{Held, World, by_want}
 use Rattle.dkg_core.specs.Courses.{Course, Say, Call, Goes, Stops, EndsSo, Tracks, Activates, Deed, Called, deeds_of}
@@ -12,14 +12,14 @@ use Rattle.dkg_core.specs.Transcripts.{with_out}
 
 -- A line said is a line said, and peers that are tracked are the call by which the checkpoint is activated, with its directory. Ends and faults are
 -- those that the node names so.
-abbrev pub joined : {Dir F G S T : Type 0} → (directory : Dir) → (F → G) → (S → T) → Acts F S → Course Dir G T
+abbrev pub joined : {Dir F G S T : Type 0} → (directory : Dir) → (F → G) → (S → T) → ProbeActs F S → Course Dir G T
 joined directory fault end (of_probe.Say line acts) = Say line (joined directory fault end acts)
 joined directory fault end (of_probe.Track epoch peers acts) = Call (Activates epoch peers directory) (joined directory fault end acts)
 joined directory fault end (of_probe.Goes its) = Goes (end its)
 joined directory fault end (of_probe.Stops its) = Stops (fault its)
 
 -- what ends a probe early is want of memory
-abbrev pub ended_as : {F G S T : Type 0} → (F → G) → (S → T) → of_probe.Ended F S → of_store.Ended G T
+abbrev pub ended_as : {F G S T : Type 0} → (F → G) → (S → T) → of_probe.ProbeEnded F S → of_store.Ended G T
 ended_as fault end (of_probe.went its) = of_store.went (end its)
 ended_as fault end (of_probe.stopped its) = of_store.stopped (fault its)
 ended_as fault end of_probe.broken = of_store.broken by_want
@@ -33,10 +33,10 @@ tracked_by (deed ∷ deeds) sets = tracked_by deeds sets
 
 -- WHATEVER RUNS AS A PROBE'S ACTS runs as the joined course: over any devices, which it leaves as they were with the fuse, and with the same lines.
 abbrev pub ProbesJoin : (Dir F G S T : Type 0) → Type 0
-ProbesJoin Dir F G S T = (directory : Dir) (fault : F → G) (end : S → T) (acts : Acts F S) (ended : of_probe.Ended F S) (w : World) (new : List Line)
-    → Runs acts ended w.out new → EndsSo (joined directory fault end acts) (ended_as fault end ended) w (with_out new w)
+ProbesJoin Dir F G S T = (directory : Dir) (fault : F → G) (end : S → T) (acts : ProbeActs F S) (ended : of_probe.ProbeEnded F S) (w : World) (new : List Line)
+    → ProbeRuns acts ended w.out new → EndsSo (joined directory fault end acts) (ended_as fault end ended) w (with_out new w)
 
 -- A manager that does the calls of the joined course tracks what the acts say, whatever the devices hold.
 abbrev pub JoinsTrack : (Dir F G S T : Type 0) → Type 0
-JoinsTrack Dir F G S T = (directory : Dir) (fault : F → G) (end : S → T) (acts : Acts F S) (h : Held) (sets : ℕ → Option TrackedPeers)
+JoinsTrack Dir F G S T = (directory : Dir) (fault : F → G) (end : S → T) (acts : ProbeActs F S) (h : Held) (sets : ℕ → Option TrackedPeers)
     → tracked_by (deeds_of (joined directory fault end acts) h) sets ≡ tracked_after acts sets

@@ -11,8 +11,8 @@ pub mod Dealing
 pub mod Desk
 pub mod Endings
 pub mod Enduring
+pub mod Entered
 pub mod Entering
-pub mod Entry
 pub mod Finishing
 pub mod Fixed
 pub mod Forms

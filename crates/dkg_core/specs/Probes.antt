@@ -3,7 +3,7 @@ use Rattle.std.specs.Prelude.{◌≡◌, ℕ, List, Some}
 use Rattle.dkg_types.specs.declared.entry.Entry.{Entry as Line}
 use Rattle.dkg_probe.specs.declared.event.Event.{Event as ProbeEvent}
 use Rattle.dkg_probe.specs.declared.state.State.{State}
-use Rattle.dkg_probe.specs.Acts.{Ended, went, stopped, broken, Runs}
+use Rattle.dkg_probe.specs.Acts.{ProbeEnded, went, stopped, broken, ProbeRuns}
 use Rattle.dkg_store.specs.Acts.{World}
 use Rattle.dkg_core.specs.Courses.{EndsSo}
 use Rattle.dkg_core.specs.Fixed.{Fixed, Snapshot}
@@ -17,7 +17,7 @@ pub record HasState {Dir : Type 0} (s : Snapshot Dir) (st : Live Dir) (state : S
   pub part : st.probe ≡ probe_of state
   pub minimum : state.sample.minimum ≡ least_epoch s
 
-abbrev pub IfWentTo : {Dir : Type 0} → Ended ℕ (State Dir) → (State Dir → Type 0) → Type 0
+abbrev pub IfWentTo : {Dir : Type 0} → ProbeEnded ℕ (State Dir) → (State Dir → Type 0) → Type 0
 IfWentTo (went end) P = P end
 IfWentTo (stopped fault) P = Unit {0}
 IfWentTo broken P = Unit {0}
@@ -26,6 +26,6 @@ IfWentTo broken P = Unit {0}
 -- of which the life has the state again.
 abbrev pub ProbesStep : Type 0 → Type 0
 ProbesStep Dir = (c : Fixed Dir) (s : Snapshot Dir) (event : Event Dir) (its : ProbeEvent) (st : Live Dir) (state : State Dir)
-    → (ended : Ended ℕ (State Dir)) (w : World) (new : List Line)
-    → c.probed.snapshot ≡ Some s → probe_event event ≡ Some its → HasState s st state → Runs (steps_from c s its state) ended w.out new
+    → (ended : ProbeEnded ℕ (State Dir)) (w : World) (new : List Line)
+    → c.probed.snapshot ≡ Some s → probe_event event ≡ Some its → HasState s st state → ProbeRuns (steps_from c s its state) ended w.out new
     → EndsSo (probes c event st) (ended_as PeerSet (with_probe st) ended) w (with_out new w) × IfWentTo ended (λ end. HasState s (with_probe st end) end)

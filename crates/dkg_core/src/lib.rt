@@ -13,7 +13,7 @@
 ghost use Rattle.dkg_core.specs.Agreeing.{OpeningsAgree, SetupsAgree, StepsAgree};
 ghost use Rattle.dkg_core.specs.Behind.{OpeningsRunBehind, OpeningsSayBehind, StepsRunBehind, StepsSayBehind};
 ghost use Rattle.dkg_core.specs.Enduring.{OpeningsEndure, StepsGiveBack, StepsKeep};
-ghost use Rattle.dkg_core.specs.Entry.{EntersRegistered, LastBlocksAreEntered};
+ghost use Rattle.dkg_core.specs.Entered.{EntersRegistered, LastBlocksAreEntered};
 ghost use Rattle.dkg_core.specs.Finishing.{StandInsFinish};
 ghost use Rattle.dkg_core.specs.Fixed.{Fixed};
 ghost use Rattle.dkg_core.specs.Forms.{HalvesBegin, NodeOpeningsLead, NodeOpeningsLeadOver, OpeningsLead, OpeningsLeadOver, SetupsComeTo, SetupsStore};

@@ -254,9 +254,9 @@ module _ {Dir F S : Type 0} (course : Course Dir F S) where
 
 -- AN OPENING OF A LIFE
 
-module _ {Dir : Type 0} (c : Fixed Dir) (today : IsBareOpening c) (unplanned : (h : Held) → (c.seen h).plan ≡ None) (seen : Held → Seen) (reads : c.seen ≡ seen) (number calls : ℕ) (life_is : c.life ≡ number) (calls_are : c.opening_calls ≡ calls) where
+module _ {Dir : Type 0} (c : Fixed Dir) (is_bare : IsBareOpening c) (unplanned : (h : Held) → (c.seen h).plan ≡ None) (seen : Held → Seen) (reads : c.seen ≡ seen) (number calls : ℕ) (life_is : c.life ≡ number) (calls_are : c.opening_calls ≡ calls) where
   store_first : opening c ≡ bind (opens_store seen number calls) (sets_up_over c)
-  store_first = opening_as c today.reshare today.bare unplanned ∙ (λ i. bind (opens_store (reads i) (life_is i) (calls_are i)) (sets_up_over c))
+  store_first = opening_as c is_bare.reshare is_bare.bare unplanned ∙ (λ i. bind (opens_store (reads i) (life_is i) (calls_are i)) (sets_up_over c))
 
   -- the store failed
   pub opening_failed : (stop : Stop) {files files_now : Files} {image now : Files → Type 0} {old new : Moment} → MakesAt (on_devices (opens_store {Dir = Dir} seen number calls)) (by_stop stop) files image files_now now old new

@@ -51,7 +51,7 @@ epoch_at source terms = epoch_above terms (startup_of source)
 -- A Fixed of an opening without material, over files in their grammar, whose opening makes as many mending calls as the Fixed says.
 pub record IsOpeningOf {Dir : Type 0} (terms : Terms) (source : Source Dir) (life word : ℕ) (files : Files) (c : Fixed Dir) : Type 0 where
   pub lent : IsLent terms source word c
-  pub today : IsBareOpening c
+  pub bare : IsBareOpening c
   pub reads : ReadsPlanless c
   pub life_is : c.life ≡ life
   pub calls_are : c.opening_calls ≡ length (open_calls files)

@@ -23,7 +23,7 @@ const FIRST: [u8; 10] = [0, 3, 0, 15, 0, 7, 0, 1, 0, 23];
 /// Its 15 + 9x + x², and 25.
 const OTHER: [u8; 10] = [0, 3, 0, 15, 0, 9, 0, 1, 0, 25];
 
-fn round_of(alloc: Global) -> Result<Round, Fail> {
+fn some_round(alloc: Global) -> Result<Round, Fail> {
     let keys = Set::from_any(alloc, &KEYS)?;
     let mode = Mode::NonZeroCounter;
     Ok(StandCeremony.round(alloc, b"", 0, None, mode, Reveal::V1, &keys, &keys)?)
@@ -75,7 +75,7 @@ fn live_over(
     fuse: Fuse,
     heard: [&[u8]; 3],
 ) -> Result<Result<[Option<Ack>; 3], StoreError>, Fail> {
-    let round = round_of(alloc)?;
+    let round = some_round(alloc)?;
     if !round.parts().players.has(ME) {
         return Err(Fail::from("the key is no player"));
     }

@@ -138,7 +138,7 @@ module _ {Dir : Type 0} (c : Fixed Dir) (info : EpochInfo Dir) where
             subst (λ (x : Course Dir Fault (Option ℕ)). Tells x (went None) out out) (sym (as_none ∙ reads_none apart)) (record { lines = []; added = sym (append-nil out); by = (refl, refl) })
 
       -- .. else the stored one
-      module _ (holds : has info.output.players c.me ≡ true) (today : ReadsPlanless c) where
+      module _ (holds : has info.output.players c.me ≡ true) (planless : ReadsPlanless c) where
         as_looked : reads_its ≡ looking
         as_looked = as_none ∙ reads_holder holds
 
@@ -147,7 +147,7 @@ module _ {Dir : Type 0} (c : Fixed Dir) (info : EpochInfo Dir) where
             → MakesAt (on_devices reads_its) (went share) (files old) (image old) (files new) (image new) (moment out s f) (moment out t g)
         share_made files image share {old} {new} {out} {s} {t} {f} {g} same kept still is =
             let h = held_in (files old) s in
-            let one : share ≡ share_in h = is ∙ sym (looked_up info.epoch s.shares) ∙ sym (ap (λ (seen : Held → Seen). lookup info.epoch (seen h).shares) today) in
+            let one : share ≡ share_in h = is ∙ sym (looked_up info.epoch s.shares) ∙ sym (ap (λ (seen : Held → Seen). lookup info.epoch (seen h).shares) planless) in
             subst (λ (x : Course Dir Fault (Option ℕ)). MakesAt (on_devices x) (went share) (files old) (image old) (files new) (image new) (moment out s f) (moment out t g)) (sym as_looked)
             (still_makes files image (on_devices looking) (went share) same still (made_read (files old) (image old) share_in kept one))
 
@@ -155,7 +155,7 @@ module _ {Dir : Type 0} (c : Fixed Dir) (info : EpochInfo Dir) where
         pub share_told : (share : Option ℕ) (out : List Line) → Tells reads_its (went share) out out
         share_told share out =
             let h : Held = record { journaled = nothing_held.journaled; secrets = record { shares = one_at info.epoch share; seeds = maps.empty; privates = maps.empty } } in
-            let one : share ≡ share_in h = sym (one_is info.epoch share) ∙ sym (looked_up info.epoch (one_at info.epoch share)) ∙ sym (ap (λ (seen : Held → Seen). lookup info.epoch (seen h).shares) today) in
+            let one : share ≡ share_in h = sym (one_is info.epoch share) ∙ sym (looked_up info.epoch (one_at info.epoch share)) ∙ sym (ap (λ (seen : Held → Seen). lookup info.epoch (seen h).shares) planless) in
             subst (λ (x : Course Dir Fault (Option ℕ)). Tells x (went share) out out) (sym as_looked)
             (record { lines = []; added = sym (append-nil out); by = (h, (refl, one)) })
 

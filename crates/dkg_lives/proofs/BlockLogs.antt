@@ -29,7 +29,7 @@ module _ (s : Setting) (form : IsFormOfInclusion s.script) (number : ℕ) (made_
   own = block_of s (take number (blocks s)) made_it.line
 
   abbrev plain_limits : Limits
-  plain_limits = record { most = non_zero_u32_get s.script.config.limit; version = s.script.config.max_mode.0; addressed = false }
+  plain_limits = record { limit = non_zero_u32_get s.script.config.limit; version = s.script.config.max_mode.0; addressed = false }
 
   same_limits : limits s ≡ limits_of s.script
   same_limits = rw form.reshares refl

@@ -65,7 +65,7 @@ parent_is bs all (Some number) are = digest_at bs all number are
 -- A PAYLOAD that is read is spelled so
 
 abbrev units : (most version : ℕ) → Limits
-units most version = record { most = most; version = version; addressed = false }
+units most version = record { limit = most; version = version; addressed = false }
 
 pub spelled_back : (most version : ℕ) (bytes : List ℕ) → IsBytes bytes → (read : Result (Payload directory.Unit) CodecError)
     → whole (payload_at (λ peers. unit_at) (λ d peers. true) most version bytes) ≡ read → IsSome (result_ok read) → flagged_bytes unit_spelling (result_ok read) ≡ 1 ∷ bytes

@@ -113,7 +113,7 @@ module _ (s : Setting) (cuts : List (Option CutAt)) (form : IsFormOfInclusion s.
         read (Some bytes) carries = by_payload (unit_payload plain_limits bytes) refl carries
           where
             plain_limits : Limits
-            plain_limits = record { most = non_zero_u32_get s.script.config.limit; version = s.script.config.max_mode.0; addressed = false }
+            plain_limits = record { limit = non_zero_u32_get s.script.config.limit; version = s.script.config.max_mode.0; addressed = false }
 
             same_plain : limits_of s.script ≡ plain_limits
             same_plain = rw form.plain refl

@@ -49,7 +49,7 @@ none_some e = cc
 -- A LOG that a block carries
 
 abbrev units : (most version : ℕ) → Limits
-units most version = record { most = most; version = version; addressed = false }
+units most version = record { limit = most; version = version; addressed = false }
 
 -- what is read as one fits under the limit
 log_read : (most version : ℕ) (its : Option (List ℕ)) → IfSome its IsBytes → (log : SignedDealerLog) → option_and_then its_log (option_and_then (unit_payload (units most version)) its) ≡ Some log → SignedFits most log

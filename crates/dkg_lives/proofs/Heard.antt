@@ -263,7 +263,7 @@ has_form c st from bytes = by_form c st from bytes (HasForm c st from bytes)
 
 pub record Knows {Dir : Type 0} (c : Fixed Dir) (s : Setting) : Type 0 where
   pub me_is : c.me ≡ me s
-  pub limit_is : (limits s).most ≡ c.limit
+  pub limit_is : (limits s).limit ≡ c.limit
   pub rules_are : c.rules ≡ stand_in
 
 -- Recorded dealings of this epoch pass, where the life plays in its round.

@@ -49,10 +49,10 @@ ok_of : {A E : Type 0} (r : Result A E) (v : A) → result_ok r ≡ Some v → r
 ok_of {A} {E} (Ok w) v e = ap (λ (x : A). Ok x) (some_is e)
 ok_of (Err f) v e = absurd (none_some v e)
 
-read_fits : (limits : Limits) (bytes : List ℕ) (log : SignedDealerLog) → IsBytes bytes → unit_payload limits bytes ≡ Some (payload.DealerLog log) → SignedFits limits.most log
+read_fits : (limits : Limits) (bytes : List ℕ) (log : SignedDealerLog) → IsBytes bytes → unit_payload limits bytes ≡ Some (payload.DealerLog log) → SignedFits limits.limit log
 read_fits limits bytes log are is =
-    ((payload_grammar (λ peers u. ⊤) unit_spelling (λ _. unit_at) (λ _ _. true) (λ peers. unit_grammar) limits.most limits.version).found bytes (payload.DealerLog log) [] are
-    (whole_is (payload_at (λ _. unit_at) (λ _ _. true) limits.most limits.version bytes) (payload.DealerLog log) (ok_of (whole (payload_at (λ _. unit_at) (λ _ _. true) limits.most limits.version bytes)) (payload.DealerLog log) is))).0
+    ((payload_grammar (λ peers u. ⊤) unit_spelling (λ _. unit_at) (λ _ _. true) (λ peers. unit_grammar) limits.limit limits.version).found bytes (payload.DealerLog log) [] are
+    (whole_is (payload_at (λ _. unit_at) (λ _ _. true) limits.limit limits.version bytes) (payload.DealerLog log) (ok_of (whole (payload_at (λ _. unit_at) (λ _ _. true) limits.limit limits.version bytes)) (payload.DealerLog log) is))).0
 
 -- the log that a line's payload is
 pub log_read : (config : ScriptConfig) (o : Option (List ℕ)) → IfSome o IsBytes → (log : SignedDealerLog) → option_and_then its_log (payload_in config o) ≡ Some log → SignedFits (non_zero_u32_get config.limit) log
@@ -60,7 +60,7 @@ log_read config None are log is = absurd (none_some log is)
 log_read config (Some its) are log is = by_payload (unit_payload limits its) refl is
   where
     limits : Limits
-    limits = record { most = non_zero_u32_get config.limit; version = config.max_mode.0; addressed = false }
+    limits = record { limit = non_zero_u32_get config.limit; version = config.max_mode.0; addressed = false }
 
     by_payload : (o : Option (Payload directory.Unit)) → unit_payload limits its ≡ o → option_and_then its_log o ≡ Some log → SignedFits (non_zero_u32_get config.limit) log
     by_payload None read is = absurd (none_some log is)

@@ -39,11 +39,11 @@ some_is : {A : Type 0} (x y : A) → ◌≡◌ {A = Option A} (Some x) (Some y) 
 some_is x y e = cc
 
 -- what is read as a dealing is a message that is one
-dealing_back : (limits : Limits) (bytes : List ℕ) (d : Halves) → dealing_in limits bytes ≡ Some d → whole (message_at limits.most bytes) ≡ Ok (ADealing d.public d.private)
+dealing_back : (limits : Limits) (bytes : List ℕ) (d : Halves) → dealing_in limits bytes ≡ Some d → whole (message_at limits.limit bytes) ≡ Ok (ADealing d.public d.private)
 unfolding dealing_in
-dealing_back limits bytes d is = by_read (whole (message_at limits.most bytes)) refl is
+dealing_back limits bytes d is = by_read (whole (message_at limits.limit bytes)) refl is
   where
-    by_read : (r : Result Message CodecError) → whole (message_at limits.most bytes) ≡ r → option_and_then halves_of (result_ok r) ≡ Some d → whole (message_at limits.most bytes) ≡ Ok (ADealing d.public d.private)
+    by_read : (r : Result Message CodecError) → whole (message_at limits.limit bytes) ≡ r → option_and_then halves_of (result_ok r) ≡ Some d → whole (message_at limits.limit bytes) ≡ Ok (ADealing d.public d.private)
     by_read (Ok (ADealing public private)) reads is =
         let its : Halves = record { public = public; private = private } in
         reads ∙ ap (λ (x : Halves). Ok (ADealing x.public x.private)) (some_is its d is)

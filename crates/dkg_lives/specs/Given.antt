@@ -42,12 +42,12 @@ use Rattle.dkg_dealing.specs.Planless.{seen_planless}
 -- BLOCKS
 
 abbrev pub limits_of : Script → Limits
-limits_of script = record { most = non_zero_u32_get script.config.limit; version = script.config.max_mode.0; addressed = script.addressed }
+limits_of script = record { limit = non_zero_u32_get script.config.limit; version = script.config.max_mode.0; addressed = script.addressed }
 
 -- what a line's payload spells, if it does, to a node whose directories say nothing
 abbrev pub payload_in : ScriptConfig → Option (List ℕ) → Option (Payload directory.Unit)
 payload_in config payload =
-    option_and_then (unit_payload (record { most = non_zero_u32_get config.limit; version = config.max_mode.0; addressed = false })) payload
+    option_and_then (unit_payload (record { limit = non_zero_u32_get config.limit; version = config.max_mode.0; addressed = false })) payload
 
 -- where the block of a line is proposed
 abbrev pub context_in : ScriptConfig → BlockLine → (parent : List ℕ) → Context

@@ -69,7 +69,7 @@ IsRefused way limit files w how new = (IsInGrammar limit files → ⊥) × ((sto
 abbrev pub LivesSo : {W : Type 0} → Way W → Lived → Files → W → Result (Unit {0}) Stop → W → Type 0
 LivesSo way g files w how new =
     Steps way (entry.Step 0) (fuse_for g.life.cut 0) (node_opening (at_step g 0)) w how new (λ end mid. TakesAll way g 1 g.life.events end mid how new)
-    ⊎ IsRefused way (limits_of g.script).most files w how new
+    ⊎ IsRefused way (limits_of g.script).limit files w how new
 
 -- How it ends: both devices stop, with its pick or with its cut's, and a cut is told then. A fault ends the run, and stops nothing. `next` is what comes else.
 abbrev pub EndsLife : {W : Type 0} → Way W → Life → Result (Unit {0}) Stop → W → Result (Unit {0}) Fault → W → (next : W → Type 0) → Type 0

@@ -6,10 +6,10 @@ use Rattle.dkg_types.specs.declared.entry.Entry.{Entry as Line}
 use Rattle.dkg_types.specs.declared.manager.TrackError.{TrackError}
 use Rattle.dkg_types.specs.declared.manager.TrackError.TheVariants.{Missing, NoMemory}
 use Rattle.dkg_types.specs.declared.participants.TrackedPeers.{TrackedPeers}
-use Rattle.dkg_types.specs.Tracking.{Names, with_set}
+use Rattle.dkg_types.specs.Tracking.{AnswersTracking, with_set}
 use Rattle.dkg_probe.specs.declared.event.ProbeStop.{ProbeStop}
 use Rattle.dkg_probe.specs.declared.state.State.{State}
-use Rattle.dkg_probe.specs.Acts.{Acts, Goes, says_all, IsFront, Runs, Tracks, tracked_after}
+use Rattle.dkg_probe.specs.Acts.{ProbeActs, Goes, says_all, IsFront, ProbeRuns, Tracks, tracked_after}
 use Rattle.dkg_probe.specs.Probing.{Fixed, latest_request, with_sample, one_more, is_done, is_first, tracked_of, activates, subscribes, ended_in, ended_by}
 use Rattle.dkg_probe.specs.Sampling.{forgotten}
 use Rattle.dkg_probe.specs.Stopping.{stop_for}
@@ -25,17 +25,17 @@ asked_front out new mid dealers i lt same so_far =
 
 -- all were asked, or the first of them
 pub asks_run : {Dir : Type 0} (dealers : List ℕ) (end st : State Dir) (result : Result (Unit {0}) Want) (out new : List Line) → end ≡ st → OnOk result (new ≡ out ++ map latest_request dealers)
-    → OnErr result (IsFront (map latest_request dealers) out new) → Runs (says_all (map latest_request dealers) (Goes st)) (ended_in end result) out new
+    → OnErr result (IsFront (map latest_request dealers) out new) → ProbeRuns (says_all (map latest_request dealers) (Goes st)) (ended_in end result) out new
 asks_run dealers end st (Ok u) out new same said front = all_said (map latest_request dealers) (Goes st) end out new (said, same)
 asks_run dealers end st (Err e) out new same said front = some_said (map latest_request dealers) (Goes st) out new front
 
 -- the checkpoint was not activated
-pub begin_stops : {Dir : Type 0} (c : Fixed Dir) (lack : Option ℕ) (st left : State Dir) (error : TrackError) (out : List Line) → Names {A = Unit {0}} lack (Err error) → Runs (activates c lack st) (ended_by left (Err (stop_for error))) out out
+pub begin_stops : {Dir : Type 0} (c : Fixed Dir) (lack : Option ℕ) (st left : State Dir) (error : TrackError) (out : List Line) → AnswersTracking {A = Unit {0}} lack (Err error) → ProbeRuns (activates c lack st) (ended_by left (Err (stop_for error))) out out
 begin_stops c lack st left (Missing peer) out named = rw named (refl, refl)
 begin_stops c lack st left NoMemory out named = breaks_at_once (activates c lack st) out
 
 -- saying lines has nobody tracked
-asked_tracks : {F S : Type 0} (lines : List Line) (acts : Acts F S) (sets : ℕ → Option TrackedPeers) (n : ℕ) → tracked_after (says_all lines acts) sets n ≡ tracked_after acts sets n
+asked_tracks : {F S : Type 0} (lines : List Line) (acts : ProbeActs F S) (sets : ℕ → Option TrackedPeers) (n : ℕ) → tracked_after (says_all lines acts) sets n ≡ tracked_after acts sets n
 asked_tracks [] acts sets n = refl
 asked_tracks (line ∷ lines) acts sets n = asked_tracks lines acts sets n
 
@@ -47,7 +47,7 @@ begin_tracks c lack st sets now none said n =
     rw none (said n ∙ sym e)
 
 -- however the step then ends
-pub tracks_all : {F S E : Type 0} (acts : Acts F S) (result : Result (Unit {0}) E) (sets now : ℕ → Option TrackedPeers) → ((n : ℕ) → now n ≡ tracked_after acts sets n) → Tracks acts result sets now
+pub tracks_all : {F S E : Type 0} (acts : ProbeActs F S) (result : Result (Unit {0}) E) (sets now : ℕ → Option TrackedPeers) → ((n : ℕ) → now n ≡ tracked_after acts sets n) → Tracks acts result sets now
 tracks_all acts (Ok u) sets now all = all
 tracks_all acts (Err e) sets now all = inr all
 

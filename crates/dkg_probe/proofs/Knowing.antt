@@ -8,7 +8,7 @@ use Rattle.dkg_probe.specs.declared.event.Event.{Event}
 use Rattle.dkg_probe.specs.declared.event.ProbeStop.{ProbeStop}
 use Rattle.dkg_probe.specs.declared.event.ProbeStop.TheVariants.{PeerSet, NoMemory, Failed}
 use Rattle.dkg_probe.specs.declared.state.State.{State}
-use Rattle.dkg_probe.specs.Acts.{Say, Track, Goes, Stops, Completes, Faults, Speaks, Breaks, Runs, went, Each}
+use Rattle.dkg_probe.specs.Acts.{Say, Track, Goes, Stops, ProbeCompletes, ProbeFaults, Speaks, ProbeBreaks, ProbeRuns, went, Each}
 use Rattle.dkg_probe.specs.OneEpoch.{SaidSince, TellsKnown}
 use Rattle.dkg_probe.specs.Probing.{Fixed, Probes, takes, then_serves, ended_by}
 use Rattle.dkg_probe.specs.Sources.{Source}
@@ -47,34 +47,34 @@ module _ {Dir : Type 0} (spelling : Dir → List ℕ) where
   free_here line (Goes end) speaks last = absurd speaks
   free_here line (Stops fault) speaks last = absurd speaks
 
-  known_here : (line : Line) (acts : Probes Dir) (end : State Dir) (out new : List Line) → Last line acts → Completes acts end out new → TellsKnown spelling end.known line
+  known_here : (line : Line) (acts : Probes Dir) (end : State Dir) (out new : List Line) → Last line acts → ProbeCompletes acts end out new → TellsKnown spelling end.known line
   known_here line (Say next acts) end out new last done = last end.known
   known_here line (Track epoch peers acts) end out new last done = last end.known
   known_here line (Goes its) end out new last done = subst (λ (st : State Dir). TellsKnown spelling st.known line) (sym done.1) last
   known_here line (Stops fault) end out new last done = absurd done
 
-  fault_here : (line : Line) (acts : Probes Dir) (fault : ℕ) (out new : List Line) → Last line acts → Faults acts fault out new → Free line
+  fault_here : (line : Line) (acts : Probes Dir) (fault : ℕ) (out new : List Line) → Last line acts → ProbeFaults acts fault out new → Free line
   fault_here line (Say next acts) fault out new last done = last
   fault_here line (Track epoch peers acts) fault out new last done = last
   fault_here line (Goes its) fault out new last done = absurd done
   fault_here line (Stops its) fault out new last done = last
 
   module _ (Q : Type 0) where
-    completing : (acts : Probes Dir) (end : State Dir) (out new : List Line) → Each Last Q acts → Completes acts end out new → SaidSince (TellsKnown spelling end.known) out new
+    completing : (acts : Probes Dir) (end : State Dir) (out new : List Line) → Each Last Q acts → ProbeCompletes acts end out new → SaidSince (TellsKnown spelling end.known) out new
     completing (Say line acts) end out new all done =
         one_more_said (TellsKnown spelling end.known) line out new (known_here line acts end (out ++ line ∷ []) new all.0 done) (completing acts end (out ++ line ∷ []) new all.1 done)
     completing (Track epoch peers acts) end out new all done = completing acts end out new all.1 done
     completing (Goes its) end out new all done = none_more (TellsKnown spelling end.known) out new done.0
     completing (Stops fault) end out new all done = absurd done
 
-    faulting : (known : Option (Known Dir)) (acts : Probes Dir) (fault : ℕ) (out new : List Line) → Each Last Q acts → Faults acts fault out new → SaidSince (TellsKnown spelling known) out new
+    faulting : (known : Option (Known Dir)) (acts : Probes Dir) (fault : ℕ) (out new : List Line) → Each Last Q acts → ProbeFaults acts fault out new → SaidSince (TellsKnown spelling known) out new
     faulting known (Say line acts) fault out new all done =
         one_more_said (TellsKnown spelling known) line out new (fault_here line acts fault (out ++ line ∷ []) new all.0 done known) (faulting known acts fault (out ++ line ∷ []) new all.1 done)
     faulting known (Track epoch peers acts) fault out new all done = faulting known acts fault out new all.1 done
     faulting known (Goes its) fault out new all done = absurd done
     faulting known (Stops its) fault out new all done = none_more (TellsKnown spelling known) out new done.0
 
-    breaking : (known : Option (Known Dir)) (acts : Probes Dir) (out new : List Line) → Each Last Q acts → Breaks acts out new → SaidSince (TellsKnown spelling known) out new
+    breaking : (known : Option (Known Dir)) (acts : Probes Dir) (out new : List Line) → Each Last Q acts → ProbeBreaks acts out new → SaidSince (TellsKnown spelling known) out new
     breaking known (Say line acts) out new all done = elim done [
       | inl e ↦ none_more (TellsKnown spelling known) out new e
       | inr more ↦ one_more_said (TellsKnown spelling known) line out new (free_here line acts more.0 all.0 known) (breaking known acts (out ++ line ∷ []) new all.1 more.1)
@@ -90,13 +90,13 @@ takes_last c lack source event st =
 
 -- where the step went, the artifact that it told is known
 pub told_is_known : {Dir : Type 0} (c : Fixed Dir) (lack : Option ℕ) (source : Source Dir) (event : Event) (st mid new : State Dir) (out after : List Line) → new ≡ then_serves mid
-    → Runs (takes c lack source event st) (went mid) out after → SaidSince (TellsKnown c.spelling new.known) out after
+    → ProbeRuns (takes c lack source event st) (went mid) out after → SaidSince (TellsKnown c.spelling new.known) out after
 told_is_known {Dir} c lack source event st mid new out after is ran =
     subst (λ (s : State Dir). SaidSince (TellsKnown c.spelling s.known) out after) (sym is) (completing c.spelling (Unit {0}) (takes c lack source event st) mid out after (takes_last c lack source event st) ran)
 
 -- where it stopped, it told none
 pub none_is_told : {Dir : Type 0} (c : Fixed Dir) (lack : Option ℕ) (source : Source Dir) (event : Event) (st left : State Dir) (stop : ProbeStop) (known : Option (Known Dir)) (out after : List Line)
-    → Runs (takes c lack source event st) (ended_by left (Err stop)) out after → SaidSince (TellsKnown c.spelling known) out after
+    → ProbeRuns (takes c lack source event st) (ended_by left (Err stop)) out after → SaidSince (TellsKnown c.spelling known) out after
 none_is_told c lack source event st left (PeerSet peer) known out after ran = faulting c.spelling (Unit {0}) known (takes c lack source event st) peer.0 out after (takes_last c lack source event st) ran
 none_is_told c lack source event st left NoMemory known out after ran = breaking c.spelling (Unit {0}) known (takes c lack source event st) out after (takes_last c lack source event st) ran
 none_is_told c lack source event st left Failed known out after ran = breaking c.spelling (Unit {0}) known (takes c lack source event st) out after (takes_last c lack source event st) ran

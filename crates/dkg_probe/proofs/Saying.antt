@@ -17,7 +17,7 @@ use Rattle.dkg_probe.specs.declared.event.Event.{Event}
 use Rattle.dkg_probe.specs.declared.event.Event.TheVariants.{Subscribe, Unsubscribe, Attach, Peer, Retry}
 use Rattle.dkg_probe.specs.declared.state.State.{State}
 use Rattle.dkg_probe.specs.declared.wire.Request.{Request}
-use Rattle.dkg_probe.specs.Acts.{Acts, Say, Track, Goes, Stops, says_all, Completes, Faults, Breaks, Ended, went, stopped, broken, Runs, Each, tracked_after}
+use Rattle.dkg_probe.specs.Acts.{ProbeActs, Say, Track, Goes, Stops, says_all, ProbeCompletes, ProbeFaults, ProbeBreaks, ProbeEnded, went, stopped, broken, ProbeRuns, Each, tracked_after}
 use Rattle.dkg_probe.specs.Candidates.{Awaiting, Candidate, is_candidate, with_candidate, first_of, next_asked}
 use Rattle.dkg_probe.specs.OneEpoch.{OfOneEpoch, SaidSince}
 use Rattle.dkg_probe.specs.Probing as probing
@@ -34,39 +34,39 @@ pub one_more_said : (P : Line → Type 0) (line : Line) (out new : List Line) �
 one_more_said P line out new p (more, e, all) = (line ∷ more, e ∙ append_assoc out (line ∷ []) more, (p, all))
 
 -- P of each line, whatever stands behind it
-abbrev pub Said : {F S : Type 0} → (Line → Type 0) → Line → Acts F S → Type 0
+abbrev pub Said : {F S : Type 0} → (Line → Type 0) → Line → ProbeActs F S → Type 0
 Said P line acts = P line
 
 module _ {F S : Type 0} (P : Line → Type 0) (Q : Type 0) where
-  said_completing : (acts : Acts F S) (end : S) (out new : List Line) → Each (Said P) Q acts → Completes acts end out new → SaidSince P out new
+  said_completing : (acts : ProbeActs F S) (end : S) (out new : List Line) → Each (Said P) Q acts → ProbeCompletes acts end out new → SaidSince P out new
   said_completing (Say line acts) end out new all done = one_more_said P line out new all.0 (said_completing acts end (out ++ line ∷ []) new all.1 done)
   said_completing (Track epoch peers acts) end out new all done = said_completing acts end out new all.1 done
   said_completing (Goes its) end out new all done = none_more P out new done.0
   said_completing (Stops fault) end out new all done = absurd done
 
-  said_faulting : (acts : Acts F S) (fault : F) (out new : List Line) → Each (Said P) Q acts → Faults acts fault out new → SaidSince P out new
+  said_faulting : (acts : ProbeActs F S) (fault : F) (out new : List Line) → Each (Said P) Q acts → ProbeFaults acts fault out new → SaidSince P out new
   said_faulting (Say line acts) fault out new all done = one_more_said P line out new all.0 (said_faulting acts fault (out ++ line ∷ []) new all.1 done)
   said_faulting (Track epoch peers acts) fault out new all done = said_faulting acts fault out new all.1 done
   said_faulting (Goes its) fault out new all done = absurd done
   said_faulting (Stops its) fault out new all done = none_more P out new done.0
 
-  said_breaking : (acts : Acts F S) (out new : List Line) → Each (Said P) Q acts → Breaks acts out new → SaidSince P out new
+  said_breaking : (acts : ProbeActs F S) (out new : List Line) → Each (Said P) Q acts → ProbeBreaks acts out new → SaidSince P out new
   said_breaking (Say line acts) out new all done = elim done [ inl e ↦ none_more P out new e | inr more ↦ one_more_said P line out new all.0 (said_breaking acts (out ++ line ∷ []) new all.1 more.1) ]
   said_breaking (Track epoch peers acts) out new all done = said_breaking acts out new all.1 done
   said_breaking (Goes its) out new all done = none_more P out new done
   said_breaking (Stops its) out new all done = none_more P out new done
 
-  pub said_running : (acts : Acts F S) (ended : Ended F S) (out new : List Line) → Each (Said P) Q acts → Runs acts ended out new → SaidSince P out new
+  pub said_running : (acts : ProbeActs F S) (ended : ProbeEnded F S) (out new : List Line) → Each (Said P) Q acts → ProbeRuns acts ended out new → SaidSince P out new
   said_running acts (went end) out new all done = said_completing acts end out new all done
   said_running acts (stopped fault) out new all done = said_faulting acts fault out new all done
   said_running acts broken out new all done = said_breaking acts out new all done
 
-pub if_each : {F S : Type 0} (P : Line → Acts F S → Type 0) (Q : Type 0) (b : Bool) (x y : Acts F S) → (b ≡ true → Each P Q x) → (b ≡ false → Each P Q y) → Each P Q (if b then x else y)
+pub if_each : {F S : Type 0} (P : Line → ProbeActs F S → Type 0) (Q : Type 0) (b : Bool) (x y : ProbeActs F S) → (b ≡ true → Each P Q x) → (b ≡ false → Each P Q y) → Each P Q (if b then x else y)
 if_each P Q true x y p q = p refl
 if_each P Q false x y p q = q refl
 
 -- where nothing is tracked, the sets stay
-none_tracked : {F S : Type 0} (P : Line → Acts F S → Type 0) (acts : Acts F S) (sets : ℕ → Option TrackedPeers) (n : ℕ) → Each P ⊥ acts → tracked_after acts sets n ≡ sets n
+none_tracked : {F S : Type 0} (P : Line → ProbeActs F S → Type 0) (acts : ProbeActs F S) (sets : ℕ → Option TrackedPeers) (n : ℕ) → Each P ⊥ acts → tracked_after acts sets n ≡ sets n
 none_tracked P (Say line acts) sets n all = none_tracked P acts sets n all.1
 none_tracked P (Track epoch peers acts) sets n all = absurd all.0
 none_tracked P (Goes its) sets n all = refl
@@ -216,8 +216,8 @@ module _ {Dir : Type 0} (c : Fixed Dir) (P : Line → Probes Dir → Type 0) (Q 
 -- ---- what follows
 
 -- Each artifact that a step tells is of one epoch, where genesis is of epoch zero.
-pub one_epoch_since : {Dir : Type 0} (c : Fixed Dir) (lack : Option ℕ) (source : Source Dir) (event : Event) (st : State Dir) (ended : Ended ℕ (State Dir)) (out new : List Line) → c.genesis.epoch ≡ 0
-    → Runs (takes c lack source event st) ended out new → SaidSince (OfOneEpoch c.spelling) out new
+pub one_epoch_since : {Dir : Type 0} (c : Fixed Dir) (lack : Option ℕ) (source : Source Dir) (event : Event) (st : State Dir) (ended : ProbeEnded ℕ (State Dir)) (out new : List Line) → c.genesis.epoch ≡ 0
+    → ProbeRuns (takes c lack source event st) ended out new → SaidSince (OfOneEpoch c.spelling) out new
 one_epoch_since {Dir} c lack source event st ended out new genesis ran =
     let P : Line → Probes Dir → Type 0 = Said (OfOneEpoch c.spelling) in
     let from_genesis : (floor : Finalization) (st : State Dir) → floor.epoch ≡ 0 → P (artifact_line c.spelling (of_genesis c floor)) (Goes (with_known (of_genesis c floor) st)) =
@@ -226,7 +226,7 @@ one_epoch_since {Dir} c lack source event st ended out new genesis ran =
     said_running (OfOneEpoch c.spelling) (Unit {0}) (takes c lack source event st) ended out new all ran
 
 -- Nothing is tracked by a peer's message, and by a retry.
-abbrev Any : {F S : Type 0} → Line → Acts F S → Type 0
+abbrev Any : {F S : Type 0} → Line → ProbeActs F S → Type 0
 Any line acts = Unit {0}
 
 pub hearing_tracks : {Dir : Type 0} (c : Fixed Dir) (source : Source Dir) (peer : ℕ) (bytes : List ℕ) (st : State Dir) (sets : ℕ → Option TrackedPeers) (n : ℕ) → sets n ≡ tracked_after (hears c source peer bytes st) sets n

@@ -13,7 +13,7 @@ use Rattle.dkg_probe.specs.declared.event.Event.TheVariants.{Subscribe, Unsubscr
 use Rattle.dkg_probe.specs.declared.state.State.{State}
 use Rattle.dkg_probe.specs.declared.wire.Request.{Request}
 use Rattle.dkg_probe.specs.declared.wire.Request.TheVariants as request
-use Rattle.dkg_probe.specs.Acts.{Goes, Ended, Runs, Each}
+use Rattle.dkg_probe.specs.Acts.{Goes, ProbeEnded, ProbeRuns, Each}
 use Rattle.dkg_probe.specs.OneEpoch.{SaidSince}
 use Rattle.dkg_probe.specs.Probing.{Fixed, one_more, is_done, is_first, activates, retries_in, begins_at, discovers, response_to, answers, serves, takes}
 use Rattle.dkg_probe.specs.Serving.{HoldsFor, Answered, Serves}
@@ -73,5 +73,5 @@ module _ {Dir : Type 0} (c : Fixed Dir) (source : Source Dir) where
       if_each (Said (Serves c source Retry)) (Unit {0}) (is_done st || (st.subscribers == 0)) (Goes st) (retries_in c st st.awaited) (λ e. tt)
       (λ e. absurd (never_both (is_done st || (st.subscribers == 0)) (or_first (is_done st) (st.subscribers == 0) (or_first st.serving (is_some st.known) on)) e))
 
-  pub served_since : (lack : Option ℕ) (event : Event) (st : State Dir) (ended : Ended ℕ (State Dir)) (out new : List Line) → st.serving ≡ true → Runs (takes c lack source event st) ended out new → SaidSince (Serves c source event) out new
+  pub served_since : (lack : Option ℕ) (event : Event) (st : State Dir) (ended : ProbeEnded ℕ (State Dir)) (out new : List Line) → st.serving ≡ true → ProbeRuns (takes c lack source event st) ended out new → SaidSince (Serves c source event) out new
   served_since lack event st ended out new on ran = said_running (Serves c source event) (Unit {0}) (takes c lack source event st) ended out new (serving event lack st on) ran

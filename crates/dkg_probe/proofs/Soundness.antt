@@ -25,7 +25,7 @@ use Rattle.dkg_probe.specs.declared.event.Event.{Event}
 use Rattle.dkg_probe.specs.declared.event.Event.TheVariants.{Subscribe, Unsubscribe, Attach, Peer, Retry}
 use Rattle.dkg_probe.specs.declared.state.State.{State}
 use Rattle.dkg_probe.specs.declared.wire.Request.{Request}
-use Rattle.dkg_probe.specs.Acts.{Say, Track, Goes, Stops, says_all, Completes}
+use Rattle.dkg_probe.specs.Acts.{Say, Track, Goes, Stops, says_all, ProbeCompletes}
 use Rattle.dkg_probe.specs.Candidates.{Awaiting, Candidate, all_of, is_candidate, new_awaiting, with_candidate, first_of, later_of, next_asked}
 use Rattle.dkg_probe.specs.Probing as probing
 use Rattle.dkg_probe.specs.Probing.{Fixed, Probes, latest_request, request_line, with_sample, with_awaited, asks_dealers, asks_for, asks_next, one_more, is_done, is_first, activates, subscribes, retries_in, retries, with_known, artifact_line, of_genesis, resolves, begins_at, awaits_block, from_floor, dealers_in, samples, chooses, is_dealer, hears_latest, adds, hears_boundary, info_for, info_at, found_in, refuses, from_body, hears_body, hears_block, hears_in, discovers, response_to, answers, serves, hears, takes, then_serves, new_state}
@@ -77,7 +77,7 @@ Ends Q (Goes end) = Q end
 Ends Q (Stops fault) = Unit {0}
 
 module _ {Dir : Type 0} (Q : State Dir → Type 0) where
-  ends_at : (acts : Probes Dir) (end : State Dir) (out new : List Line) → Ends Q acts → Completes acts end out new → Q end
+  ends_at : (acts : Probes Dir) (end : State Dir) (out new : List Line) → Ends Q acts → ProbeCompletes acts end out new → Q end
   ends_at (Say line acts) end out new all done = ends_at acts end (out ++ line ∷ []) new all done
   ends_at (Track epoch peers acts) end out new all done = ends_at acts end out new all done
   ends_at (Goes its) end out new all done = subst Q (sym done.1) all
@@ -497,13 +497,13 @@ module _ {Dir : Type 0} (c : Fixed Dir) where
 
   -- ---- what follows
 
-  pub step_sound : (lack : Option ℕ) (source : Source Dir) (event : Event) (st mid new : State Dir) (out after : List Line) → IsSoundState c st → new ≡ then_serves mid → Completes (takes c lack source event st) mid out after → IsSoundState c new
+  pub step_sound : (lack : Option ℕ) (source : Source Dir) (event : Event) (st mid new : State Dir) (out after : List Line) → IsSoundState c st → new ≡ then_serves mid → ProbeCompletes (takes c lack source event st) mid out after → IsSoundState c new
   step_sound lack source event st mid new out after sound is ran =
       let mid_sound = ends_at (IsSoundState c) (takes c lack source event st) mid out after (takes_sound lack source event st sound) ran in
       subst (λ (s : State Dir). IsSoundState c s) (sym is)
       (record { replies = mid_sound.replies; chosen = mid_sound.chosen; awaited = mid_sound.awaited; known = mid_sound.known; waits = mid_sound.waits; settled = mid_sound.settled })
 
-  pub step_keeps : (lack : Option ℕ) (source : Source Dir) (event : Event) (st mid new : State Dir) (out after : List Line) → IsSoundState c st → new ≡ then_serves mid → Completes (takes c lack source event st) mid out after → KeepsArtifact st new
+  pub step_keeps : (lack : Option ℕ) (source : Source Dir) (event : Event) (st mid new : State Dir) (out after : List Line) → IsSoundState c st → new ≡ then_serves mid → ProbeCompletes (takes c lack source event st) mid out after → KeepsArtifact st new
   step_keeps lack source event st mid new out after sound is ran =
       let kept = ends_at (KeepsArtifact st) (takes c lack source event st) mid out after (takes_kept_in st st.known refl sound.settled lack source event) ran in
       subst (λ (s : State Dir). KeepsArtifact st s) (sym is) (elim kept [ inl same ↦ inl same | inr none ↦ inr none ])

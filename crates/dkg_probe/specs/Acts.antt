@@ -5,83 +5,83 @@ use Rattle.dkg_types.specs.declared.entry.Entry.{Entry as Line}
 use Rattle.dkg_types.specs.declared.participants.TrackedPeers.{TrackedPeers}
 use Rattle.dkg_types.specs.Tracking.{with_set}
 
-pub data Acts (F S : Type 0) : Type 0 where
-  Say : Line → Acts F S → Acts F S
+pub data ProbeActs (F S : Type 0) : Type 0 where
+  Say : Line → ProbeActs F S → ProbeActs F S
   -- a manager tracks these peers from now on
-  Track : (epoch : ℕ) → TrackedPeers → Acts F S → Acts F S
-  Goes : S → Acts F S
+  Track : (epoch : ℕ) → TrackedPeers → ProbeActs F S → ProbeActs F S
+  Goes : S → ProbeActs F S
   -- it ends by a fault of its own
-  Stops : F → Acts F S
+  Stops : F → ProbeActs F S
 
 -- these acts, and from what they end in others
-abbrev pub bind : {F S T : Type 0} → Acts F S → (S → Acts F T) → Acts F T
+abbrev pub bind : {F S T : Type 0} → ProbeActs F S → (S → ProbeActs F T) → ProbeActs F T
 bind (Say line acts) next = Say line (bind acts next)
 bind (Track epoch peers acts) next = Track epoch peers (bind acts next)
 bind (Goes end) next = next end
 bind (Stops fault) next = Stops fault
 
 -- these lines, and then the acts
-abbrev pub says_all : {F S : Type 0} → List Line → Acts F S → Acts F S
+abbrev pub says_all : {F S : Type 0} → List Line → ProbeActs F S → ProbeActs F S
 says_all [] acts = acts
 says_all (line ∷ lines) acts = Say line (says_all lines acts)
 
 -- All were run, from a transcript to another.
-abbrev pub Completes : {F S : Type 0} → Acts F S → S → List Line → List Line → Type 0
-Completes (Say line acts) end out new = Completes acts end (out ++ line ∷ []) new
-Completes (Track epoch peers acts) end out new = Completes acts end out new
-Completes (Goes its) end out new = (new ≡ out) × (end ≡ its)
-Completes (Stops fault) end out new = ⊥
+abbrev pub ProbeCompletes : {F S : Type 0} → ProbeActs F S → S → List Line → List Line → Type 0
+ProbeCompletes (Say line acts) end out new = ProbeCompletes acts end (out ++ line ∷ []) new
+ProbeCompletes (Track epoch peers acts) end out new = ProbeCompletes acts end out new
+ProbeCompletes (Goes its) end out new = (new ≡ out) × (end ≡ its)
+ProbeCompletes (Stops fault) end out new = ⊥
 
 -- All were run, up to the fault.
-abbrev pub Faults : {F S : Type 0} → Acts F S → F → List Line → List Line → Type 0
-Faults (Say line acts) fault out new = Faults acts fault (out ++ line ∷ []) new
-Faults (Track epoch peers acts) fault out new = Faults acts fault out new
-Faults (Goes end) fault out new = ⊥
-Faults (Stops its) fault out new = (new ≡ out) × (fault ≡ its)
+abbrev pub ProbeFaults : {F S : Type 0} → ProbeActs F S → F → List Line → List Line → Type 0
+ProbeFaults (Say line acts) fault out new = ProbeFaults acts fault (out ++ line ∷ []) new
+ProbeFaults (Track epoch peers acts) fault out new = ProbeFaults acts fault out new
+ProbeFaults (Goes end) fault out new = ⊥
+ProbeFaults (Stops its) fault out new = (new ≡ out) × (fault ≡ its)
 
 -- something is to be said yet
-abbrev pub Speaks : {F S : Type 0} → Acts F S → Type 0
+abbrev pub Speaks : {F S : Type 0} → ProbeActs F S → Type 0
 Speaks (Say line acts) = Unit {0}
 Speaks (Track epoch peers acts) = Speaks acts
 Speaks (Goes end) = ⊥
 Speaks (Stops fault) = ⊥
 
 -- The first of them were run. The last line is said by nobody who doesn't go through.
-abbrev pub Breaks : {F S : Type 0} → Acts F S → List Line → List Line → Type 0
-Breaks (Say line acts) out new = (new ≡ out) ⊎ (Speaks acts × Breaks acts (out ++ line ∷ []) new)
-Breaks (Track epoch peers acts) out new = Breaks acts out new
-Breaks (Goes end) out new = new ≡ out
-Breaks (Stops fault) out new = new ≡ out
+abbrev pub ProbeBreaks : {F S : Type 0} → ProbeActs F S → List Line → List Line → Type 0
+ProbeBreaks (Say line acts) out new = (new ≡ out) ⊎ (Speaks acts × ProbeBreaks acts (out ++ line ∷ []) new)
+ProbeBreaks (Track epoch peers acts) out new = ProbeBreaks acts out new
+ProbeBreaks (Goes end) out new = new ≡ out
+ProbeBreaks (Stops fault) out new = new ≡ out
 
 -- the first lines were said, but for the last ones
 abbrev pub IsFront : List Line → List Line → List Line → Type 0
 IsFront lines out new = (count : ℕ) × (count < length lines) × (new ≡ out ++ take count lines)
 
 -- How acts ended: in this, by a fault of their own, or anywhere, by want of memory.
-pub data Ended (F S : Type 0) : Type 0 where
-  went : S → Ended F S
-  stopped : F → Ended F S
-  broken : Ended F S
+pub data ProbeEnded (F S : Type 0) : Type 0 where
+  went : S → ProbeEnded F S
+  stopped : F → ProbeEnded F S
+  broken : ProbeEnded F S
 
-abbrev pub Runs : {F S : Type 0} → Acts F S → Ended F S → List Line → List Line → Type 0
-Runs acts (went end) out new = Completes acts end out new
-Runs acts (stopped fault) out new = Faults acts fault out new
-Runs acts broken out new = Breaks acts out new
+abbrev pub ProbeRuns : {F S : Type 0} → ProbeActs F S → ProbeEnded F S → List Line → List Line → Type 0
+ProbeRuns acts (went end) out new = ProbeCompletes acts end out new
+ProbeRuns acts (stopped fault) out new = ProbeFaults acts fault out new
+ProbeRuns acts broken out new = ProbeBreaks acts out new
 
 -- the sets that a manager tracks behind all of them, by number
-abbrev pub tracked_after : {F S : Type 0} → Acts F S → (ℕ → Option TrackedPeers) → ℕ → Option TrackedPeers
+abbrev pub tracked_after : {F S : Type 0} → ProbeActs F S → (ℕ → Option TrackedPeers) → ℕ → Option TrackedPeers
 tracked_after (Say line acts) sets = tracked_after acts sets
 tracked_after (Track epoch peers acts) sets = tracked_after acts (with_set sets epoch peers)
 tracked_after (Goes end) sets = sets
 tracked_after (Stops fault) sets = sets
 
 -- What a manager tracks behind acts that ended so: what they say, and where they ended early that or what it did before.
-abbrev pub Tracks : {F S E : Type 0} → Acts F S → Result (Unit {0}) E → (old new : ℕ → Option TrackedPeers) → Type 0
+abbrev pub Tracks : {F S E : Type 0} → ProbeActs F S → Result (Unit {0}) E → (old new : ℕ → Option TrackedPeers) → Type 0
 Tracks acts (Ok u) old new = (n : ℕ) → new n ≡ tracked_after acts old n
 Tracks acts (Err e) old new = ((n : ℕ) → new n ≡ old n) ⊎ ((n : ℕ) → new n ≡ tracked_after acts old n)
 
 -- P of each line that is said and of the acts behind it, and Q where peers are tracked
-abbrev pub Each : {F S : Type 0} → (Line → Acts F S → Type 0) → (Q : Type 0) → Acts F S → Type 0
+abbrev pub Each : {F S : Type 0} → (Line → ProbeActs F S → Type 0) → (Q : Type 0) → ProbeActs F S → Type 0
 Each P Q (Say line acts) = P line acts × Each P Q acts
 Each P Q (Track epoch peers acts) = Q × Each P Q acts
 Each P Q (Goes end) = Unit {0}

@@ -28,7 +28,7 @@ use Rattle.dkg_probe.specs.declared.state.State.{State}
 use Rattle.dkg_probe.specs.declared.state.Terms.{Terms}
 use Rattle.dkg_probe.specs.declared.wire.Request.{Request}
 use Rattle.dkg_probe.specs.declared.wire.Request.TheVariants as request
-use Rattle.dkg_probe.specs.Acts.{Acts, Say, Track, Goes, Stops, bind, says_all, Ended, went, stopped, broken}
+use Rattle.dkg_probe.specs.Acts.{ProbeActs, Say, Track, Goes, Stops, bind, says_all, ProbeEnded, went, stopped, broken}
 use Rattle.dkg_probe.specs.Candidates.{Awaiting, Candidate, is_candidate, new_awaiting, with_candidate, first_of, next_asked}
 use Rattle.dkg_probe.specs.Sampling.{Sampled, new_sample, awaits, recorded, selected, floor_of, forgotten}
 use Rattle.dkg_probe.specs.Sources.{Source}
@@ -45,7 +45,7 @@ pub record Fixed (Dir : Type 0) : Type 0 where
   pub read : List ℕ → Reading (Block Dir)
 
 abbrev pub Probes : Type 0 → Type 0
-Probes Dir = Acts ℕ (State Dir)
+Probes Dir = ProbeActs ℕ (State Dir)
 
 -- nobody waits, no source is attached, and nothing is found
 abbrev pub new_state : {Dir : Type 0} → (minimum : ℕ) → State Dir
@@ -258,11 +258,11 @@ steps c lack source event st = bind (takes c lack source event st) (λ st. Goes 
 -- ---- what calls answer
 
 -- how a call ended, and the state that it left
-abbrev pub ended_in : {Dir : Type 0} → State Dir → Result (Unit {0}) Want → Ended ℕ (State Dir)
+abbrev pub ended_in : {Dir : Type 0} → State Dir → Result (Unit {0}) Want → ProbeEnded ℕ (State Dir)
 ended_in new (Ok u) = went new
 ended_in new (Err e) = broken
 
-abbrev pub ended_by : {Dir : Type 0} → State Dir → Result (Unit {0}) ProbeStop → Ended ℕ (State Dir)
+abbrev pub ended_by : {Dir : Type 0} → State Dir → Result (Unit {0}) ProbeStop → ProbeEnded ℕ (State Dir)
 ended_by new (Ok u) = went new
 ended_by new (Err (PeerSet peer)) = stopped peer.0
 ended_by new (Err NoMemory) = broken

@@ -2,7 +2,7 @@
 ghost use Rattle.std.specs.Prelude.{◌≡◌, ◌+◌, ◌<◌, ◌^◌, true, false, max, length, IfSome, OnOk, OnErr, IsErrOf, IsTrue, is_err};
 ghost use Rattle.std.specs.Option.{option_copied, option_map_or};
 ghost use Rattle.std.specs.Int.NonZero.{non_zero_u64_get};
-ghost use Rattle.dkg_probe.specs.Acts.{Runs, Tracks};
+ghost use Rattle.dkg_probe.specs.Acts.{ProbeRuns, Tracks};
 ghost use Rattle.dkg_probe.specs.Candidates.{are_apart, peers_of};
 ghost use Rattle.dkg_probe.specs.OneEpoch.{OfOneEpoch, SaidSince, TellsKnown};
 ghost use Rattle.dkg_probe.specs.Probing.{ended_by, ended_in, fixed, hears, new_state, steps, takes, then_serves, tracked_of};
@@ -73,7 +73,7 @@ fn hear<B: Blocks<Dir>, S: Scheme, Dir: Directory + Drop>(
 ) -> Mem<()>
 where
     Dir::Cfg: Drop,
-    ensures acts { Runs
+    ensures acts { ProbeRuns
         (hears (fixed S.verifies Dir.spelling ⟦<Block<Dir> as Read>⟧.read_of terms.now.limits terms.now) (B.source source.now) peer bytes.now state.old)
         (ended_in state.new result) out.old.entries out.new.entries }
     ensures kept { OnErr result (state.new.known ≡ state.old.known) }
@@ -100,7 +100,7 @@ where
     requires { length terms.now.bootstrap.participants.players + length terms.now.bootstrap.participants.next_players < 2 ^ 32 }
     ensures acts { let c = fixed S.verifies Dir.spelling ⟦<Block<Dir> as Read>⟧.read_of terms.now.limits terms.now in
         let lack = M.lacks terms.now.bootstrap.directory (tracked_of terms.now.bootstrap.participants) in
-        Runs (takes c lack (B.source source.now) event state.old) (ended_by state.new result) out.old.entries out.new.entries }
+        ProbeRuns (takes c lack (B.source source.now) event state.old) (ended_by state.new result) out.old.entries out.new.entries }
     ensures tracked { let c = fixed S.verifies Dir.spelling ⟦<Block<Dir> as Read>⟧.read_of terms.now.limits terms.now in
         let lack = M.lacks terms.now.bootstrap.directory (tracked_of terms.now.bootstrap.participants) in
         IsTrue M.tells → Tracks (takes c lack (B.source source.now) event state.old) result (M.sets manager.old) (M.sets manager.new) }
@@ -203,7 +203,7 @@ where
         ensures acts { let c = fixed S.verifies Dir.spelling ⟦<Block<Dir> as Read>⟧.read_of self.old.terms.limits self.old.terms in
             let lack = M.lacks self.old.terms.bootstrap.directory (tracked_of self.old.terms.bootstrap.participants) in
             self.old.failed ≡ false
-            → Runs (steps c lack (B.source source.now) event self.old.state) (ended_by self.new.state result) out.old.entries out.new.entries }
+            → ProbeRuns (steps c lack (B.source source.now) event self.old.state) (ended_by self.new.state result) out.old.entries out.new.entries }
         ensures stopped { self.old.failed ≡ true → (result ≡ Err ProbeStop.Failed) × (self.new ≡ self.old) × (out.new.entries ≡ out.old.entries) }
         ensures failed { IsErrOf result ProbeStop.Failed → self.old.failed ≡ true }
         ensures stops { self.new.failed ≡ is_err result }

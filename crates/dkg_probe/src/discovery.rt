@@ -3,8 +3,8 @@ ghost use Rattle.std.specs.Prelude.{◌≡◌, ℕ, ◌+◌, ◌<◌, ◌^◌, �
 ghost use Rattle.dkg_values.specs.Codec.{whole};
 ghost use Rattle.dkg_types.specs.FinalizationCodes.{finalization_spelling};
 ghost use Rattle.dkg_types.specs.PayloadCodes.{payload_spelling, info_payload};
-ghost use Rattle.dkg_types.specs.Tracking.{Names, with_set};
-ghost use Rattle.dkg_probe.specs.Acts.{IsFront, Runs, Tracks};
+ghost use Rattle.dkg_types.specs.Tracking.{AnswersTracking, with_set};
+ghost use Rattle.dkg_probe.specs.Acts.{IsFront, ProbeRuns, Tracks};
 ghost use Rattle.dkg_probe.specs.Candidates.{first_of, next_asked};
 ghost use Rattle.dkg_probe.specs.Probing.{activates, asks_dealers, begins_at, discovers, ended_by, ended_in, fixed, from_floor, hears_body, hears_in, hears_latest, info_at, is_done, is_first, latest_request, refuses, request_line, resolves, retries, samples, subscribes, tracked_of};
 ghost use Rattle.dkg_probe.specs.Wire.{IsBlock, IsBoundary, committed, reply_of, said_by};
@@ -73,7 +73,7 @@ fn ask_dealers<S: Scheme, Dir: Directory + Drop>(
 ) -> Mem<()>
 where
     Dir::Cfg: Drop,
-    ensures acts { Runs (asks_dealers (fixed S.verifies Dir.spelling ⟦<Block<Dir> as Read>⟧.read_of terms.now.limits terms.now) state.old)
+    ensures acts { ProbeRuns (asks_dealers (fixed S.verifies Dir.spelling ⟦<Block<Dir> as Read>⟧.read_of terms.now.limits terms.now) state.old)
         (ended_in state.new result) out.old.entries out.new.entries }
     ensures kept { state.new.known ≡ state.old.known }
 {
@@ -111,7 +111,7 @@ fn activate<M: Manager<Dir = Dir>, S, Dir: Directory>(
     terms: &Terms<S, Dir>,
 ) -> Result<(), TrackError>
     requires { length terms.now.bootstrap.participants.players + length terms.now.bootstrap.participants.next_players < 2 ^ 32 }
-    ensures missing { Names (M.lacks terms.now.bootstrap.directory (tracked_of terms.now.bootstrap.participants)) result }
+    ensures missing { AnswersTracking (M.lacks terms.now.bootstrap.directory (tracked_of terms.now.bootstrap.participants)) result }
     ensures ok { IsTrue M.tells →
         OnOk result ((n : ℕ) → M.sets manager.new n ≡ with_set (M.sets manager.old) terms.now.bootstrap.epoch (tracked_of terms.now.bootstrap.participants) n) }
     ensures err { IsTrue M.tells → OnErr result ((n : ℕ) → M.sets manager.new n ≡ M.sets manager.old n) }
@@ -138,7 +138,7 @@ where
     requires { length terms.now.bootstrap.participants.players + length terms.now.bootstrap.participants.next_players < 2 ^ 32 }
     ensures acts { let c = fixed S.verifies Dir.spelling ⟦<Block<Dir> as Read>⟧.read_of terms.now.limits terms.now in
         let lack = M.lacks terms.now.bootstrap.directory (tracked_of terms.now.bootstrap.participants) in
-        Runs (activates c lack state.old) (ended_by state.new result) out.old.entries out.new.entries }
+        ProbeRuns (activates c lack state.old) (ended_by state.new result) out.old.entries out.new.entries }
     ensures tracked { let c = fixed S.verifies Dir.spelling ⟦<Block<Dir> as Read>⟧.read_of terms.now.limits terms.now in
         let lack = M.lacks terms.now.bootstrap.directory (tracked_of terms.now.bootstrap.participants) in
         IsTrue M.tells → Tracks (activates c lack state.old) result (M.sets manager.old) (M.sets manager.new) }
@@ -177,7 +177,7 @@ where
     requires { length terms.now.bootstrap.participants.players + length terms.now.bootstrap.participants.next_players < 2 ^ 32 }
     ensures acts { let c = fixed S.verifies Dir.spelling ⟦<Block<Dir> as Read>⟧.read_of terms.now.limits terms.now in
         let lack = M.lacks terms.now.bootstrap.directory (tracked_of terms.now.bootstrap.participants) in
-        Runs (subscribes c lack state.old) (ended_by state.new result) out.old.entries out.new.entries }
+        ProbeRuns (subscribes c lack state.old) (ended_by state.new result) out.old.entries out.new.entries }
     ensures tracked { let c = fixed S.verifies Dir.spelling ⟦<Block<Dir> as Read>⟧.read_of terms.now.limits terms.now in
         let lack = M.lacks terms.now.bootstrap.directory (tracked_of terms.now.bootstrap.participants) in
         IsTrue M.tells → Tracks (subscribes c lack state.old) result (M.sets manager.old) (M.sets manager.new) }
@@ -207,7 +207,7 @@ pub(crate) fn retry<S: Scheme, Dir: Directory + Drop>(
 ) -> Mem<()>
 where
     Dir::Cfg: Drop,
-    ensures acts { Runs (retries (fixed S.verifies Dir.spelling ⟦<Block<Dir> as Read>⟧.read_of terms.now.limits terms.now) state.old)
+    ensures acts { ProbeRuns (retries (fixed S.verifies Dir.spelling ⟦<Block<Dir> as Read>⟧.read_of terms.now.limits terms.now) state.old)
         (ended_in state.new result) out.old.entries out.new.entries }
     ensures kept { state.new.known ≡ state.old.known }
 {
@@ -242,7 +242,7 @@ fn resolve<Dir: Directory + Drop>(
     artifact: Artifact<Dir>,
     out: &mut Transcript,
 ) -> Mem<()>
-    ensures acts { Runs (resolves Dir.spelling artifact state.old) (ended_in state.new result) out.old.entries out.new.entries }
+    ensures acts { ProbeRuns (resolves Dir.spelling artifact state.old) (ended_in state.new result) out.old.entries out.new.entries }
     ensures kept { OnErr result (state.new.known ≡ state.old.known) }
 {
     let info = info_blob(alloc, &artifact.info)?;
@@ -272,7 +272,7 @@ fn begin_from<S: Scheme, Dir: Directory + Drop>(
 ) -> Mem<()>
 where
     Dir::Cfg: Drop,
-    ensures acts { Runs (from_floor (fixed S.verifies Dir.spelling ⟦<Block<Dir> as Read>⟧.read_of terms.now.limits terms.now) state.old (Some floor))
+    ensures acts { ProbeRuns (from_floor (fixed S.verifies Dir.spelling ⟦<Block<Dir> as Read>⟧.read_of terms.now.limits terms.now) state.old (Some floor))
         (ended_in state.new result) out.old.entries out.new.entries }
     ensures kept { OnErr result (state.new.known ≡ state.old.known) }
 {
@@ -308,7 +308,7 @@ fn sample<S: Scheme, Dir: Directory + Drop>(
 ) -> Mem<()>
 where
     Dir::Cfg: Drop,
-    ensures acts { Runs (samples (fixed S.verifies Dir.spelling ⟦<Block<Dir> as Read>⟧.read_of terms.now.limits terms.now) peer finalization state.old)
+    ensures acts { ProbeRuns (samples (fixed S.verifies Dir.spelling ⟦<Block<Dir> as Read>⟧.read_of terms.now.limits terms.now) peer finalization state.old)
         (ended_in state.new result) out.old.entries out.new.entries }
     ensures kept { OnErr result (state.new.known ≡ state.old.known) }
 {
@@ -337,7 +337,8 @@ fn hear_latest<S: Scheme, Dir: Directory + Drop>(
 ) -> Mem<()>
 where
     Dir::Cfg: Drop,
-    ensures acts { Runs (hears_latest (fixed S.verifies Dir.spelling ⟦<Block<Dir> as Read>⟧.read_of terms.now.limits terms.now) peer finalization state.old)
+    ensures acts { ProbeRuns
+        (hears_latest (fixed S.verifies Dir.spelling ⟦<Block<Dir> as Read>⟧.read_of terms.now.limits terms.now) peer finalization state.old)
         (ended_in state.new result) out.old.entries out.new.entries }
     ensures kept { OnErr result (state.new.known ≡ state.old.known) }
 {
@@ -367,7 +368,7 @@ fn hear_boundary<S: Scheme, Dir: Directory + Drop>(
 ) -> Mem<()>
 where
     Dir::Cfg: Drop,
-    ensures acts { Runs (hears_in (fixed S.verifies Dir.spelling ⟦<Block<Dir> as Read>⟧.read_of terms.now.limits terms.now)
+    ensures acts { ProbeRuns (hears_in (fixed S.verifies Dir.spelling ⟦<Block<Dir> as Read>⟧.read_of terms.now.limits terms.now)
         state.old.awaited peer (IsBoundary finalization) state.old)
         (ended_in state.new result) out.old.entries out.new.entries }
     ensures kept { state.new.known ≡ state.old.known }
@@ -433,7 +434,7 @@ fn refuse_block<Dir: Directory + Drop>(
     peer: Key,
     out: &mut Transcript,
 ) -> Mem<()>
-    ensures acts { IfSome state.old.awaited (λ a. Runs (refuses a peer state.old) (ended_in state.new result) out.old.entries out.new.entries) }
+    ensures acts { IfSome state.old.awaited (λ a. ProbeRuns (refuses a peer state.old) (ended_in state.new result) out.old.entries out.new.entries) }
     ensures kept { state.new.known ≡ state.old.known }
 {
     block(out, peer, BlockedWhy::Block)?;
@@ -456,7 +457,8 @@ fn hear_body<S: Scheme, Dir: Directory + Drop>(
 where
     Dir::Cfg: Drop,
     ensures acts { IfSome state.old.awaited (λ a.
-        Runs (hears_body (fixed S.verifies Dir.spelling ⟦<Block<Dir> as Read>⟧.read_of terms.now.limits terms.now) a (asked, finalization) body.now state.old)
+        ProbeRuns
+        (hears_body (fixed S.verifies Dir.spelling ⟦<Block<Dir> as Read>⟧.read_of terms.now.limits terms.now) a (asked, finalization) body.now state.old)
         (ended_in state.new result) out.old.entries out.new.entries) }
     ensures kept { OnErr result (state.new.known ≡ state.old.known) }
 {
@@ -498,7 +500,7 @@ fn hear_block<S: Scheme, Dir: Directory + Drop>(
 ) -> Mem<()>
 where
     Dir::Cfg: Drop,
-    ensures acts { Runs (hears_in (fixed S.verifies Dir.spelling ⟦<Block<Dir> as Read>⟧.read_of terms.now.limits terms.now)
+    ensures acts { ProbeRuns (hears_in (fixed S.verifies Dir.spelling ⟦<Block<Dir> as Read>⟧.read_of terms.now.limits terms.now)
         state.old.awaited peer (IsBlock epoch body.now) state.old)
         (ended_in state.new result) out.old.entries out.new.entries }
     ensures kept { OnErr result (state.new.known ≡ state.old.known) }
@@ -526,7 +528,7 @@ fn hear_response<S: Scheme, Dir: Directory + Drop>(
 ) -> Mem<()>
 where
     Dir::Cfg: Drop,
-    ensures acts { Runs (hears_in (fixed S.verifies Dir.spelling ⟦<Block<Dir> as Read>⟧.read_of terms.now.limits terms.now)
+    ensures acts { ProbeRuns (hears_in (fixed S.verifies Dir.spelling ⟦<Block<Dir> as Read>⟧.read_of terms.now.limits terms.now)
         state.old.awaited peer (said_by response.now) state.old)
         (ended_in state.new result) out.old.entries out.new.entries }
     ensures kept { OnErr result (state.new.known ≡ state.old.known) }
@@ -555,7 +557,7 @@ pub(crate) fn discover<S: Scheme, Dir: Directory + Drop>(
 ) -> Mem<()>
 where
     Dir::Cfg: Drop,
-    ensures acts { Runs
+    ensures acts { ProbeRuns
         (discovers (fixed S.verifies Dir.spelling ⟦<Block<Dir> as Read>⟧.read_of terms.now.limits terms.now) peer (reply_of bytes.now) state.old)
         (ended_in state.new result) out.old.entries out.new.entries }
     ensures kept { OnErr result (state.new.known ≡ state.old.known) }

@@ -2,7 +2,7 @@
 ghost use Rattle.std.specs.Prelude.{◌≡◌, IfOk, option_map, option_and_then, ◌∷◌, ◌++◌};
 ghost use Rattle.dkg_types.specs.BlockCodes.{block_spelling};
 ghost use Rattle.dkg_values.specs.Uint.{uint};
-ghost use Rattle.dkg_probe.specs.Acts.{Runs};
+ghost use Rattle.dkg_probe.specs.Acts.{ProbeRuns};
 ghost use Rattle.dkg_probe.specs.Probing.{ended_in, fixed, response_to, serves};
 ghost use Rattle.dkg_probe.specs.Wire.{request_of};
 
@@ -74,7 +74,7 @@ pub(crate) fn serve<B: Blocks<Dir>, S: Scheme, Dir: Directory + Drop>(
 ) -> Mem<()>
 where
     Dir::Cfg: Drop,
-    ensures acts { Runs (serves (fixed S.verifies Dir.spelling ⟦<Block<Dir> as Read>⟧.read_of terms.now.limits terms.now)
+    ensures acts { ProbeRuns (serves (fixed S.verifies Dir.spelling ⟦<Block<Dir> as Read>⟧.read_of terms.now.limits terms.now)
         (B.source source.now) peer (request_of bytes.now) state.now)
         (ended_in state.now result) out.old.entries out.new.entries }
 {

@@ -70,7 +70,7 @@ none_read script form (Some bytes) none =
     ap (λ (limits : Limits). info_in limits bytes) same_plain ∙ by_payload (unit_payload plain_limits bytes) refl none
   where
     plain_limits : Limits
-    plain_limits = record { most = non_zero_u32_get script.config.limit; version = script.config.max_mode.0; addressed = false }
+    plain_limits = record { limit = non_zero_u32_get script.config.limit; version = script.config.max_mode.0; addressed = false }
 
     same_plain : limits_of script ≡ plain_limits
     same_plain = rw form.plain refl
@@ -131,7 +131,7 @@ module _ (s : Setting) (ends : List (Option CutAt)) (valid : IsValidCase s ends)
 
         accepted : judged_by s.script info ≡ Ok tt
         accepted = subst (λ (e : ℕ). validation (participants_in (with_spelled unit_spelling info)) (non_zero_u32_get s.script.config.limit) (Some info.output) e ≡ Ok tt) (sym its_own.of_epoch)
-            (subst (λ (l : Limits). validation (participants_in (with_spelled unit_spelling info)) l.most (Some info.output) epoch ≡ Ok tt) (same_limits s ends form valid.consistent) its_own.accepted)
+            (subst (λ (l : Limits). validation (participants_in (with_spelled unit_spelling info)) l.limit (Some info.output) epoch ≡ Ok tt) (same_limits s ends form valid.consistent) its_own.accepted)
     info_clear epoch info at carries (fault.InvalidParticipants (cause.Round e)) why = by_round (round_by s.script epoch info) why.2 (its_serves epoch info at carries).round
       where
         by_round : (r : Result Round RoundError) → r ≡ Err e → IsSome (result_ok r) → ⊥
@@ -146,7 +146,7 @@ module _ (s : Setting) (ends : List (Option CutAt)) (valid : IsValidCase s ends)
       empty : (count : ℕ) → count ≡ 0 → 0 < count → ⊥
       empty count none some = omega (arith, none, some)
   none_provided epoch has (fault.InvalidParticipants (cause.ProviderAbove count most)) why =
-      beyond count most (length (players_at s.script.config.players (epoch + 2))) (limits s).most why.0 (why.1 ∙ sym (ap (λ (l : Limits). l.most) (same_limits s ends form valid.consistent))) why.2 has.1
+      beyond count most (length (players_at s.script.config.players (epoch + 2))) (limits s).limit why.0 (why.1 ∙ sym (ap (λ (l : Limits). l.limit) (same_limits s ends form valid.consistent))) why.2 has.1
     where
       beyond : (count most players limit : ℕ) → count ≡ players → most ≡ limit → most < count → players ≤ limit → ⊥
       beyond count most players limit one other above low = omega (arith, one, other, above, low)

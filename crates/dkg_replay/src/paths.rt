@@ -92,7 +92,7 @@ fn previous_of(alloc: Global, text: &str) -> Option<Option<Output>> {
     Some(Some(value_of::<Output>(alloc, text, &(MOST, ModeVersion(1)))?))
 }
 
-fn round_of(alloc: Global, line: &Line<'_>) -> Option<Round> {
+fn round_in(alloc: Global, line: &Line<'_>) -> Option<Round> {
     let namespace = bytes_of(alloc, line.namespace)?;
     let previous = previous_of(alloc, line.previous)?;
     let dealers = set_of(alloc, line.dealers)?;
@@ -143,7 +143,7 @@ fn blocks_of(alloc: Global, text: &str) -> Option<Vec<Block<Unit>>> {
 
 fn ancestry_of(alloc: Global, line: &Line<'_>) -> Option<Ancestry> {
     Some(Ancestry {
-        round: round_of(alloc, line)?,
+        round: round_in(alloc, line)?,
         bounds: bounds_of(line)?,
         tip: tip_of(alloc, line.tip)?,
         blocks: blocks_of(alloc, line.ancestry)?,

@@ -3,7 +3,7 @@
 use crate::texts::{DEALING, OUTPUT, RESTORED, SET_UP, life};
 use dkg_journal::MemoryDisk;
 use dkg_run::run_lives;
-use dkg_script::{print_of, read_built};
+use dkg_script::{print_of, read_in_form};
 use dkg_store::MemorySecrets;
 use dkg_types::Transcript;
 use std::alloc::Global;
@@ -11,7 +11,7 @@ use std::test::Fail;
 
 /// What the lives of a script tell over empty devices, run to their end.
 fn told(alloc: Global, text: &str) -> Result<Vec<u8>, Fail> {
-    let script = read_built(alloc, text.as_bytes(), false)?;
+    let script = read_in_form(alloc, text.as_bytes(), false)?;
     let mut disk = MemoryDisk::new(alloc);
     let mut secrets = MemorySecrets::new(alloc);
     let mut out = Transcript::new(alloc);

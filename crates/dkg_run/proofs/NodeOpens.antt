@@ -132,7 +132,7 @@ module _ (script : Script) (number : ℕ) (life : Life) (source : HeldBlocks) (f
     of_with seen reads = is_of (life_with seen) terms script.config refl reads are 0
 
     -- what the actor's opening asks
-    pub opening_is : IsInGrammar (limits_of script).most files → IsOpeningOf terms answers number life.word files its
+    pub opening_is : IsInGrammar (limits_of script).limit files → IsOpeningOf terms answers number life.word files its
     opening_is grammar =
         opening_of (life_with seen_planless) terms answers 0 (of_with seen_planless reads_planless) (source_is (life_with seen_planless) source from) files refl refl grammar
 

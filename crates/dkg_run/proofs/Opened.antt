@@ -44,9 +44,9 @@ module _ {D X : Type 0} (files : D → Files) (image : D → Files → Type 0) (
   pub cut_ran : begun ≡ old → Stands (files old.disk.now) (image old.disk.now) → (script : Script) (number : ℕ) (life : Life) → fuse_for life.cut 0 ≡ None → (stop : Stop) → stop ≡ Cut → (out : List Line) (c : Files) → image begun.disk.now c
       → LivesSo by_worlds (lived script number life seen_planless (files old.disk.now)) (files old.disk.now) (world_of held old out (files old.disk.now)) (Err stop) (world_of held begun out c)
   cut_ran same stands script number life none stop at_cut out c here =
-      let today : Lived = lived script number life seen_planless (files old.disk.now) in
-      inl (cut_over (entry.Step 0) life.cut 0 none (node_opening (at_step today 0)) stop at_cut files image held old begun same stands
-      (λ end mid. TakesAll by_worlds today 1 life.events end mid (Err stop) (world_of held begun out c)) out c here)
+      let bare : Lived = lived script number life seen_planless (files old.disk.now) in
+      inl (cut_over (entry.Step 0) life.cut 0 none (node_opening (at_step bare 0)) stop at_cut files image held old begun same stands
+      (λ end mid. TakesAll by_worlds bare 1 life.events end mid (Err stop) (world_of held begun out c)) out c here)
 
   module _ (stands : Stands (files old.disk.now) (image old.disk.now)) (script : Script) (number : ℕ) (life : Life) (lit : fuse_for life.cut 0 ≡ Some begun.fuse) (out : List Line) where
     abbrev pub its : Lived
@@ -76,15 +76,15 @@ module _ {D X : Type 0} (files : D → Files) (image : D → Files → Type 0) (
 
     module _ (new : Devices D X) (now : List Line) (c : Files) (here : image new.disk.now c) where
       -- The opening stopped.
-      module _ (stop : Stop) (acts : IsInGrammar (limits_of script).most (files begun.disk.now) → Acted (by_node_stop stop) begun.disk new now)
+      module _ (stop : Stop) (acts : IsInGrammar (limits_of script).limit (files begun.disk.now) → Acted (by_node_stop stop) begun.disk new now)
           (fixed : Fixed directory.Unit) (said : Said (on_devices (node_opening fixed)) (by_node_stop stop) out now)
-          (untold : (IsInGrammar (limits_of script).most (files begun.disk.now) → ⊥) → now ≡ out)
-          (shut : (IsInGrammar (limits_of script).most (files begun.disk.now) → ⊥) → StaysShut (image begun.disk.now) (image new.disk.now) (held begun.secrets.now) (held new.secrets.now))
+          (untold : (IsInGrammar (limits_of script).limit (files begun.disk.now) → ⊥) → now ≡ out)
+          (shut : (IsInGrammar (limits_of script).limit (files begun.disk.now) → ⊥) → StaysShut (image begun.disk.now) (image new.disk.now) (held begun.secrets.now) (held new.secrets.now))
         where
           -- .. whose journal is not in its grammar
-          refused : (IsInGrammar (limits_of script).most (files begun.disk.now) → ⊥) → LivesRan (Err stop) new now c
+          refused : (IsInGrammar (limits_of script).limit (files begun.disk.now) → ⊥) → LivesRan (Err stop) new now c
           refused not = inr (
-            λ its. not (subst (λ (d : MutBor D). IsInGrammar (limits_of script).most (files d.now)) (sym same_disk) its),
+            λ its. not (subst (λ (d : MutBor D). IsInGrammar (limits_of script).limit (files d.now)) (sym same_disk) its),
             (stop, refl, (unsaid_stop fixed out now (untold not) stop said, untold not, kept)),
           )
             where
@@ -96,9 +96,9 @@ module _ {D X : Type 0} (files : D → Files) (image : D → Files → Type 0) (
               kept = shut_holds (files old.disk.now) (image old.disk.now) (image new.disk.now) (held old.secrets.now) (held new.secrets.now) stands shut_old c here
 
           pub stopped_ran : LivesRan (Err stop) new now c
-          stopped_ran = by_grammar (grammar_or (limits_of script).most (files begun.disk.now))
+          stopped_ran = by_grammar (grammar_or (limits_of script).limit (files begun.disk.now))
             where
-              by_grammar : IsInGrammar (limits_of script).most (files begun.disk.now) ⊎ (IsInGrammar (limits_of script).most (files begun.disk.now) → ⊥) → LivesRan (Err stop) new now c
+              by_grammar : IsInGrammar (limits_of script).limit (files begun.disk.now) ⊎ (IsInGrammar (limits_of script).limit (files begun.disk.now) → ⊥) → LivesRan (Err stop) new now c
               by_grammar (inl grammar) = inl (ran_stopped files image held old begun same_disk same_secrets stands (entry.Step 0) life.cut 0 lit course out (Next (Err stop) (world_of held new now c))
                   new now c here stop (acts_over (by_node_stop stop) new now (acts grammar)))
               by_grammar (inr not) = refused not

@@ -254,10 +254,10 @@ module _ (g : Lived) (terms : Terms) (source : Source directory.Unit) (taken : �
   unfolding at_step
   planless_at = record { reshare = refl; bare = refl }
 
-  pub opening_of : (files : Files) → seen_at g taken ≡ seen_planless → g.calls ≡ length (open_calls files) → IsInGrammar (limits_of g.script).most files
+  pub opening_of : (files : Files) → seen_at g taken ≡ seen_planless → g.calls ≡ length (open_calls files) → IsInGrammar (limits_of g.script).limit files
       → IsOpeningOf terms source g.number g.life.word files (at_step g taken)
   unfolding at_step
-  opening_of files reads calls grammar = record { lent = lent_at; today = planless_at; reads = reads; life_is = number_at; calls_are = calls; grammar = grammar }
+  opening_of files reads calls grammar = record { lent = lent_at; bare = planless_at; reads = reads; life_is = number_at; calls_are = calls; grammar = grammar }
 
   -- the epoch that is awaited
   pub epoch_is : epoch_at source terms ≡ first_epoch (at_step g taken)

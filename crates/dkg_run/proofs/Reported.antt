@@ -10,7 +10,7 @@ use Rattle.dkg_types.specs.declared.fault.Fault.TheVariants.{NoMemory, Disk, Sec
 use Rattle.dkg_text.specs.Grammar.{reading_of, script_of, script_or_place, with_place}
 use Rattle.dkg_text.specs.Printing.{lines_of}
 use Rattle.dkg_text.specs.declared.script.Script.{Script}
-use Rattle.dkg_script.specs.Built.{is_built}
+use Rattle.dkg_script.specs.InForm.{is_in_form}
 use Rattle.dkg_script.specs.Promise.{Adds}
 use Rattle.dkg_run.specs.Command.{IsTold}
 use Rattle.dkg_promises.specs.Complete.{IsSoundRun, IsValidAnyhow}
@@ -92,7 +92,7 @@ gives bytes Gave gave o out ended entries runs = by_status ended runs
       gave = given its.bytes its.gave;
       script = its.script;
       spells = its.spells;
-      built = its.built;
+      in_form = its.in_form;
       form = its.form;
       lives = its.lives;
     }
@@ -110,7 +110,7 @@ gives bytes Gave gave o out ended entries runs = by_status ended runs
       gave = given runs.bytes runs.gave;
       script = runs.script;
       spells = runs.spells;
-      not_built = runs.not_built;
+      not_in_form = runs.not_in_form;
       nothing = runs.nothing;
     }
     by_status status.ReadFault runs = runs
@@ -194,7 +194,7 @@ no_place addressed bytes script place is = by_reading (reading_of addressed byte
 
 -- A SOUND RUN
 
-module _ (Gave : List ℕ → Type 0) (o : Over) (out entries : List Entry) (script : Script) (spells : (bytes : List ℕ) → Gave bytes → script_of false bytes ≡ Some script) (built : is_built script ≡ true)
+module _ (Gave : List ℕ → Type 0) (o : Over) (out entries : List Entry) (script : Script) (spells : (bytes : List ℕ) → Gave bytes → script_of false bytes ≡ Some script) (built : is_in_form script ≡ true)
     (sound : IsSoundRun o (IsValidAnyhow script)) where
   only_memory : (its : Fault) → RanScript Gave o out (Err its) entries → its ≡ NoMemory
   only_memory its ran =
@@ -217,7 +217,7 @@ module _ (Gave : List ℕ → Type 0) (o : Over) (out entries : List Entry) (scr
   by_status (status.BadScript place) runs not_failed not_long = absurd (no_place false runs.bytes script place (spells runs.bytes runs.gave) runs.no_script)
   by_status status.Unsupported runs not_failed not_long =
       let same : runs.script ≡ script = some_same runs.script script (script_of false runs.bytes) runs.spells (spells runs.bytes runs.gave) in
-      absurd (true_false (ap is_built same ∙ built) runs.not_built)
+      absurd (true_false (ap is_in_form same ∙ built) runs.not_in_form)
   by_status (status.Fault its) runs not_failed not_long = absurd (subst (λ (x : Fault). IsNodeFault x) (only_memory its runs.1) runs.0)
   by_status status.Device runs not_failed not_long = absurd (by_device runs)
     where

@@ -11,7 +11,7 @@ use Rattle.dkg_text.specs.Printing.{lines_of}
 use Rattle.dkg_text.specs.Summary.{summary_of}
 use Rattle.dkg_text.specs.Writing.{text_of}
 use Rattle.dkg_generator.specs.Made.{made_script}
-use Rattle.dkg_script.specs.Built.{is_built}
+use Rattle.dkg_script.specs.InForm.{is_in_form}
 use Rattle.dkg_script.specs.Inclusion.{IsFormOfInclusion}
 use Rattle.dkg_run.specs.Command.{IsTold}
 use Rattle.dkg_script.specs.Ends.{IsNodeFault}
@@ -64,7 +64,7 @@ pub record RanScript (Gave : List ℕ → Type 0) (o : Over) (out : List Entry) 
   pub gave : Gave bytes
   pub script : Script
   pub spells : script_of false bytes ≡ Some script
-  pub built : is_built script ≡ true
+  pub in_form : is_in_form script ≡ true
   pub form : IsFormOfInclusion script
   pub lives : RunsLives script o out result entries
 
@@ -81,12 +81,12 @@ pub record NoScript (Gave : List ℕ → Type 0) (o : Over) (place : ℕ) (entri
   pub nothing : RanNothing o entries
 
 -- The bytes are a script, of a form that is not run yet.
-pub record NotBuilt (Gave : List ℕ → Type 0) (o : Over) (entries : List Entry) : Type 0 where
+pub record NotInForm (Gave : List ℕ → Type 0) (o : Over) (entries : List Entry) : Type 0 where
   pub bytes : List ℕ
   pub gave : Gave bytes
   pub script : Script
   pub spells : script_of false bytes ≡ Some script
-  pub not_built : is_built script ≡ false
+  pub not_in_form : is_in_form script ≡ false
   pub nothing : RanNothing o entries
 
 -- by the status
@@ -96,7 +96,7 @@ RanByStatus Gave o out (status.Fault its) entries = IsNodeFault its × RanScript
 RanByStatus Gave o out status.Device entries = RanScript Gave o out (Err fault.Disk) entries ⊎ RanScript Gave o out (Err fault.Secrets) entries
 RanByStatus Gave o out status.NoMemory entries = RanNothing o entries ⊎ RanScript Gave o out (Err fault.NoMemory) entries
 RanByStatus Gave o out (status.BadScript place) entries = NoScript Gave o place entries
-RanByStatus Gave o out status.Unsupported entries = NotBuilt Gave o entries
+RanByStatus Gave o out status.Unsupported entries = NotInForm Gave o entries
 RanByStatus Gave o out status.ReadFault entries = RanNothing o entries
 RanByStatus Gave o out status.TooLong entries = RanNothing o entries
 RanByStatus Gave o out status.Usage entries = ⊥

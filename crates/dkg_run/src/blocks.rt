@@ -14,7 +14,7 @@ use std::alloc::Global;
 /// The payload that bytes spell, if they spell one.
 fn payload_in(alloc: Global, config: &ScriptConfig, bytes: &[u8]) -> Mem<Option<Payload<Unit>>>
     ensures payload { IfOk result (λ payload. payload ≡ unit_payload
-        (record { most = non_zero_u32_get config.now.limit; version = config.now.max_mode.0; addressed = false }) bytes.now) }
+        (record { limit = non_zero_u32_get config.now.limit; version = config.now.max_mode.0; addressed = false }) bytes.now) }
     ensures bytes { IsBytes bytes.now }
 {
     let limits = (config.limit, config.max_mode);

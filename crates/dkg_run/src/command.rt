@@ -9,7 +9,7 @@ ghost use Rattle.dkg_text.specs.Grammar.{script_of, script_or_place};
 ghost use Rattle.dkg_text.specs.Printing.{lines_of};
 ghost use Rattle.dkg_text.specs.Writing.{text_of as script_text_of};
 ghost use Rattle.dkg_text.specs.declared.script.Script.{Script};
-ghost use Rattle.dkg_script.specs.Built.{ReadsBuilt, is_built};
+ghost use Rattle.dkg_script.specs.InForm.{ReadsInForm, is_in_form};
 ghost use Rattle.dkg_script.specs.Inclusion.{IsFormOfInclusion};
 ghost use Rattle.dkg_script.specs.Promise.{Adds};
 ghost use Rattle.dkg_run.specs.Command.{IsMake, IsRun, IsRunOfMade, IsTold};
@@ -25,7 +25,7 @@ use crate::transfer::{ReadError, read_all, write_all};
 use dkg_ceremony::Mem;
 use dkg_generator::make_script;
 use dkg_journal::Disk;
-use dkg_script::{ReadError as BuiltError, Script, print_of, read_built};
+use dkg_script::{ReadError as FormError, Script, print_of, read_in_form};
 use dkg_store::SecretStore;
 use dkg_text::{number, script_text, summary};
 use dkg_types::{Entry, Fault, Transcript};
@@ -153,13 +153,13 @@ fn status_of(fault: Fault) -> Status
 }
 
 /// The script that bytes spell which were read of a source. It is given them back.
-fn script_in<S: Source>(alloc: Global, source: &mut S, bytes: Vec<u8>) -> Result<Script, BuiltError>
-    ensures reads { ReadsBuilt (script_or_place false bytes.items) result }
+fn script_in<S: Source>(alloc: Global, source: &mut S, bytes: Vec<u8>) -> Result<Script, FormError>
+    ensures reads { ReadsInForm (script_or_place false bytes.items) result }
     ensures form { IfOk result IsFormOfInclusion }
     ensures left { S.left source.new ≡ S.left source.old }
     ensures back { S.has_back source.new bytes.items }
 {
-    let read = read_built(alloc, &bytes, false);
+    let read = read_in_form(alloc, &bytes, false);
     source.give_back(bytes);
     read
 }
@@ -167,22 +167,22 @@ fn script_in<S: Source>(alloc: Global, source: &mut S, bytes: Vec<u8>) -> Result
 /// Runs the lives of a script that was read, or says why none was.
 fn run_read<D: Disk, X: SecretStore>(
     alloc: Global,
-    read: Result<Script, BuiltError>,
+    read: Result<Script, FormError>,
     disk: &mut D,
     secrets: &mut X,
     out: &mut Transcript,
 ) -> Status
     requires form { IfOk read IsFormOfInclusion }
     ensures read { (result ≢ Status.ReadFault) × (result ≢ Status.TooLong) }
-    ensures ends { (bytes : List ℕ) → ReadsBuilt (script_or_place false bytes) read → Adds out.old.entries out.new.entries (RanByStatus (λ its. its ≡ bytes)
+    ensures ends { (bytes : List ℕ) → ReadsInForm (script_or_place false bytes) read → Adds out.old.entries out.new.entries (RanByStatus (λ its. its ≡ bytes)
         (over D.tells D.files D.image D.faults D.made X.tells X.held X.faults X.made (disk.old, secrets.old) (disk.new, secrets.new))
         out.old.entries result) }
 {
     let script = match read {
         Ok(script) => script,
-        Err(BuiltError::Bad { place }) => return Status::BadScript { place },
-        Err(BuiltError::Unsupported) => return Status::Unsupported,
-        Err(BuiltError::NoMemory) => return Status::NoMemory,
+        Err(FormError::Bad { place }) => return Status::BadScript { place },
+        Err(FormError::Unsupported) => return Status::Unsupported,
+        Err(FormError::NoMemory) => return Status::NoMemory,
     };
     match run_lives(alloc, &script, disk, secrets, out) {
         Ok(()) => Status::Done,
@@ -291,12 +291,12 @@ fn make<K: Sink>(alloc: Global, sink: &mut K, number: u64) -> Status
 }
 
 /// The made script of a number, read from its text.
-fn made_built(alloc: Global, number: u64) -> Result<Script, BuiltError>
-    ensures reads { ReadsBuilt (script_or_place false (script_text_of (made_script number))) result }
+fn made_in_form(alloc: Global, number: u64) -> Result<Script, FormError>
+    ensures reads { ReadsInForm (script_or_place false (script_text_of (made_script number))) result }
     ensures form { IfOk result IsFormOfInclusion }
 {
     let text = made_text(alloc, number)?;
-    read_built(alloc, &text, false)
+    read_in_form(alloc, &text, false)
 }
 
 /// Runs the lives of the made script of a number.
@@ -312,7 +312,7 @@ fn run_made<D: Disk, X: SecretStore>(
         (over D.tells D.files D.image D.faults D.made X.tells X.held X.faults X.made (disk.old, secrets.old) (disk.new, secrets.new))
         out.old.entries result) }
 {
-    let read = made_built(alloc, number);
+    let read = made_in_form(alloc, number);
     run_read(alloc, read, disk, secrets, out)
 }
 
@@ -409,7 +409,7 @@ pub fn run_command<S: Source, K: Sink, D: Disk, X: SecretStore>(
     // Where the source holds the text of a script of a form that is run, which is valid however it is cut, the devices are valid, and no count rises, every
     // life is run, unless memory runs out.
     ensures complete { IsRun (map string_bytes words.now) → IsTrue S.tells → (script : Script)
-        → script_of false (S.left source.old) ≡ Some script → is_built script ≡ true → length (S.left source.old) ≤ 16777216
+        → script_of false (S.left source.old) ≡ Some script → is_in_form script ≡ true → length (S.left source.old) ≤ 16777216
         → IsSoundRun
         (over D.tells D.files D.image D.faults D.made X.tells X.held X.faults X.made (disk.old, secrets.old) (disk.new, secrets.new))
         (IsValidAnyhow script)

@@ -198,9 +198,9 @@ fn live<D: Disk, X: SecretStore>(
     ensures went { Went D.tells D.made X.made D.faults X.faults devices.old devices.new [] }
     ensures causes { IfErr result (StopBlames D.faults X.faults devices.old devices.new) }
     // A corrupt record that it names stands on the devices as they are left.
-    ensures found { IfErr result (λ stop. IsTrue D.tells → IfFault stop (IsFoundRecord (limits_of script.now).most (D.files devices.new.disk.now))) }
-    ensures fit { IsTrue D.tells → AreFit (limits_of script.now).most (D.image devices.old.disk.now)
-        → AreFit (limits_of script.now).most (D.image devices.new.disk.now) }
+    ensures found { IfErr result (λ stop. IsTrue D.tells → IfFault stop (IsFoundRecord (limits_of script.now).limit (D.files devices.new.disk.now))) }
+    ensures fit { IsTrue D.tells → AreFit (limits_of script.now).limit (D.image devices.old.disk.now)
+        → AreFit (limits_of script.now).limit (D.image devices.new.disk.now) }
 {
     begin_step(devices, &life.cut, 0)?;
     let mut source = HeldBlocks::new(alloc, blocks, life)?;
@@ -283,9 +283,9 @@ fn run_life<D: Disk, X: SecretStore>(
         (λ w. (result ≡ Ok tt) × (w ≡ world_of X.held devices.new out.new.entries c)) }
     ensures stands { OnOk result (IsTrue D.tells → Stands (D.files devices.new.disk.now) (D.image devices.new.disk.now)) }
     ensures causes { IfErr result (Blames D.faults X.faults devices.old devices.new) }
-    ensures found { IfErr result (λ fault. IsTrue D.tells → IsFoundRecord (limits_of script.now).most (D.files devices.new.disk.now) fault) }
-    ensures fit { IsTrue D.tells → AreFit (limits_of script.now).most (D.image devices.old.disk.now)
-        → AreFit (limits_of script.now).most (D.image devices.new.disk.now) }
+    ensures found { IfErr result (λ fault. IsTrue D.tells → IsFoundRecord (limits_of script.now).limit (D.files devices.new.disk.now) fault) }
+    ensures fit { IsTrue D.tells → AreFit (limits_of script.now).limit (D.image devices.old.disk.now)
+        → AreFit (limits_of script.now).limit (D.image devices.new.disk.now) }
 {
     let how = live(alloc, script, blocks, number, life, devices, out);
     end_life(life, how, devices, out)
@@ -308,9 +308,9 @@ fn run_all<D: Disk, X: SecretStore>(
     ensures stands { OnOk result (IsTrue D.tells → Stands (D.files devices.old.disk.now) (D.image devices.old.disk.now)
         → Stands (D.files devices.new.disk.now) (D.image devices.new.disk.now)) }
     ensures causes { IfErr result (Blames D.faults X.faults devices.old devices.new) }
-    ensures found { IfErr result (λ fault. IsTrue D.tells → IsFoundRecord (limits_of script.now).most (D.files devices.new.disk.now) fault) }
-    ensures fit { IsTrue D.tells → AreFit (limits_of script.now).most (D.image devices.old.disk.now)
-        → AreFit (limits_of script.now).most (D.image devices.new.disk.now) }
+    ensures found { IfErr result (λ fault. IsTrue D.tells → IsFoundRecord (limits_of script.now).limit (D.files devices.new.disk.now) fault) }
+    ensures fit { IsTrue D.tells → AreFit (limits_of script.now).limit (D.image devices.old.disk.now)
+        → AreFit (limits_of script.now).limit (D.image devices.new.disk.now) }
     // Lives begin where the configuration is not refused and there is memory for the blocks. Else all is as it was.
     ensures begun { (IsChecked script.now × AreBytes script.now.blocks)
         ⊎ BeganNone script.now result ((devices.new ≡ devices.old) × (out.new.entries ≡ out.old.entries)) }

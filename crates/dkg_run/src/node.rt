@@ -94,7 +94,7 @@ impl<'a> Node<'a> {
         ensures ready { IfOk result (λ node. IsReadyNode D.tells D.files D.image node devices.new) }
         ensures of { IfOk result (λ node. (g : Lived) → g.script ≡ script.now → g.life ≡ life.now → IsUnplanned g.seen → IsOfLife g node) }
         // It is the relation's opening of a journal in its grammar, and each act was made, whatever image a crash leaves.
-        ensures acts { IsTrue D.tells → IsTrue X.tells → IsInGrammar (limits_of script.now).most (D.files devices.old.disk.now)
+        ensures acts { IsTrue D.tells → IsTrue X.tells → IsInGrammar (limits_of script.now).limit (D.files devices.old.disk.now)
             → ViewedNew result (λ ended. Makes D.files D.image X.held
             (node_opening (at_step (lived script.now number life.now seen_planless (D.files devices.old.disk.now)) 0))
             ended devices.old devices.new out.old.entries out.new.entries) }
@@ -105,12 +105,12 @@ impl<'a> Node<'a> {
             (λ s. ViewedNew result (λ ended. Tells (node_opening (at_step (lived script.now number life.now (λ h. s) (D.files devices.old.disk.now)) 0))
             ended out.old.entries out.new.entries)) }
         // A journal that is not in its grammar is not opened: nothing is told, and all stays.
-        ensures readable { IsTrue D.tells → OpensReadable (IsInGrammar (limits_of script.now).most (D.files devices.old.disk.now)) result
+        ensures readable { IsTrue D.tells → OpensReadable (IsInGrammar (limits_of script.now).limit (D.files devices.old.disk.now)) result
             out.old.entries out.new.entries
             (D.image devices.old.disk.now) (D.image devices.new.disk.now) (X.held devices.old.secrets.now) (X.held devices.new.secrets.now) }
         ensures moved { Moved D.tells D.made X.made D.faults X.faults devices.old devices.new }
         // A device is blamed where its count rose, a cut where the fuse reached its call, and a record where it stands.
-        ensures causes { IfErr result (λ stop. IsFoundAt (limits_of script.now).most D.tells (D.files devices.new.disk.now) stop
+        ensures causes { IfErr result (λ stop. IsFoundAt (limits_of script.now).limit D.tells (D.files devices.new.disk.now) stop
             (Rose (D.faults devices.old.disk.now) (D.faults devices.new.disk.now)) (Rose (X.faults devices.old.secrets.now) (X.faults devices.new.secrets.now))
             (Reached devices.old.fuse devices.new.fuse)) }
         // Where something was loose: what a crash leaves stays in its grammar, and gives the same dealings of those epochs back.

@@ -18,7 +18,7 @@ use Rattle.dkg_script.specs.Blocks.{digest_of, flagged}
 use Rattle.dkg_script.specs.Readings.{Limits, dealing_in, info_in, with_spelled, unit_payload}
 
 -- MESSAGES: a dealing, another message, and bytes that are none
-pub reads_dealing : (limits : Limits) (bytes public : List ℕ) (private : ℕ) → whole (message_at limits.most bytes) ≡ Ok (Dealer public private)
+pub reads_dealing : (limits : Limits) (bytes public : List ℕ) (private : ℕ) → whole (message_at limits.limit bytes) ≡ Ok (Dealer public private)
     → dealing_in limits bytes ≡ Some (record { public = public; private = private })
 unfolding dealing_in
 reads_dealing limits bytes public private e = rw e refl

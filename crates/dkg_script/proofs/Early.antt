@@ -44,7 +44,7 @@ midpoint_of script = non_zero_u64_get script.config.blocks_per_epoch / 2
 abbrev pub IsBlockBelow : Script → BlockLine → Type 0
 IsBlockBelow script block =
     (block.height < non_zero_u64_get script.config.blocks_per_epoch)
-    × IfSome block.payload (λ bytes. IsSome (unit_payload (record { most = non_zero_u32_get script.config.limit; version = script.config.max_mode.0; addressed = script.addressed }) bytes))
+    × IfSome block.payload (λ bytes. IsSome (unit_payload (record { limit = non_zero_u32_get script.config.limit; version = script.config.max_mode.0; addressed = script.addressed }) bytes))
 
 -- The script is of a reshare without directories of addresses, its node has a key of 32 bits, its limit is one that a script may have, its epochs have two blocks at least, and a number of
 -- 64 bits, its mode is supported, its players' epochs rise, its blocks are of epoch 0 and their payloads are read, its first block stands at height 0, and each of its lives is of the form.

@@ -6,7 +6,7 @@ use Rattle.dkg_text.specs.declared.script.Event.{Event}
 use Rattle.dkg_text.specs.declared.script.Event.TheVariants.{Peer, Final}
 use Rattle.dkg_text.specs.declared.script.Life.{Life}
 use Rattle.dkg_script.specs.Asked.{AskAnew}
-use Rattle.dkg_script.specs.Built.{EpochsIsOfInclusion}
+use Rattle.dkg_script.specs.InForm.{EpochsIsOfInclusion}
 use Rattle.dkg_script.specs.Epochs as epochs
 use Rattle.dkg_script.specs.Inclusion as inclusion
 use Rattle.dkg_script.proofs.Formed.{holds_at}

@@ -10,7 +10,7 @@ use Rattle.dkg_text.specs.declared.script.Event.{Event}
 use Rattle.dkg_text.specs.declared.script.Event.TheVariants.{Peer, Final, Next, Release, Info, Feed, Over, Cancel, Work}
 use Rattle.dkg_text.specs.declared.script.Life.{Life}
 use Rattle.dkg_text.specs.declared.script.Script.{Script}
-use Rattle.dkg_script.specs.Built.{IsOfText, IsToldNothing, are_events, are_lives, is_alone, is_built, is_event, is_key, is_life, is_limit, is_plain}
+use Rattle.dkg_script.specs.InForm.{IsOfText, IsToldNothing, are_events, are_lives, is_alone, is_in_form, is_event, is_key, is_life, is_limit, is_plain}
 use Rattle.dkg_script.specs.Asked.{AskAnew}
 use Rattle.dkg_script.specs.Epochs.{IsAnchorIn}
 use Rattle.dkg_script.specs.Inclusion.{IsEventIn, IsFormOfInclusion}
@@ -118,8 +118,8 @@ pub record HasPassed (script : Script) : Type 0 where
   pub in_bound : non_zero_u32_get script.config.limit ≤ 2 ^ 30
   pub lives : are_lives (length script.blocks) script.lives ≡ true
 
-pub has_passed : (script : Script) → is_built script ≡ true → HasPassed script
-unfolding is_built
+pub has_passed : (script : Script) → is_in_form script ≡ true → HasPassed script
+unfolding is_in_form
 has_passed script e =
     let config = script.config in
     let outer = and_parts (not script.addressed && is_plain config) (are_lives (length script.blocks) script.lives) e in
@@ -136,8 +136,8 @@ has_passed script e =
       lives = outer.1;
     }
 
-pub form_if_built : (script : Script) → is_built script ≡ true → non_zero_u64_get script.config.blocks_per_epoch < 2 ^ 64 → IsOfText script → IsFormOfInclusion script
-form_if_built script e short of_text =
+pub form_if_passed : (script : Script) → is_in_form script ≡ true → non_zero_u64_get script.config.blocks_per_epoch < 2 ^ 64 → IsOfText script → IsFormOfInclusion script
+form_if_passed script e short of_text =
     let passed = has_passed script e in
     let tested = lives_tested script.blocks script.lives passed.lives in
     record {
@@ -159,9 +159,9 @@ form_if_built script e short of_text =
           };
     }
 
-pub built_if_form : (script : Script) → IsFormOfInclusion script → IsToldNothing script.config → is_built script ≡ true
-unfolding is_built
-built_if_form script form nothing =
+pub passed_if_form : (script : Script) → IsFormOfInclusion script → IsToldNothing script.config → is_in_form script ≡ true
+unfolding is_in_form
+passed_if_form script form nothing =
     let config = script.config in
     let no_address : (length config.addresses == 0) ≡ true = rw nothing.0 refl in
     let alone_is : is_alone config ≡ true =
@@ -176,13 +176,13 @@ built_if_form script form nothing =
 
 -- WHAT THE TEST ANSWERS
 
-pub told_form : (script : Script) (yes : Bool) → yes ≡ is_built script → non_zero_u64_get script.config.blocks_per_epoch < 2 ^ 64 → OnTrue yes (IsOfText script → IsFormOfInclusion script)
-told_form script true is short = λ of_text. form_if_built script (sym is) short of_text
+pub told_form : (script : Script) (yes : Bool) → yes ≡ is_in_form script → non_zero_u64_get script.config.blocks_per_epoch < 2 ^ 64 → OnTrue yes (IsOfText script → IsFormOfInclusion script)
+told_form script true is short = λ of_text. form_if_passed script (sym is) short of_text
 told_form script false is short = tt
 
-pub told_other : (script : Script) (yes : Bool) → yes ≡ is_built script → OnFalse yes (IsFormOfInclusion script → IsToldNothing script.config → ⊥)
+pub told_other : (script : Script) (yes : Bool) → yes ≡ is_in_form script → OnFalse yes (IsFormOfInclusion script → IsToldNothing script.config → ⊥)
 told_other script true is = tt
-told_other script false is = λ form nothing. differ (is_built script) (sym is) (built_if_form script form nothing)
+told_other script false is = λ form nothing. differ (is_in_form script) (sym is) (passed_if_form script form nothing)
   where
     differ : (b : Bool) → b ≡ false → b ≡ true → ⊥
     differ b is_not is = cc

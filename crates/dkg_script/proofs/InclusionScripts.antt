@@ -18,7 +18,7 @@ use Rattle.dkg_text.specs.declared.script.PlayerLine.{PlayerLine}
 use Rattle.dkg_text.specs.declared.script.Script.{Script}
 use Rattle.dkg_text.specs.declared.script.SyncLine.{SyncLine}
 use Rattle.dkg_script.specs.Asked.{AskAnew, fed_by, fed_to}
-use Rattle.dkg_script.specs.Built.{is_built}
+use Rattle.dkg_script.specs.InForm.{is_in_form}
 use Rattle.dkg_script.specs.Epochs.{IsBlockIn, IsFormOfEpochs}
 use Rattle.dkg_script.specs.Inclusion.{IsEventIn, IsFormOfInclusion, IsLifeIn}
 use Rattle.dkg_script.specs.Players.{players_at}
@@ -70,9 +70,9 @@ asking_is_of_inclusion =
     form_of asking (lit< tt, (refl, (tt, (tt, (tt, (tt, (refl, (refl, (tt, (tt, (tt, (tt, tt))))))))))))
     (tt, (tt, (tt, (tt, (tt, (refl, (tt, (tt, (tt, (refl, (tt, (tt, tt))))))))))))
 
-pub asking_is_built : is_built (with_events asking) ≡ true
-unfolding is_built
-asking_is_built = refl
+pub asking_is_in_form : is_in_form (with_events asking) ≡ true
+unfolding is_in_form
+asking_is_in_form = refl
 
 -- of a script of the form, its one life
 its_life : (events : List Event) → IsFormOfInclusion (with_events events) → IsLifeIn (with_events events) (life_of events None)
@@ -82,9 +82,9 @@ its_life events form = form.lives 0 (life_of events None) refl
 pub no_application : IsFormOfInclusion (with_events (Prepare [] ∷ [])) → ⊥
 no_application form = (its_life (Prepare [] ∷ []) form).events.0
 
-pub application_unbuilt : is_built (with_events (Prepare [] ∷ [])) ≡ false
-unfolding is_built
-application_unbuilt = refl
+pub application_not_in_form : is_in_form (with_events (Prepare [] ∷ [])) ≡ false
+unfolding is_in_form
+application_not_in_form = refl
 
 -- A FEED OF A BLOCK that isn't there
 no_line : (o : Option BlockLine) → o ≡ None → IsSome o → ⊥
@@ -94,9 +94,9 @@ no_line (Some line) is there = absurd cc
 pub no_such_block : IsFormOfInclusion (with_events (Info 1 ∷ Feed 1 2 ∷ [])) → ⊥
 no_such_block form = no_line (slice_get two_blocks 2) refl (its_life (Info 1 ∷ Feed 1 2 ∷ []) form).events.1.0
 
-pub such_unbuilt : is_built (with_events (Info 1 ∷ Feed 1 2 ∷ [])) ≡ false
-unfolding is_built
-such_unbuilt = refl
+pub such_not_in_form : is_in_form (with_events (Info 1 ∷ Feed 1 2 ∷ [])) ≡ false
+unfolding is_in_form
+such_not_in_form = refl
 
 -- A KEY of more than 32 bits
 not_itself : (n : ℕ) → n < n → ⊥

@@ -29,7 +29,7 @@ use Rattle.dkg_text.specs.Spells.{FitAfter}
 use Rattle.dkg_text.proofs.Rise.{is_rising, pair_above, rising_is}
 use Rattle.dkg_text.proofs.ScriptLaws.{written_again}
 use Rattle.dkg_script.specs.Asked.{AskAnew, IsAskedAnew}
-use Rattle.dkg_script.specs.Built.{IsOfText}
+use Rattle.dkg_script.specs.InForm.{IsOfText}
 use Rattle.dkg_script.specs.Epochs.{IsAnchorIn, IsBlockIn}
 use Rattle.dkg_script.specs.Players.{epochs_of}
 use Rattle.dkg_script.specs.Readings.{unit_payload}
@@ -47,7 +47,7 @@ some_before f None is = absurd cc
 some_before f (Some x) is = refl
 
 payload_read : (limit version : ℕ) (payload : Option (List ℕ)) → is_payload false limit version payload ≡ true
-    → IfSome payload (λ bytes. IsSome (unit_payload (record { most = limit; version = version; addressed = false }) bytes))
+    → IfSome payload (λ bytes. IsSome (unit_payload (record { limit = limit; version = version; addressed = false }) bytes))
 unfolding payload_kind unit_kind
 payload_read limit version None is = tt
 payload_read limit version (Some bytes) is = some_before kind_of (result_ok (whole (payload_at (λ _. unit_at) (λ _ _. true) limit version bytes))) is

@@ -38,7 +38,7 @@ held = record {
 }
 
 abbrev pub limits : Limits
-limits = record { most = 4; version = 0; addressed = false }
+limits = record { limit = 4; version = 0; addressed = false }
 
 -- the infos of epoch 0, and of later epochs that carry its output on
 abbrev pub first_info : Info

@@ -3,7 +3,7 @@ use Rattle.std.proofs.Common.{ℕ, Bool, List, Err}
 use Rattle.dkg_text.specs.declared.error.ScriptError.{ScriptError}
 use Rattle.dkg_text.specs.declared.error.ScriptError.TheVariants.{Bad, NoMemory}
 use Rattle.dkg_text.specs.Laws.{TellsPlace as PlaceRead}
-use Rattle.dkg_script.specs.Built.{TellsPlace, refusal_of}
+use Rattle.dkg_script.specs.InForm.{TellsPlace, refusal_of}
 
 pub told_as_read : (addressed : Bool) (bytes : List ℕ) (error : ScriptError) → PlaceRead addressed bytes (Err error) → TellsPlace addressed bytes (Err (refusal_of error))
 told_as_read addressed bytes (Bad place) is = is

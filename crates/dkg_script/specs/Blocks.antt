@@ -111,7 +111,7 @@ chain_below s (suc height) = chain s height
 abbrev pub material_of_line : Setting → SyncLine → Option Material
 material_of_line s line =
     option_and_then (λ info. option_map (λ b. record { info = info; epoch = line.epoch; floor = b.digest }) (block_at s line.block))
-    (info_in (record { most = 2 ^ 30; version = 1; addressed = s.script.addressed }) line.info)
+    (info_in (record { limit = 2 ^ 30; version = 1; addressed = s.script.addressed }) line.info)
 
 abbrev pub provided : Setting → Life → Option Material
 provided s life = option_and_then (material_of_line s) life.sync

@@ -54,7 +54,7 @@ pub record IsLifeIn (script : Script) (l : ℕ) (life : Life) : Type 0 where
 -- what a block's payload is, if it has one, is read under the script's limits
 abbrev pub IsBlockIn : Script → BlockLine → Type 0
 IsBlockIn script block =
-    IfSome block.payload (λ bytes. IsSome (unit_payload (record { most = non_zero_u32_get script.config.limit; version = script.config.max_mode.0; addressed = script.addressed }) bytes))
+    IfSome block.payload (λ bytes. IsSome (unit_payload (record { limit = non_zero_u32_get script.config.limit; version = script.config.max_mode.0; addressed = script.addressed }) bytes))
 
 -- The script is of a reshare without directories of addresses, its node has a key of 32 bits, its limit is one that a script may have, its blocks' payloads are read and their heights
 -- are numbers of 64 bits, and each of its lives is of the form.

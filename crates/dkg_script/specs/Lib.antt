@@ -2,12 +2,12 @@ pub mod AsCut
 pub mod AsCutLaws
 pub mod Asked
 pub mod Blocks
-pub mod Built
 pub mod Consistent
 pub mod Due
 pub mod Ends
 pub mod Epochs
 pub mod History
+pub mod InForm
 pub mod Inclusion
 pub mod Kept
 pub mod Laws

@@ -18,7 +18,7 @@ use Rattle.dkg_types.specs.Units.{unit_at, unit_spelling}
 
 -- what a reader is told: the participant limit, the newest mode of a sharing, and whether directories hold addresses
 pub record Limits : Type 0 where
-  pub most : ℕ
+  pub limit : ℕ
   pub version : ℕ
   pub addressed : Bool
 
@@ -35,7 +35,7 @@ halves_of (Ack ack) = None
 
 -- the dealing that a message of the dealing channel brings
 unfoldable pub dealing_in : Limits → List ℕ → Option Halves
-dealing_in limits bytes = option_and_then halves_of (result_ok (whole (message_at limits.most bytes)))
+dealing_in limits bytes = option_and_then halves_of (result_ok (whole (message_at limits.limit bytes)))
 
 -- PAYLOADS
 
@@ -57,7 +57,7 @@ abbrev pub carried_info : {Dir : Type 0} → (Dir → List ℕ) → Payload Dir 
 carried_info spelling payload = option_map (with_spelled spelling) (its_info payload)
 
 abbrev pub unit_payload : Limits → List ℕ → Option (Payload directory.Unit)
-unit_payload limits bytes = result_ok (whole (payload_at (λ _. unit_at) (λ _ _. true) limits.most limits.version bytes))
+unit_payload limits bytes = result_ok (whole (payload_at (λ _. unit_at) (λ _ _. true) limits.limit limits.version bytes))
 
 -- the info that a block's payload is (no directory of addresses is read yet)
 unfoldable pub info_in : Limits → List ℕ → Option Info
@@ -89,4 +89,4 @@ material_from spelling m = record { info = with_spelled spelling m.0; epoch = m.
 unfoldable pub material_in : Limits → List ℕ → Option Material
 material_in limits bytes =
     if limits.addressed then None
-    else option_map (material_from unit_spelling) (result_ok (whole (beside_at (info_at (λ _. unit_at) (λ _ _. true) limits.most limits.version) floor_at bytes)))
+    else option_map (material_from unit_spelling) (result_ok (whole (beside_at (info_at (λ _. unit_at) (λ _ _. true) limits.limit limits.version) floor_at bytes)))

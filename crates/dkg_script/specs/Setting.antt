@@ -35,7 +35,7 @@ is_oneshot s = is_some s.script.config.oneshot
 -- under which the node reads: in one-shot mode the limit is the number of participants, and at least 1
 abbrev pub limits : Setting → Limits
 limits s = record {
-  most = option_map_or (λ participants. max 1 (length participants)) s.script.config.oneshot (non_zero_u32_get s.script.config.limit);
+  limit = option_map_or (λ participants. max 1 (length participants)) s.script.config.oneshot (non_zero_u32_get s.script.config.limit);
   version = s.script.config.max_mode.0;
   addressed = s.script.addressed;
 }

@@ -33,7 +33,7 @@ ComesInTurn s l life =
 -- PROVIDER: where an epoch that a life takes part in ends, or the info that will end it is asked for, there are players for the epoch two above, and no more than the limit.
 
 abbrev pub HasPlayers : Setting → (epoch : ℕ) → Type 0
-HasPlayers s epoch = let players = players_at s.script.config.players epoch in (0 < length players) × (length players ≤ (limits s).most)
+HasPlayers s epoch = let players = players_at s.script.config.players epoch in (0 < length players) × (length players ≤ (limits s).limit)
 
 -- an info is asked for, or a block delivered that is the last of the epoch
 abbrev pub EndsEpoch : Setting → (epoch : ℕ) → Event → Type 0
@@ -59,7 +59,7 @@ participants_in i = record { dealers = i.output.players; players = i.players; ne
 -- An info is of the epoch, its participants may take part in the epoch's round under the script's limit, and make one.
 pub record ServesIn (s : Setting) (epoch : ℕ) (info : Info) : Type 0 where
   pub of_epoch : info.epoch ≡ epoch
-  pub accepted : validation (participants_in info) (limits s).most (Some info.output) epoch ≡ Ok tt
+  pub accepted : validation (participants_in info) (limits s).limit (Some info.output) epoch ≡ Ok tt
   pub round : IsSome (reshare_round s epoch info)
 
 -- a block that begins an epoch carries such an info of that epoch

@@ -2,7 +2,7 @@
 //!
 //! Each law is a call without a body, whose contract is the law. Whoever relies on the promise cites them.
 ghost use Rattle.dkg_script.specs.AsCutLaws.{ComesAsFar, HonestAnyhow, StaysInOrderAsCut, StaysOfEpochs, StaysOfInclusion, ValidAnyhow, ValidAsCut};
-ghost use Rattle.dkg_script.specs.Built.{EpochsIsOfInclusion};
+ghost use Rattle.dkg_script.specs.InForm.{EpochsIsOfInclusion};
 ghost use Rattle.dkg_script.specs.Laws.{AcknowledgesOnce, AcknowledgesOnceAgain, AcknowledgedSurvives, EndsAsScripted, OwnMarksStandBefore, StaysInOrder, StaysKept};
 
 use dkg_journal::Disk;

@@ -4,11 +4,11 @@
 //! requests for logs, and messages of final blocks' requests.
 ghost use Rattle.std.specs.Prelude.{◌≡◌, IfOk};
 ghost use Rattle.dkg_text.specs.Grammar.{script_or_place};
-ghost use Rattle.dkg_script.specs.Built.{ReadsBuilt, TellsPlace, refusal_of};
+ghost use Rattle.dkg_script.specs.InForm.{ReadsInForm, TellsPlace, refusal_of};
 ghost use Rattle.dkg_script.specs.Inclusion.{IsFormOfInclusion};
 ghost use Rattle.dkg_script.specs.declared.read.ReadError.TheVariants.{NoMemory as OutOfMemory};
 
-use crate::built::is_built;
+use crate::in_form::is_in_form;
 use dkg_ceremony::NoMemory;
 use dkg_text::{Script, ScriptError, read_script};
 use std::alloc::Global;
@@ -54,15 +54,15 @@ impl From<ScriptError> for ReadError {
 /// # Errors
 ///
 /// `Bad` names the first line that no script has after the lines before it, and `Unsupported` is a script of another form.
-pub fn read_built(alloc: Global, bytes: &[u8], addressed: bool) -> Result<Script, ReadError>
+pub fn read_in_form(alloc: Global, bytes: &[u8], addressed: bool) -> Result<Script, ReadError>
     // What is read is what the bytes spell, and what they spell is read or refused by its form, unless memory runs out.
-    ensures reads { ReadsBuilt (script_or_place addressed bytes.now) result }
+    ensures reads { ReadsInForm (script_or_place addressed bytes.now) result }
     // Some script's text begins with the lines before the place that is told, and none's goes on with the line there.
     ensures place { TellsPlace addressed bytes.now result }
     ensures form { IfOk result IsFormOfInclusion }
 {
     let script = read_script(alloc, bytes, addressed)?;
-    if is_built(alloc, &script)? {
+    if is_in_form(alloc, &script)? {
         Ok(script)
     } else {
         Err(ReadError::Unsupported)

@@ -30,7 +30,7 @@ use Rattle.dkg_text.specs.Allowed.{AreHeld, Is32, Is64, IsAddressLine, IsAnchor,
 use Rattle.dkg_text.specs.Fields.{bytes_field, number_field}
 use Rattle.dkg_text.specs.Grammar.{absent_from, address_at, anchor_at, block_at, blocks_at, config_at, cut_at, end_at, event_after, event_at, events_at, held_at, is_eventful, life_at, lives_at, nothing_left, opening_at, players_at, probe_at, processed_from, reading_of, sync_at}
 use Rattle.dkg_text.specs.Laws.{Begins}
-use Rattle.dkg_text.specs.Lines.{Fails, Reading, begins, checked, checked_at, front_of, line_at, many_at, many_from, maybe_at, row_of, some_read, ◌>=>◌}
+use Rattle.dkg_text.specs.Lines.{FailsText, TextReading, begins, checked, checked_at, front_of, line_at, many_at, many_from, maybe_at, row_of, some_read, ◌>=>◌}
 use Rattle.dkg_text.specs.Rows.{Row, bytes_of, field, four, number_below, decimal_of, set_row, two, ◌>>=◌}
 use Rattle.dkg_text.specs.Spells.{FitAfter, IsLine}
 use Rattle.dkg_text.specs.Writing.{address_line, anchor_line, block_line, config_text, cut_line, ended, event_line, held_line, life_text, oneshot_line, players_line, probe_line, sync_line}
@@ -59,11 +59,11 @@ refuses_line name row text left e = refused_at text (front_of text >>= row_of na
 refuses_checked : {A B : Type 0} (name : List ℕ) (row : Row A) (fits : A → Option B) → Refuses (checked_at name row fits)
 refuses_checked {A} {B} name row fits text left e = by_case (line_at name row text) refl e
   where
-    by_case : (r : Reading A) → line_at name row text ≡ r → checked text fits r ≡ Err left → length text ≡ left
+    by_case : (r : TextReading A) → line_at name row text ≡ r → checked text fits r ≡ Err left → length text ≡ left
     by_case (Ok (x, behind)) is e = refused_at text (fits x >>= λ y. Some (y, behind)) left e
     by_case (Err n) is e = (let same : n ≡ left = cc in refuses_line name row text n is ∙ same)
 
-refuses_some : {A : Type 0} (read : List ℕ → Reading A) → Refuses read → Refuses (λ text. some_read (read text))
+refuses_some : {A : Type 0} (read : List ℕ → TextReading A) → Refuses read → Refuses (λ text. some_read (read text))
 refuses_some {A} read law text left e =
     elim (bind_err (read text) (λ x. Ok (Some x.0, x.1)) left e) [
       | inl stopped ↦ law text left stopped
@@ -77,7 +77,7 @@ refuses_if test then_read else_read is_then is_else text left e =
       | inr off ↦ is_else text left (rw off at e)
     ]
 
-refuses_maybe : {A : Type 0} (name : List ℕ) (read : List ℕ → Reading A) → Refuses read → Refuses (maybe_at name read)
+refuses_maybe : {A : Type 0} (name : List ℕ) (read : List ℕ → TextReading A) → Refuses read → Refuses (maybe_at name read)
 refuses_maybe {A} name read law = refuses_if (begins name) (λ t. some_read (read t)) (λ t. Ok (None, t)) (refuses_some read law) (refuses_never {A = Option A} None)
 
 refuses_players : (done : List PlayerLine) → Refuses (players_at done)
@@ -96,10 +96,10 @@ refuses_block : (addressed : Bool) (config : ScriptConfig) (done : List BlockLin
 unfolding block_at
 refuses_block addressed config done = refuses_checked _ _ _
 
-abbrev processed_read : List BlockLine → List ℕ → Reading (Option Anchor)
+abbrev processed_read : List BlockLine → List ℕ → TextReading (Option Anchor)
 processed_read blocks text = some_read (checked_at (codes "processed") (field (number_below (2 ^ 32))) (processed_from blocks) text)
 
-abbrev absent_read : List BlockLine → List ℕ → Reading (Option Anchor)
+abbrev absent_read : List BlockLine → List ℕ → TextReading (Option Anchor)
 absent_read blocks text = if begins (codes "absent") text then some_read (checked_at (codes "absent") (field (number_below (2 ^ 32))) (absent_from blocks) text) else Ok (None, text)
 
 refuses_anchor : (blocks : List BlockLine) → Refuses (anchor_at blocks)
@@ -118,11 +118,11 @@ refuses_sync addressed true blocks = refuses_if _ _ _ refuses_always (refuses_ne
 refuses_sync addressed false blocks = refuses_if _ _ _ (refuses_some _ (refuses_checked _ _ _)) (refuses_never _)
 
 -- a line of start material that isn't one is refused in each mode
-pub sync_refused : (addressed oneshot : Bool) (blocks : ℕ) (text : List ℕ) (stop : Stop) → begins (codes "sync") text ≡ true → Fails stop (line_at (codes "sync") (four bytes_of decimal_of decimal_of (number_below (2 ^ 32))) text)
-    → Fails stop (sync_at addressed oneshot blocks text)
+pub sync_refused : (addressed oneshot : Bool) (blocks : ℕ) (text : List ℕ) (stop : Stop) → begins (codes "sync") text ≡ true → FailsText stop (line_at (codes "sync") (four bytes_of decimal_of decimal_of (number_below (2 ^ 32))) text)
+    → FailsText stop (sync_at addressed oneshot blocks text)
 unfolding sync_at
 sync_refused addressed oneshot blocks text NoMemory on is = tt
-sync_refused addressed true blocks text (Line left) on is = rw on (ap (λ (n : ℕ). let r : Reading (Option SyncLine) = Err n in r) (refuses_line (codes "sync") (four bytes_of decimal_of decimal_of (number_below (2 ^ 32))) text left is))
+sync_refused addressed true blocks text (Line left) on is = rw on (ap (λ (n : ℕ). let r : TextReading (Option SyncLine) = Err n in r) (refuses_line (codes "sync") (four bytes_of decimal_of decimal_of (number_below (2 ^ 32))) text left is))
 sync_refused addressed false blocks text (Line left) on is = rw (on, is) refl
 
 refuses_event : (blocks : ℕ) (probe : Bool) (done : List Event) → Refuses (event_at blocks probe done)
@@ -156,7 +156,7 @@ begun_here P before read law here text left e = record { front = []; rest = text
 begun_done : {A : Type 0} (P : List ℕ → Type 0) (before : List ℕ) (x : A) → Begun {A = A × List ℕ} P before (λ text. Ok (x, text))
 begun_done P before x text left e = absurd cc
 
-begun_then : {A B : Type 0} (P : List ℕ → Type 0) (before : List ℕ) (fits : A → Type 0) (line : A → List ℕ) (one : List ℕ → Reading A) (two : A × List ℕ → Result B ℕ)
+begun_then : {A B : Type 0} (P : List ℕ → Type 0) (before : List ℕ) (fits : A → Type 0) (line : A → List ℕ) (one : List ℕ → TextReading A) (two : A × List ℕ → Result B ℕ)
     → ((text : List ℕ) (x : A) (rest : List ℕ) → one text ≡ Ok (x, rest) → fits x × (text ≡ line x ++ rest)) → Begun P before one
     → ((x : A) → fits x → Begun P (before ++ line x) (λ t. two (x, t))) → Begun P before (λ t. one t >=> two)
 begun_then P before fits line one two found first second text left e =
@@ -186,7 +186,7 @@ fit_more : {A : Type 0} (fits : List A → A → Type 0) (before done : List A) 
 fit_more {A} fits before [] x all one = (subst (λ (d : List A). fits d x) (append-nil before) one, tt)
 fit_more {A} fits before (y ∷ ys) x all one = (all.0, fit_more fits (before ++ y ∷ []) ys x all.1 (subst (λ (d : List A). fits d x) (sym (append_assoc before (y ∷ []) ys)) one))
 
-module _ {A : Type 0} (P : List ℕ → Type 0) (before : List ℕ) (goes_on : List ℕ → Bool) (fits : List A → A → Type 0) (line : A → List ℕ) (read : List A → List ℕ → Reading A) (law : (done : List A) → IsLine (fits done) line (read done))
+module _ {A : Type 0} (P : List ℕ → Type 0) (before : List ℕ) (goes_on : List ℕ → Bool) (fits : List A → A → Type 0) (line : A → List ℕ) (read : List A → List ℕ → TextReading A) (law : (done : List A) → IsLine (fits done) line (read done))
     (each : (done : List A) → FitAfter fits [] done → Begun P (before ++ flat_map line done) (read done)) where
   begun_from : (most : ℕ) (done : List A) → FitAfter fits [] done → Begun P (before ++ flat_map line done) (many_from goes_on read most done)
   unfolding many_from

@@ -17,7 +17,7 @@ use Rattle.dkg_text.specs.Allowed.{AreHeld, AreSomeBytes, Is32, Is64, IsAnchor, 
 use Rattle.dkg_text.specs.PayloadKinds.{is_info}
 use Rattle.dkg_text.specs.Fields.{bytes_field, hex_text, number_field}
 use Rattle.dkg_text.specs.Grammar.{absent_from, anchor_at, are_blocks, block_after, block_at, cut_at, cut_from, held_at, held_from, is_parent, is_payload, limit_of, processed_from, sync_at, sync_from}
-use Rattle.dkg_text.specs.Lines.{Reading, begins, checked_at, line_at, some_read}
+use Rattle.dkg_text.specs.Lines.{TextReading, begins, checked_at, line_at, some_read}
 use Rattle.dkg_text.specs.Rows.{all, bytes_of, dash_or, field, four, number_below, decimal_of, three}
 use Rattle.dkg_text.specs.Spells.{IsLastRow, IsLine}
 use Rattle.dkg_text.specs.Writing.{anchor_line, block_line, bytes_or_dash, cut_line, ended, held_line, number_or_dash, numbers_fields, or_dash, sync_line, text_or_none}
@@ -272,7 +272,7 @@ module _ (addressed : Bool) (blocks : ℕ) where
   sync_named s rest fit =
       line_named (codes "sync") (plain_name (codes "sync") refl) IsSynced sync_text (four bytes_of decimal_of decimal_of (number_below (2 ^ 32))) sync_row (sync_back s) rest (fit.bytes, (fit.epoch, (fit.view, fit.block)))
 
-  abbrev sync_reader : List ℕ → Reading SyncLine
+  abbrev sync_reader : List ℕ → TextReading SyncLine
   sync_reader text = checked_at (codes "sync") (four bytes_of decimal_of decimal_of (number_below (2 ^ 32))) (sync_from addressed blocks) text
 
   pub sync_found : (oneshot : Bool) (text : List ℕ) (o : Option SyncLine) (rest : List ℕ) → sync_at addressed oneshot blocks text ≡ Ok (o, rest) → IfSome o (IsSyncLine addressed oneshot blocks) × (text ≡ text_or_none sync_line o ++ rest)
@@ -280,7 +280,7 @@ module _ (addressed : Bool) (blocks : ℕ) where
   sync_found false text o rest e = maybe_found (codes "sync") (IsSyncLine addressed false blocks) sync_line sync_reader syncs_law text o rest e
   sync_found true text o rest e = by_case (begins (codes "sync") text) e
     where
-      by_case : (b : Bool) → ◌≡◌ {A = Reading (Option SyncLine)} (cond b (Err (length text)) (Ok (None, text))) (Ok (o, rest)) → IfSome o (IsSyncLine addressed true blocks) × (text ≡ text_or_none sync_line o ++ rest)
+      by_case : (b : Bool) → ◌≡◌ {A = TextReading (Option SyncLine)} (cond b (Err (length text)) (Ok (None, text))) (Ok (o, rest)) → IfSome o (IsSyncLine addressed true blocks) × (text ≡ text_or_none sync_line o ++ rest)
       by_case true e = cc e
       by_case false e = read_is (λ (p : Option SyncLine) (r : List ℕ). IfSome p (IsSyncLine addressed true blocks) × (text ≡ text_or_none sync_line p ++ r)) None o text rest e (tt, refl)
 
@@ -343,7 +343,7 @@ module _ (events : ℕ) where
   cut_named : (c : Cut) (rest : List ℕ) → IsCut events c → HasName (codes "cut") (cut_line c ++ rest)
   cut_named c rest fit = line_named (codes "cut") (plain_name (codes "cut") refl) IsCuts cut_text (three decimal_of decimal_of decimal_of) cut_row (cut_back c) rest (fit.step, (fit.call, fit.pick))
 
-  abbrev cut_reader : List ℕ → Reading Cut
+  abbrev cut_reader : List ℕ → TextReading Cut
   cut_reader text = checked_at (codes "cut") (three decimal_of decimal_of decimal_of) (cut_from events) text
 
   pub cut_found : (text : List ℕ) (o : Option Cut) (rest : List ℕ) → cut_at events text ≡ Ok (o, rest) → IfSome o (IsCut events) × (text ≡ text_or_none cut_line o ++ rest)

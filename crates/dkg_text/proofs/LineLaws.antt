@@ -4,7 +4,7 @@ use Rattle.std.specs.Prelude.{IfSome}
 use Rattle.std.specs.List.{flat_map, list_any}
 use Rattle.std.specs.Str.{bytes_eq}
 use Rattle.std.proofs.lemmas.Slice.Eq.{bytes_eq-Decides}
-use Rattle.dkg_text.specs.Lines.{Reading, begins, checked, front_of, line_at, many_at, many_from, maybe_at, row_of, some_read, ◌>=>◌}
+use Rattle.dkg_text.specs.Lines.{TextReading, begins, checked, front_of, line_at, many_at, many_from, maybe_at, row_of, some_read, ◌>=>◌}
 use Rattle.dkg_text.specs.Rows.{Row, whole, ◌>>=◌}
 use Rattle.dkg_text.specs.Spells.{FitAfter, IsFieldText, IsLastRow, IsLine, IsSpeltLast, spaced}
 use Rattle.dkg_text.specs.Writing.{ended, text_or_none}
@@ -13,7 +13,7 @@ use Rattle.dkg_text.proofs.Spelled.{same_text}
 use Rattle.dkg_text.proofs.Split.{front_again, front_found}
 
 -- what two things are, from what was read
-pub read_is : {A : Type 0} (P : A → List ℕ → Type 0) (a c : A) (b d : List ℕ) → ◌≡◌ {A = Reading A} (Ok (a, b)) (Ok (c, d)) → P a b → P c d
+pub read_is : {A : Type 0} (P : A → List ℕ → Type 0) (a c : A) (b d : List ℕ) → ◌≡◌ {A = TextReading A} (Ok (a, b)) (Ok (c, d)) → P a b → P c d
 read_is {A} P a c b d e p = subst (λ (x : A × List ℕ). P x.0 x.1) (ok_is (a, b) (c, d) e) p
 
 pub ended_before : (line rest : List ℕ) → ended line ++ rest ≡ line ++ 10 ∷ rest
@@ -109,12 +109,12 @@ not_begun other names text among none = begins_as among.name other text among.ha
 
 -- A LINE THAT IS CHECKED
 
-module _ {A B : Type 0} (fits : A → Type 0) (line : A → List ℕ) (read : List ℕ → Reading A) (law : IsLine fits line read) (check : A → Option B) (good : B → Type 0) (back : B → A)
+module _ {A B : Type 0} (fits : A → Type 0) (line : A → List ℕ) (read : List ℕ → TextReading A) (law : IsLine fits line read) (check : A → Option B) (good : B → Type 0) (back : B → A)
     (to : (a : A) (b : B) → fits a → check a ≡ Some b → good b × (back b ≡ a)) (from : (b : B) → good b → fits (back b) × (check (back b) ≡ Some b)) where
   checked_found : (text : List ℕ) (b : B) (rest : List ℕ) → checked text check (read text) ≡ Ok (b, rest) → good b × (text ≡ line (back b) ++ rest)
   checked_found text b rest e = by_case (read text) refl e
     where
-      by_case : (r : Reading A) → read text ≡ r → checked text check r ≡ Ok (b, rest) → good b × (text ≡ line (back b) ++ rest)
+      by_case : (r : TextReading A) → read text ≡ r → checked text check r ≡ Ok (b, rest) → good b × (text ≡ line (back b) ++ rest)
       by_case (Ok (a, behind)) is e =
           let c = bind_some (check a) (λ y. Some (y, behind)) (b, rest) (allowed_ok text (check a >>= λ y. Some (y, behind)) (b, rest) e) in
           let f = law.found text a behind is in
@@ -135,7 +135,7 @@ module _ {A B : Type 0} (fits : A → Type 0) (line : A → List ℕ) (read : Li
 
 -- A LINE THAT MAY BE MISSING
 
-module _ {A : Type 0} (name : List ℕ) (fits : A → Type 0) (line : A → List ℕ) (read : List ℕ → Reading A) (law : IsLine fits line read) where
+module _ {A : Type 0} (name : List ℕ) (fits : A → Type 0) (line : A → List ℕ) (read : List ℕ → TextReading A) (law : IsLine fits line read) where
   pub some_found : (text : List ℕ) (o : Option A) (rest : List ℕ) → some_read (read text) ≡ Ok (o, rest) → IfSome o fits × (text ≡ text_or_none line o ++ rest)
   some_found text o rest e =
       let b = bind_ok (read text) (λ x. Ok (Some x.0, x.1)) (o, rest) e in
@@ -145,7 +145,7 @@ module _ {A : Type 0} (name : List ℕ) (fits : A → Type 0) (line : A → List
   pub some_again : (x : A) (rest : List ℕ) → fits x → some_read (read (line x ++ rest)) ≡ Ok (Some x, rest)
   some_again x rest fit = rw (law.again x rest fit) refl
 
-  pub none_found : (text : List ℕ) (o : Option A) (rest : List ℕ) → ◌≡◌ {A = Reading (Option A)} (Ok (None, text)) (Ok (o, rest)) → IfSome o fits × (text ≡ text_or_none line o ++ rest)
+  pub none_found : (text : List ℕ) (o : Option A) (rest : List ℕ) → ◌≡◌ {A = TextReading (Option A)} (Ok (None, text)) (Ok (o, rest)) → IfSome o fits × (text ≡ text_or_none line o ++ rest)
   none_found text o rest e = read_is (λ (p : Option A) (r : List ℕ). IfSome p fits × (text ≡ text_or_none line p ++ r)) None o text rest e (tt, refl)
 
   pub maybe_found : (text : List ℕ) (o : Option A) (rest : List ℕ) → maybe_at name read text ≡ Ok (o, rest) → IfSome o fits × (text ≡ text_or_none line o ++ rest)
@@ -169,14 +169,14 @@ module _ {A : Type 0} (name : List ℕ) (fits : A → Type 0) (line : A → List
 
 -- LINES ONE AFTER ANOTHER
 
-module _ {A : Type 0} (goes_on : List ℕ → Bool) (fits : List A → A → Type 0) (line : A → List ℕ) (read : List A → List ℕ → Reading A) (law : (done : List A) → IsLine (fits done) line (read done)) where
+module _ {A : Type 0} (goes_on : List ℕ → Bool) (fits : List A → A → Type 0) (line : A → List ℕ) (read : List A → List ℕ → TextReading A) (law : (done : List A) → IsLine (fits done) line (read done)) where
   record FoundMany (done : List A) (text : List ℕ) (all : List A) (rest : List ℕ) : Type 0 where
     xs : List A
     all_is : all ≡ done ++ xs
     fit : FitAfter fits done xs
     text_is : text ≡ flat_map line xs ++ rest
 
-  none_more : (done : List A) (text : List ℕ) (all : List A) (rest : List ℕ) → ◌≡◌ {A = Reading (List A)} (Ok (done, text)) (Ok (all, rest)) → FoundMany done text all rest
+  none_more : (done : List A) (text : List ℕ) (all : List A) (rest : List ℕ) → ◌≡◌ {A = TextReading (List A)} (Ok (done, text)) (Ok (all, rest)) → FoundMany done text all rest
   none_more done text all rest e =
       read_is (λ (ys : List A) (r : List ℕ). FoundMany done text ys r) done all text rest e (record { xs = []; all_is = sym (append-nil done); fit = tt; text_is = refl })
 

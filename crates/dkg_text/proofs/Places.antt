@@ -11,7 +11,7 @@ use Rattle.dkg_text.specs.declared.script.Script.{Script}
 use Rattle.dkg_text.specs.declared.script.ScriptConfig.{ScriptConfig}
 use Rattle.dkg_text.specs.Grammar.{address_at, anchor_at, block_at, blocks_at, config_at, cut_at, end_at, event_after, event_at, event_of, events_at, held_at, is_event, is_eventful, life_at, lives_at, nothing_left, opening_at, players_at, probe_at, reading_of, script_of, script_or_place, sync_at, with_place}
 use Rattle.dkg_text.specs.Laws.{Begins, IsAllowed, IsPlaceFound, IsPlace, first_line}
-use Rattle.dkg_text.specs.Lines.{Front, Reading, allowed, begins, checked, checked_at, front_of, line_at, maybe_at, row_of, some_read, ◌>=>◌}
+use Rattle.dkg_text.specs.Lines.{Front, TextReading, allowed, begins, checked, checked_at, front_of, line_at, maybe_at, row_of, some_read, ◌>=>◌}
 use Rattle.dkg_text.specs.Rows.{Row, cut_of, whole, ◌>>=◌}
 use Rattle.dkg_text.specs.Writing.{text_of}
 use Rattle.dkg_text.proofs.Begun.{begun_reading}
@@ -63,10 +63,10 @@ module _ {A B : Type 0} (name : List ℕ) (row : Row A) (fits : A → Option B) 
   pub moves_checked : Moves (checked_at name row fits)
   moves_checked = moves_as (by_front of_checked) (checked_at name row fits) checked_is (moves_front of_checked)
 
-lined_some : {A : Type 0} (read : List ℕ → Reading A) → IsLined read → IsLined (λ t. some_read (read t))
+lined_some : {A : Type 0} (read : List ℕ → TextReading A) → IsLined read → IsLined (λ t. some_read (read t))
 lined_some {A} read law = lined_then read (λ x. Ok (Some x.0, x.1)) law (λ x. lined_done (Some x))
 
-lined_maybe : {A : Type 0} (name : List ℕ) (read : List ℕ → Reading A) → IsLined read → IsLined (maybe_at name read)
+lined_maybe : {A : Type 0} (name : List ℕ) (read : List ℕ → TextReading A) → IsLined read → IsLined (maybe_at name read)
 lined_maybe {A} name read law = lined_if (begins name) (λ t. some_read (read t)) (λ t. Ok (None, t)) (begins_of_front name) (lined_some read law) (lined_done {A = Option A} None)
 
 -- THE CONFIGURATION

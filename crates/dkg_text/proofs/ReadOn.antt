@@ -3,18 +3,18 @@ use Rattle.std.proofs.Common.{◌≡◌, ℕ, zero, suc, ◌<◌, Bool, true, fa
 use Rattle.std.specs.Prelude.{IfSome}
 use Rattle.dkg_text.specs.declared.stop.Stop.{Stop}
 use Rattle.dkg_text.specs.declared.stop.Stop.TheVariants.{Line, NoMemory}
-use Rattle.dkg_text.specs.Lines.{Fails, Reading, ReadsIf, many_from}
+use Rattle.dkg_text.specs.Lines.{FailsText, TextReading, ReadsIf, many_from}
 use Rattle.dkg_text.specs.Rows.{all_of, ◌>>=◌}
 use Rattle.dkg_text.proofs.Guards.{some_is}
 
 -- what is left to read, and so many lines at most
-pub record IsLeft {A : Type 0} (goes_on : List ℕ → Bool) (read : List A → List ℕ → Reading A) (done : List A) (text : List ℕ) (all : Reading (List A)) : Type 0 where
+pub record IsLeft {A : Type 0} (goes_on : List ℕ → Bool) (read : List A → List ℕ → TextReading A) (done : List A) (text : List ℕ) (all : TextReading (List A)) : Type 0 where
   pub most : ℕ
   pub fits : length text < most
   pub spells : many_from goes_on read most done text ≡ all
 
-module _ {A : Type 0} (goes_on : List ℕ → Bool) (read : List A → List ℕ → Reading A) where
-  from_more : (most : ℕ) (done : List A) (text rest : List ℕ) (x : A) (all : Reading (List A)) → goes_on text ≡ true → read done text ≡ Ok (x, rest) → length rest < length text → length text < most
+module _ {A : Type 0} (goes_on : List ℕ → Bool) (read : List A → List ℕ → TextReading A) where
+  from_more : (most : ℕ) (done : List A) (text rest : List ℕ) (x : A) (all : TextReading (List A)) → goes_on text ≡ true → read done text ≡ Ok (x, rest) → length rest < length text → length text < most
       → many_from goes_on read most done text ≡ all → IsLeft goes_on read (done ++ x ∷ []) rest all
   unfolding many_from
   from_more zero done text rest x all on is shorter fits so_far = absurd (omega (arith, fits))
@@ -23,7 +23,7 @@ module _ {A : Type 0} (goes_on : List ℕ → Bool) (read : List A → List ℕ 
       record { most = most; fits = omega (arith, fits, shorter); spells = sym step ∙ so_far }
 
   -- one thing more
-  pub more : (done : List A) (text rest : List ℕ) (x : A) (all : Reading (List A)) → IsLeft goes_on read done text all → goes_on text ≡ true → read done text ≡ Ok (x, rest) → length rest < length text → IsLeft goes_on read (done ++ x ∷ []) rest all
+  pub more : (done : List A) (text rest : List ℕ) (x : A) (all : TextReading (List A)) → IsLeft goes_on read done text all → goes_on text ≡ true → read done text ≡ Ok (x, rest) → length rest < length text → IsLeft goes_on read (done ++ x ∷ []) rest all
   more done text rest x all left on is shorter = from_more left.most done text rest x all on is shorter left.fits left.spells
 
   from_end : (most : ℕ) (done : List A) (text : List ℕ) → goes_on text ≡ false → many_from goes_on read most done text ≡ Ok (done, text)
@@ -32,7 +32,7 @@ module _ {A : Type 0} (goes_on : List ℕ → Bool) (read : List A → List ℕ 
   from_end (suc most) done text over = rw over refl
 
   -- no thing more
-  pub ends : (done : List A) (text : List ℕ) (all : Reading (List A)) → IsLeft goes_on read done text all → goes_on text ≡ false → all ≡ Ok (done, text)
+  pub ends : (done : List A) (text : List ℕ) (all : TextReading (List A)) → IsLeft goes_on read done text all → goes_on text ≡ false → all ≡ Ok (done, text)
   ends done text all left over = sym left.spells ∙ from_end left.most done text over
 
   from_refused : (most : ℕ) (done : List A) (text : List ℕ) (left : ℕ) → goes_on text ≡ true → read done text ≡ Err left → length text < most → many_from goes_on read most done text ≡ Err left
@@ -41,23 +41,23 @@ module _ {A : Type 0} (goes_on : List ℕ → Bool) (read : List A → List ℕ 
   from_refused (suc most) done text left on is fits = rw (on, is) refl
 
   -- a thing was refused
-  pub refused : (done : List A) (text : List ℕ) (all : Reading (List A)) (stop : Stop) → IsLeft goes_on read done text all → goes_on text ≡ true → Fails stop (read done text) → Fails stop all
+  pub refused : (done : List A) (text : List ℕ) (all : TextReading (List A)) (stop : Stop) → IsLeft goes_on read done text all → goes_on text ≡ true → FailsText stop (read done text) → FailsText stop all
   refused done text all (Line n) left on fails = sym left.spells ∙ from_refused left.most done text n on fails left.fits
   refused done text all NoMemory left on fails = tt
 
   -- the same, by what a call answered that reads no more than a text that goes on so
-  pub more_if : (done : List A) (text rest : List ℕ) (o : Option A) (x : A) (all : Reading (List A)) → IsLeft goes_on read done text all → o ≡ Some x → ReadsIf goes_on (read done) text (Ok o) rest
+  pub more_if : (done : List A) (text rest : List ℕ) (o : Option A) (x : A) (all : TextReading (List A)) → IsLeft goes_on read done text all → o ≡ Some x → ReadsIf goes_on (read done) text (Ok o) rest
       → IfSome o (λ _. length rest < length text) → IsLeft goes_on read (done ++ x ∷ []) rest all
   more_if done text rest (Some y) x all left is reads shorter =
       let same : y ≡ x = some_is y x is in
       subst (λ (z : A). IsLeft goes_on read (done ++ z ∷ []) rest all) same (more done text rest y all left reads.0 reads.1 shorter)
   more_if done text rest None x all left is reads shorter = absurd cc
 
-  pub ends_if : (done : List A) (text rest : List ℕ) (o : Option A) (all : Reading (List A)) → IsLeft goes_on read done text all → o ≡ None → ReadsIf goes_on (read done) text (Ok o) rest → all ≡ Ok (done, rest)
+  pub ends_if : (done : List A) (text rest : List ℕ) (o : Option A) (all : TextReading (List A)) → IsLeft goes_on read done text all → o ≡ None → ReadsIf goes_on (read done) text (Ok o) rest → all ≡ Ok (done, rest)
   ends_if done text rest (Some y) all left is reads = absurd cc
-  ends_if done text rest None all left is reads = ends done text all left reads.0 ∙ ap (λ (t : List ℕ). let r : Reading (List A) = Ok (done, t) in r) (sym reads.1)
+  ends_if done text rest None all left is reads = ends done text all left reads.0 ∙ ap (λ (t : List ℕ). let r : TextReading (List A) = Ok (done, t) in r) (sym reads.1)
 
-  pub refused_if : (done : List A) (text rest : List ℕ) (all : Reading (List A)) (stop : Stop) → IsLeft goes_on read done text all → ReadsIf goes_on (read done) text (Err stop) rest → Fails stop all
+  pub refused_if : (done : List A) (text rest : List ℕ) (all : TextReading (List A)) (stop : Stop) → IsLeft goes_on read done text all → ReadsIf goes_on (read done) text (Err stop) rest → FailsText stop all
   refused_if done text rest all stop left reads = refused done text all stop left reads.0 reads.1
 
   -- all is left at the beginning
@@ -65,7 +65,7 @@ module _ {A : Type 0} (goes_on : List ℕ → Bool) (read : List A → List ℕ 
   begin text = record { most = suc (length text); fits = omega arith; spells = refl }
 
 -- nothing was read, so all is left
-pub kept_if : {A : Type 0} (goes_on : List ℕ → Bool) (read : List ℕ → Reading A) (text left : List ℕ) (o : Option A) → o ≡ None → ReadsIf goes_on read text (Ok o) left → left ≡ text
+pub kept_if : {A : Type 0} (goes_on : List ℕ → Bool) (read : List ℕ → TextReading A) (text left : List ℕ) (o : Option A) → o ≡ None → ReadsIf goes_on read text (Ok o) left → left ≡ text
 kept_if goes_on read text left (Some x) is reads = absurd cc
 kept_if goes_on read text left None is reads = reads.1
 

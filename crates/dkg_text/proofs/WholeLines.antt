@@ -4,7 +4,7 @@ use Rattle.std.specs.Prelude.{if◌then◌else◌}
 use Rattle.std.specs.Option.{option_map_or}
 use Rattle.std.specs.Str.{bytes_eq}
 use Rattle.std.proofs.lemmas.Bool.{cases_Bool, eq-eqb}
-use Rattle.dkg_text.specs.Lines.{Reading, allowed, begins, front_of, many_at, many_from, named, ◌>=>◌}
+use Rattle.dkg_text.specs.Lines.{TextReading, allowed, begins, front_of, many_at, many_from, named, ◌>=>◌}
 use Rattle.dkg_text.specs.Rows.{cut_of, fields_in, ◌>>=◌}
 use Rattle.dkg_text.proofs.Guards.{allowed_ok, bind_ok, ok_is, some_is}
 use Rattle.dkg_text.proofs.Split.{cut_found}
@@ -104,7 +104,7 @@ refused_at text (Some x) left e = absurd cc
 -- READINGS
 
 -- A reading went over whole lines, and does so with any text that goes on alike.
-pub record Went {A : Type 0} (read : List ℕ → Reading A) (text : List ℕ) (x : A) (rest : List ℕ) : Type 0 where
+pub record Went {A : Type 0} (read : List ℕ → TextReading A) (text : List ℕ) (x : A) (rest : List ℕ) : Type 0 where
   pub front : List ℕ
   pub ends : Ends front
   pub is : text ≡ front ++ rest
@@ -122,7 +122,7 @@ pub record Stopped {A : Type 0} (read : List ℕ → Result A ℕ) (text : List 
 abbrev pub Stops : {A : Type 0} → (List ℕ → Result A ℕ) → Type 0
 Stops read = (text : List ℕ) (left : ℕ) → read text ≡ Err left → Stopped read text left
 
-pub record IsLined {A : Type 0} (read : List ℕ → Reading A) : Type 0 where
+pub record IsLined {A : Type 0} (read : List ℕ → TextReading A) : Type 0 where
   pub went : (text : List ℕ) (x : A) (rest : List ℕ) → read text ≡ Ok (x, rest) → Went read text x rest
   pub stopped : Stops read
 
@@ -162,17 +162,17 @@ bind_err {A} (Err n) f left e = inl (let same : n ≡ left = cc in ap (λ (m : �
 bind_of : {A B : Type 0} (r : Result A ℕ) (f : A → Result B ℕ) (x : A) (y : Result B ℕ) → r ≡ Ok x → f x ≡ y → (r >=> f) ≡ y
 bind_of {A} r f x y is then_is = ap (λ (q : Result A ℕ). q >=> f) is ∙ then_is
 
-stopped_first : {A B : Type 0} (one : List ℕ → Reading A) (two : A × List ℕ → Result B ℕ) (text : List ℕ) (left : ℕ) → Stopped one text left → Stopped (λ t. one t >=> two) text left
+stopped_first : {A B : Type 0} (one : List ℕ → TextReading A) (two : A × List ℕ → Result B ℕ) (text : List ℕ) (left : ℕ) → Stopped one text left → Stopped (λ t. one t >=> two) text left
 stopped_first {A} {B} one two text left s = record {
   front = s.front;
   rest = s.rest;
   ends = s.ends;
   is = s.is;
   size = s.size;
-  again = λ other a. ap (λ (r : Reading A). r >=> two) (s.again other a);
+  again = λ other a. ap (λ (r : TextReading A). r >=> two) (s.again other a);
 }
 
-stopped_second : {A B : Type 0} (one : List ℕ → Reading A) (two : A × List ℕ → Result B ℕ) (text : List ℕ) (x : A) (rest : List ℕ) (left : ℕ) → Went one text x rest → Stopped (λ t. two (x, t)) rest left → Stopped (λ t. one t >=> two) text left
+stopped_second : {A B : Type 0} (one : List ℕ → TextReading A) (two : A × List ℕ → Result B ℕ) (text : List ℕ) (x : A) (rest : List ℕ) (left : ℕ) → Went one text x rest → Stopped (λ t. two (x, t)) rest left → Stopped (λ t. one t >=> two) text left
 stopped_second {A} {B} one two text x rest left w s = record {
   front = w.front ++ s.front;
   rest = s.rest;
@@ -185,14 +185,14 @@ stopped_second {A} {B} one two text x rest left w s = record {
       ∙ bind_of (one (w.front ++ (s.front ++ other))) two (x, s.front ++ other) (Err (length other)) (w.again (s.front ++ other) on) (s.again other a);
 }
 
-pub stops_then : {A B : Type 0} (one : List ℕ → Reading A) (two : A × List ℕ → Result B ℕ) → IsLined one → ((x : A) → Stops (λ t. two (x, t))) → Stops (λ t. one t >=> two)
+pub stops_then : {A B : Type 0} (one : List ℕ → TextReading A) (two : A × List ℕ → Result B ℕ) → IsLined one → ((x : A) → Stops (λ t. two (x, t))) → Stops (λ t. one t >=> two)
 stops_then one two first second text left e =
     elim (bind_err (one text) two left e) [
       | inl stopped ↦ stopped_first one two text left (first.stopped text left stopped)
       | inr more ↦ stopped_second one two text more.0.0 more.0.1 left (first.went text more.0.0 more.0.1 more.1) (second more.0.0 more.0.1 left more.2)
     ]
 
-went_both : {A B : Type 0} (one : List ℕ → Reading A) (two : A × List ℕ → Reading B) (text : List ℕ) (x : A) (middle : List ℕ) (y : B) (rest : List ℕ) → Went one text x middle → Went (λ t. two (x, t)) middle y rest → Went (λ t. one t >=> two) text y rest
+went_both : {A B : Type 0} (one : List ℕ → TextReading A) (two : A × List ℕ → TextReading B) (text : List ℕ) (x : A) (middle : List ℕ) (y : B) (rest : List ℕ) → Went one text x middle → Went (λ t. two (x, t)) middle y rest → Went (λ t. one t >=> two) text y rest
 went_both {A} {B} one two text x middle y rest w v = record {
   front = w.front ++ v.front;
   ends = ends_both w.front v.front w.ends v.ends;
@@ -203,7 +203,7 @@ went_both {A} {B} one two text x middle y rest w v = record {
       ∙ bind_of (one (w.front ++ (v.front ++ other))) two (x, v.front ++ other) (Ok (y, other)) (w.again (v.front ++ other) on) (v.again other a);
 }
 
-pub lined_then : {A B : Type 0} (one : List ℕ → Reading A) (two : A × List ℕ → Reading B) → IsLined one → ((x : A) → IsLined (λ t. two (x, t))) → IsLined (λ t. one t >=> two)
+pub lined_then : {A B : Type 0} (one : List ℕ → TextReading A) (two : A × List ℕ → TextReading B) → IsLined one → ((x : A) → IsLined (λ t. two (x, t))) → IsLined (λ t. one t >=> two)
 lined_then one two first second = record {
   went = λ text y rest e.
       let more = bind_ok (one text) two (y, rest) e in
@@ -232,7 +232,7 @@ begins_of_front name one other a =
 along : (test : List ℕ → Bool) → IsOfFront test → (text front rest other : List ℕ) → Ends front → text ≡ front ++ rest → Alike rest other → test text ≡ test (front ++ other)
 along test law text front rest other ends is a = ap test is ∙ law (front ++ rest) (front ++ other) (alike_front front rest other ends a)
 
-pub lined_if : {A : Type 0} (test : List ℕ → Bool) (then_read else_read : List ℕ → Reading A) → IsOfFront test → IsLined then_read → IsLined else_read → IsLined (λ t. if test t then then_read t else else_read t)
+pub lined_if : {A : Type 0} (test : List ℕ → Bool) (then_read else_read : List ℕ → TextReading A) → IsOfFront test → IsLined then_read → IsLined else_read → IsLined (λ t. if test t then then_read t else else_read t)
 lined_if {A} test then_read else_read law is_yes is_no = record {
   went = λ text x rest e.
       elim (cases_Bool (test text)) [
@@ -257,7 +257,7 @@ lined_if {A} test then_read else_read law is_yes is_no = record {
 -- A LINE
 
 -- what a line's name and other fields make
-abbrev pub by_front : {A : Type 0} → (List ℕ → List (List ℕ) → Option A) → List ℕ → Reading A
+abbrev pub by_front : {A : Type 0} → (List ℕ → List (List ℕ) → Option A) → List ℕ → TextReading A
 by_front make text = allowed text (front_of text >>= λ line. make line.0 line.1.0 >>= λ x. Some (x, line.1.1))
 
 abbrev tried : {A : Type 0} → (List ℕ → List (List ℕ) → Option A) → List (List ℕ) → List ℕ → Option (A × List ℕ)
@@ -345,7 +345,7 @@ lined_front make = record {
 }
 
 -- a reading that equals another
-pub lined_as : {A : Type 0} (one other : List ℕ → Reading A) → ((text : List ℕ) → one text ≡ other text) → IsLined one → IsLined other
+pub lined_as : {A : Type 0} (one other : List ℕ → TextReading A) → ((text : List ℕ) → one text ≡ other text) → IsLined one → IsLined other
 lined_as one other same law = record {
   went = λ text x rest e. let w = law.went text x rest (same text ∙ e) in record { front = w.front; ends = w.ends; is = w.is; again = λ more a. sym (same (w.front ++ more)) ∙ w.again more a };
   stopped = λ text left e. let s = law.stopped text left (same text ∙ e) in record { front = s.front; rest = s.rest; ends = s.ends; is = s.is; size = s.size; again = λ more a. sym (same (s.front ++ more)) ∙ s.again more a };
@@ -354,7 +354,7 @@ lined_as one other same law = record {
 -- LINES ONE AFTER ANOTHER
 
 -- a reading takes a byte at least
-abbrev pub Moves : {A : Type 0} → (List ℕ → Reading A) → Type 0
+abbrev pub Moves : {A : Type 0} → (List ℕ → TextReading A) → Type 0
 Moves {A} read = (text : List ℕ) (x : A) (rest : List ℕ) → read text ≡ Ok (x, rest) → length rest < length text
 
 -- .. as one of a line does
@@ -367,17 +367,17 @@ cut_moves make text x rest (Some parts) is e =
 pub moves_front : {A : Type 0} (make : List ℕ → List (List ℕ) → Option A) → Moves (by_front make)
 moves_front make text x rest e = cut_moves make text x rest (cut_of 10 text) refl (sym (front_is make text) ∙ e)
 
-pub moves_as : {A : Type 0} (one other : List ℕ → Reading A) → ((text : List ℕ) → one text ≡ other text) → Moves one → Moves other
+pub moves_as : {A : Type 0} (one other : List ℕ → TextReading A) → ((text : List ℕ) → one text ≡ other text) → Moves one → Moves other
 moves_as one other same moves text x rest e = moves text x rest (same text ∙ e)
 
 -- .. and then what goes over whole lines
-pub moves_then : {A B : Type 0} (one : List ℕ → Reading A) (two : A × List ℕ → Reading B) → Moves one → ((x : A) → IsLined (λ t. two (x, t))) → Moves (λ t. one t >=> two)
+pub moves_then : {A B : Type 0} (one : List ℕ → TextReading A) (two : A × List ℕ → TextReading B) → Moves one → ((x : A) → IsLined (λ t. two (x, t))) → Moves (λ t. one t >=> two)
 moves_then one two moves second text y rest e =
     let m = bind_ok (one text) two (y, rest) e in
     let w = (second m.0.0).went m.0.1 y rest m.2 in
     omega (arith, moves text m.0.0 m.0.1 m.1, ap length w.is, length-append w.front rest)
 
-module _ {A : Type 0} (goes_on : List ℕ → Bool) (read : List A → List ℕ → Reading A) (law : IsOfFront goes_on) (lined : (done : List A) → IsLined (read done)) (moves : (done : List A) → Moves (read done)) where
+module _ {A : Type 0} (goes_on : List ℕ → Bool) (read : List A → List ℕ → TextReading A) (law : IsOfFront goes_on) (lined : (done : List A) → IsLined (read done)) (moves : (done : List A) → Moves (read done)) where
   pub record WentMany (done : List A) (text : List ℕ) (xs : List A) (rest : List ℕ) : Type 0 where
     pub front : List ℕ
     pub ends : Ends front
@@ -393,7 +393,7 @@ module _ {A : Type 0} (goes_on : List ℕ → Bool) (read : List A → List ℕ 
     pub again : (other : List ℕ) → Alike rest other → (most : ℕ) → length (front ++ other) < most → many_from goes_on read most done (front ++ other) ≡ Err (length other)
 
   -- one more, and then the others
-  goes_further : (done : List A) (text : List ℕ) (x : A) (behind : List ℕ) (answer : Reading (List A)) (most : ℕ) → length text < most → length behind < length text → goes_on text ≡ true → read done text ≡ Ok (x, behind)
+  goes_further : (done : List A) (text : List ℕ) (x : A) (behind : List ℕ) (answer : TextReading (List A)) (most : ℕ) → length text < most → length behind < length text → goes_on text ≡ true → read done text ≡ Ok (x, behind)
       → ((m : ℕ) → length behind < m → many_from goes_on read m (done ++ x ∷ []) behind ≡ answer) → many_from goes_on read most done text ≡ answer
   unfolding many_from
   goes_further done text x behind answer zero few shorter on is more = absurd (omega arith)

@@ -23,7 +23,7 @@ use Rattle.dkg_text.specs.declared.script.ScriptConfig.{ScriptConfig}
 use Rattle.dkg_text.specs.declared.script.SyncLine.{SyncLine}
 use Rattle.dkg_text.specs.Asked.{is_asked}
 use Rattle.dkg_text.specs.PayloadKinds.{payload_kind, is_info}
-use Rattle.dkg_text.specs.Lines.{Reading, allowed, begins, by_name, checked_at, front_of, line_at, many_at, maybe_at, some_read, Front, ◌>=>◌}
+use Rattle.dkg_text.specs.Lines.{TextReading, allowed, begins, by_name, checked_at, front_of, line_at, many_at, maybe_at, some_read, Front, ◌>=>◌}
 use Rattle.dkg_text.specs.Positive.{positive_32, positive_64}
 use Rattle.dkg_text.specs.Rows.{Row, address_row, all, beside, bytes_of, dash_or, field, four, mode_of, nothing, number_below, decimal_of, set_row, three, two, version_of, whole, ◌>>=◌}
 
@@ -64,16 +64,16 @@ probe_from addressed line =
     then Some (record { checkpoint = line.0; floor = line.1; checkpoint_info = line.2; genesis_info = line.3 })
     else None
 
-unfoldable pub players_at : List PlayerLine → List ℕ → Reading PlayerLine
+unfoldable pub players_at : List PlayerLine → List ℕ → TextReading PlayerLine
 players_at done = checked_at (codes "players") (beside (field decimal_of) set_row) (players_after done)
 
-unfoldable pub address_at : List (ℕ × Address) → List ℕ → Reading (ℕ × Address)
+unfoldable pub address_at : List (ℕ × Address) → List ℕ → TextReading (ℕ × Address)
 address_at done = checked_at (codes "address") (beside (field key_of) address_row) (address_after done)
 
-unfoldable pub probe_at : (addressed : Bool) → List ℕ → Reading ProbeLine
+unfoldable pub probe_at : (addressed : Bool) → List ℕ → TextReading ProbeLine
 probe_at addressed = checked_at (codes "probe") (four decimal_of (dash_or decimal_of) bytes_of bytes_of) (probe_from addressed)
 
-unfoldable pub opening_at : List ℕ → Reading Opening
+unfoldable pub opening_at : List ℕ → TextReading Opening
 opening_at text =
     checked_at (codes "dkg") (field decimal_of) version_one text >=> λ version.
     line_at (codes "me") (field key_of) version.1 >=> λ me.
@@ -83,7 +83,7 @@ opening_at text =
     line_at (codes "space") (field bytes_of) modes.1 >=> λ space.
     Ok (record { me = me.0; blocks_per_epoch = blocks.0; limit = limit.0; modes = modes.0; namespace = space.0 }, space.1)
 
-unfoldable pub config_at : (addressed : Bool) → List ℕ → Reading ScriptConfig
+unfoldable pub config_at : (addressed : Bool) → List ℕ → TextReading ScriptConfig
 config_at addressed text =
     opening_at text >=> λ opening.
     maybe_at (codes "oneshot") (line_at (codes "oneshot") set_row) opening.1 >=> λ oneshot.
@@ -125,10 +125,10 @@ block_after addressed config done line =
     then Some (record { height = line.0; parent = line.1; view = line.2; payload = line.3 })
     else None
 
-unfoldable pub block_at : (addressed : Bool) → ScriptConfig → List BlockLine → List ℕ → Reading BlockLine
+unfoldable pub block_at : (addressed : Bool) → ScriptConfig → List BlockLine → List ℕ → TextReading BlockLine
 block_at addressed config done = checked_at (codes "block") (four decimal_of (dash_or index_of) decimal_of (dash_or bytes_of)) (block_after addressed config done)
 
-unfoldable pub blocks_at : (addressed : Bool) → ScriptConfig → List ℕ → Reading (List BlockLine)
+unfoldable pub blocks_at : (addressed : Bool) → ScriptConfig → List ℕ → TextReading (List BlockLine)
 blocks_at addressed config = many_at (begins (codes "block")) (block_at addressed config)
 
 -- EVENTS
@@ -187,7 +187,7 @@ is_event blocks probe done _ = true
 abbrev pub event_after : (blocks : ℕ) (probe : Bool) (done : List Event) → Front → Option (Event × List ℕ)
 event_after blocks probe done line = event_of line.0 line.1.0 >>= λ event. if is_event blocks probe done event then Some (event, line.1.1) else None
 
-unfoldable pub event_at : (blocks : ℕ) (probe : Bool) (done : List Event) → List ℕ → Reading Event
+unfoldable pub event_at : (blocks : ℕ) (probe : Bool) (done : List Event) → List ℕ → TextReading Event
 event_at blocks probe done text = allowed text (front_of text >>= event_after blocks probe done)
 
 -- LIVES, where the blocks are these
@@ -199,7 +199,7 @@ processed_from blocks n = if nat_lt n (length blocks) then Some (Processed n) el
 abbrev pub absent_from : List BlockLine → ℕ → Option Anchor
 absent_from blocks n = slice_get blocks n >>= λ block. if nat_lt 0 block.height then Some (Absent n) else None
 
-unfoldable pub anchor_at : List BlockLine → List ℕ → Reading (Option Anchor)
+unfoldable pub anchor_at : List BlockLine → List ℕ → TextReading (Option Anchor)
 anchor_at blocks text =
     if begins (codes "processed") text then some_read (checked_at (codes "processed") (field index_of) (processed_from blocks) text)
     else (if begins (codes "absent") text then some_read (checked_at (codes "absent") (field index_of) (absent_from blocks) text) else Ok (None, text))
@@ -209,7 +209,7 @@ abbrev pub held_from : (blocks : ℕ) → List ℕ → Option (List ℕ)
 held_from blocks [] = None
 held_from blocks (n ∷ ns) = if rises (n ∷ ns) && are_blocks blocks (n ∷ ns) then Some (n ∷ ns) else None
 
-unfoldable pub held_at : (blocks : ℕ) → List ℕ → Reading (List ℕ)
+unfoldable pub held_at : (blocks : ℕ) → List ℕ → TextReading (List ℕ)
 held_at blocks text = if begins (codes "held") text then checked_at (codes "held") (all index_of) (held_from blocks) text else Ok ([], text)
 
 abbrev pub sync_from : (addressed : Bool) (blocks : ℕ) → List ℕ × ℕ × ℕ × ℕ → Option SyncLine
@@ -219,7 +219,7 @@ sync_from addressed blocks line =
     else None
 
 -- the material of a state sync, which is there in reshare mode alone
-unfoldable pub sync_at : (addressed oneshot : Bool) (blocks : ℕ) → List ℕ → Reading (Option SyncLine)
+unfoldable pub sync_at : (addressed oneshot : Bool) (blocks : ℕ) → List ℕ → TextReading (Option SyncLine)
 sync_at addressed oneshot blocks text =
     if begins (codes "sync") text
     then (if oneshot then Err (length text) else some_read (checked_at (codes "sync") (four bytes_of decimal_of decimal_of index_of) (sync_from addressed blocks) text))
@@ -229,17 +229,17 @@ sync_at addressed oneshot blocks text =
 unfoldable pub is_eventful : List ℕ → Bool
 is_eventful text = not (begins (codes "cut") text) && not (begins (codes "stop") text)
 
-unfoldable pub events_at : (blocks : ℕ) (probe : Bool) → List ℕ → Reading (List Event)
+unfoldable pub events_at : (blocks : ℕ) (probe : Bool) → List ℕ → TextReading (List Event)
 events_at blocks probe = many_at is_eventful (event_at blocks probe)
 
 -- a cut within the opening or one of so many events
 abbrev pub cut_from : (events : ℕ) → ℕ × ℕ × ℕ → Option Cut
 cut_from events line = if nat_lt events line.0 then None else Some (record { step = line.0; call = line.1; pick = line.2 })
 
-unfoldable pub cut_at : (events : ℕ) → List ℕ → Reading (Option Cut)
+unfoldable pub cut_at : (events : ℕ) → List ℕ → TextReading (Option Cut)
 cut_at events = maybe_at (codes "cut") (checked_at (codes "cut") (three decimal_of decimal_of decimal_of) (cut_from events))
 
-unfoldable pub life_at : (addressed : Bool) → ScriptConfig → List BlockLine → List ℕ → Reading Life
+unfoldable pub life_at : (addressed : Bool) → ScriptConfig → List BlockLine → List ℕ → TextReading Life
 life_at addressed config blocks text =
     line_at (codes "life") (field decimal_of) text >=> λ word.
     anchor_at blocks word.1 >=> λ anchor.
@@ -250,7 +250,7 @@ life_at addressed config blocks text =
     line_at (codes "stop") (field decimal_of) cut.1 >=> λ pick.
     Ok (record { word = word.0; anchor = anchor.0; held = held.0; sync = sync.0; events = events.0; cut = cut.0; pick = pick.0 }, pick.1)
 
-unfoldable pub lives_at : (addressed : Bool) → ScriptConfig → List BlockLine → List ℕ → Reading (List Life)
+unfoldable pub lives_at : (addressed : Bool) → ScriptConfig → List BlockLine → List ℕ → TextReading (List Life)
 lives_at addressed config blocks = many_at (begins (codes "life")) (λ _. life_at addressed config blocks)
 
 -- THE SCRIPT

@@ -4,7 +4,7 @@ pub mod PayloadKinds
 pub mod FaultLines
 pub mod Fields
 pub mod Grammar
-pub mod Held
+pub mod OwnOrLent
 pub mod Kept
 pub mod Laws
 pub mod Lines

@@ -7,8 +7,8 @@ use Rattle.dkg_text.specs.declared.stop.Stop.TheVariants.{Line, NoMemory}
 use Rattle.dkg_text.specs.Rows.{Row, cut_of, fields_in, whole, ◌>>=◌}
 
 -- what the front of a text spells, and the text behind it; or how long the text is from the line on that is not allowed
-abbrev pub Reading : Type 0 → Type 0
-Reading A = Result (A × List ℕ) ℕ
+abbrev pub TextReading : Type 0 → Type 0
+TextReading A = Result (A × List ℕ) ℕ
 
 infixl 10 ◌>=>◌
 abbrev pub ◌>=>◌ : {A B : Type 0} → Result A ℕ → (A → Result B ℕ) → Result B ℕ
@@ -16,30 +16,30 @@ abbrev pub ◌>=>◌ : {A B : Type 0} → Result A ℕ → (A → Result B ℕ) 
 (Err left) >=> f = Err left
 
 -- what a call answered is what the text spells; want of memory tells nothing
-abbrev pub Fails : {A : Type 0} → Stop → Result A ℕ → Type 0
-Fails (Line left) reading = reading ≡ Err left
-Fails NoMemory reading = Unit {0}
+abbrev pub FailsText : {A : Type 0} → Stop → Result A ℕ → Type 0
+FailsText (Line left) reading = reading ≡ Err left
+FailsText NoMemory reading = Unit {0}
 
 -- what a call answered and left
-abbrev pub Reads : {A : Type 0} → Reading A → Result A Stop → List ℕ → Type 0
-Reads reading (Ok x) left = reading ≡ Ok (x, left)
-Reads reading (Err stop) left = Fails stop reading
+abbrev pub ReadsText : {A : Type 0} → TextReading A → Result A Stop → List ℕ → Type 0
+ReadsText reading (Ok x) left = reading ≡ Ok (x, left)
+ReadsText reading (Err stop) left = FailsText stop reading
 
 -- the same where nothing is left
 abbrev pub ReadsAll : {A : Type 0} → Result A ℕ → Result A Stop → Type 0
 ReadsAll reading (Ok x) = reading ≡ Ok x
-ReadsAll reading (Err stop) = Fails stop reading
+ReadsAll reading (Err stop) = FailsText stop reading
 
 -- what a call answered and left that reads on where the text goes on so, and else reads nothing
-abbrev pub ReadsIf : {A : Type 0} → (goes_on : List ℕ → Bool) → (read : List ℕ → Reading A) → (text : List ℕ) → Result (Option A) Stop → (left : List ℕ) → Type 0
+abbrev pub ReadsIf : {A : Type 0} → (goes_on : List ℕ → Bool) → (read : List ℕ → TextReading A) → (text : List ℕ) → Result (Option A) Stop → (left : List ℕ) → Type 0
 ReadsIf goes_on read text (Ok (Some x)) left = (goes_on text ≡ true) × (read text ≡ Ok (x, left))
 ReadsIf goes_on read text (Ok None) left = (goes_on text ≡ false) × (left ≡ text)
-ReadsIf goes_on read text (Err stop) left = (goes_on text ≡ true) × Fails stop (read text)
+ReadsIf goes_on read text (Err stop) left = (goes_on text ≡ true) × FailsText stop (read text)
 
 -- the same, for what a call answered seen by view
-abbrev pub ReadsBy : {X A : Type 0} → (X → A) → Reading A → Result X Stop → List ℕ → Type 0
-ReadsBy view reading (Ok x) left = reading ≡ Ok (view x, left)
-ReadsBy view reading (Err stop) left = Fails stop reading
+abbrev pub ReadsTextBy : {X A : Type 0} → (X → A) → TextReading A → Result X Stop → List ℕ → Type 0
+ReadsTextBy view reading (Ok x) left = reading ≡ Ok (view x, left)
+ReadsTextBy view reading (Err stop) left = FailsText stop reading
 
 -- LINES
 
@@ -73,29 +73,29 @@ by_name [] name fields = None
 by_name (row ∷ rows) name fields = if bytes_eq name row.0 then row.1 fields else by_name rows name fields
 
 -- a line of this name and these fields
-unfoldable pub line_at : {A : Type 0} → (name : List ℕ) → Row A → List ℕ → Reading A
+unfoldable pub line_at : {A : Type 0} → (name : List ℕ) → Row A → List ℕ → TextReading A
 line_at name row text = allowed text (front_of text >>= row_of name row)
 
 -- what was read makes something, or its line is not allowed
-abbrev pub checked : {A B : Type 0} → List ℕ → (A → Option B) → Reading A → Reading B
+abbrev pub checked : {A B : Type 0} → List ℕ → (A → Option B) → TextReading A → TextReading B
 checked text fits (Ok (x, behind)) = allowed text (fits x >>= λ y. Some (y, behind))
 checked text fits (Err left) = Err left
 
-abbrev pub checked_at : {A B : Type 0} → (name : List ℕ) → Row A → (A → Option B) → List ℕ → Reading B
+abbrev pub checked_at : {A B : Type 0} → (name : List ℕ) → Row A → (A → Option B) → List ℕ → TextReading B
 checked_at name row fits text = checked text fits (line_at name row text)
 
-abbrev pub some_read : {A : Type 0} → Reading A → Reading (Option A)
+abbrev pub some_read : {A : Type 0} → TextReading A → TextReading (Option A)
 some_read reading = reading >=> λ x. Ok (Some x.0, x.1)
 
 -- a line that may be missing
-abbrev pub maybe_at : {A : Type 0} → (name : List ℕ) → (List ℕ → Reading A) → List ℕ → Reading (Option A)
+abbrev pub maybe_at : {A : Type 0} → (name : List ℕ) → (List ℕ → TextReading A) → List ℕ → TextReading (Option A)
 maybe_at name read text = if begins name text then some_read (read text) else Ok (None, text)
 
 -- things after those that are done, so long as the text goes on with them, so many at most (a text has no more lines than bytes)
-unfoldable pub many_from : {A : Type 0} → (goes_on : List ℕ → Bool) → (read : List A → List ℕ → Reading A) → (most : ℕ) → (done : List A) → List ℕ → Reading (List A)
+unfoldable pub many_from : {A : Type 0} → (goes_on : List ℕ → Bool) → (read : List A → List ℕ → TextReading A) → (most : ℕ) → (done : List A) → List ℕ → TextReading (List A)
 many_from goes_on read zero done text = Ok (done, text)
 many_from goes_on read (suc most) done text =
     if goes_on text then (read done text >=> λ x. many_from goes_on read most (done ++ x.0 ∷ []) x.1) else Ok (done, text)
 
-abbrev pub many_at : {A : Type 0} → (goes_on : List ℕ → Bool) → (read : List A → List ℕ → Reading A) → List ℕ → Reading (List A)
+abbrev pub many_at : {A : Type 0} → (goes_on : List ℕ → Bool) → (read : List A → List ℕ → TextReading A) → List ℕ → TextReading (List A)
 many_at goes_on read text = many_from goes_on read (suc (length text)) [] text

@@ -2,7 +2,7 @@
 use Rattle.std.specs.Prelude.{◌≡◌, ℕ, List, [], ◌∷◌, ◌++◌, Option, Some, Ok}
 use Rattle.std.specs.List.{flat_map, AllByRecursion}
 use Rattle.dkg_text.specs.Fields.{word_field}
-use Rattle.dkg_text.specs.Lines.{Reading}
+use Rattle.dkg_text.specs.Lines.{TextReading}
 use Rattle.dkg_text.specs.Rows.{Row}
 
 -- neither a space nor a line feed
@@ -49,7 +49,7 @@ pub record IsLastRow {A : Type 0} (fits : A → Type 0) (text : A → List ℕ) 
   pub again : (x : A) → fits x → IsSpeltLast row (text x) x
 
 -- Lines of a value in front of a text.
-pub record IsLine {A : Type 0} (fits : A → Type 0) (line : A → List ℕ) (read : List ℕ → Reading A) : Type 0 where
+pub record IsLine {A : Type 0} (fits : A → Type 0) (line : A → List ℕ) (read : List ℕ → TextReading A) : Type 0 where
   pub found : (text : List ℕ) (x : A) (rest : List ℕ) → read text ≡ Ok (x, rest) → fits x × (text ≡ line x ++ rest)
   pub again : (x : A) (rest : List ℕ) → fits x → read (line x ++ rest) ≡ Ok (x, rest)
 

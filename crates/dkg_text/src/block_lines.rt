@@ -2,7 +2,7 @@
 ghost use Rattle.std.specs.Prelude.{◌≡◌, ◌<◌, IfOk, IfSome, codes, length};
 ghost use Rattle.std.specs.Int.NonZero.{non_zero_u32_get};
 ghost use Rattle.dkg_text.specs.Grammar.{block_at, blocks_at, is_parent as is_parent_of, is_payload as is_payload_of, limit_of};
-ghost use Rattle.dkg_text.specs.Lines.{Reads, ReadsIf, begins};
+ghost use Rattle.dkg_text.specs.Lines.{ReadsText, ReadsIf, begins};
 
 use crate::lines::Lines;
 use crate::payload::carried_by;
@@ -87,7 +87,7 @@ pub(crate) fn read_blocks(
     config: &ScriptConfig,
     lines: &mut Lines<'_>,
 ) -> Result<BlockLines, Stop>
-    ensures { Reads (blocks_at addressed config.now lines.old.rest.now) result lines.new.rest.now }
+    ensures { ReadsText (blocks_at addressed config.now lines.old.rest.now) result lines.new.rest.now }
 {
     let mut blocks = Vec::new(alloc);
     'more: while let Some(block) = read_block_after(alloc, addressed, config, &blocks, lines)? {

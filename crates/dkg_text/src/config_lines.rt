@@ -3,7 +3,7 @@ ghost use Rattle.std.specs.Prelude.{◌≡◌, ◌+◌, ◌<◌, ◌^◌, IfOk, 
 ghost use Rattle.std.specs.List.Sorted.{IsStrictlyIncreasing};
 ghost use Rattle.dkg_values.specs.Rising.{keys_of};
 ghost use Rattle.dkg_text.specs.Grammar.{address_at, config_at, is_above, limit_from, opening_at, players_at, probe_at};
-ghost use Rattle.dkg_text.specs.Lines.{Reads, ReadsBy, ReadsIf, begins, line_at, many_at, maybe_at};
+ghost use Rattle.dkg_text.specs.Lines.{ReadsText, ReadsTextBy, ReadsIf, begins, line_at, many_at, maybe_at};
 ghost use Rattle.dkg_text.specs.Positive.{positive_32, positive_64};
 ghost use Rattle.dkg_text.specs.Rows.{set_row};
 
@@ -52,7 +52,7 @@ struct Opening {
 /// `dkg 1`, `me K`, `blocks N`, `limit M`, `mode A B` and `space HEX`.
 #[tactic(auto, unfolding(crate::specs::Grammar::opening_at))]
 fn read_opening(alloc: Global, lines: &mut Lines<'_>) -> Result<Opening, Stop>
-    ensures { Reads (opening_at lines.old.rest.now) result lines.new.rest.now }
+    ensures { ReadsText (opening_at lines.old.rest.now) result lines.new.rest.now }
 {
     let version: u64 = lines.take(alloc, b"dkg")?;
     if version != 1 {
@@ -80,7 +80,7 @@ fn read_opening(alloc: Global, lines: &mut Lines<'_>) -> Result<Opening, Stop>
 
 /// `oneshot K ..`: the participants of one-shot mode, keys rising, where there is a line of them.
 fn read_oneshot(alloc: Global, lines: &mut Lines<'_>) -> Result<Option<Set>, Stop>
-    ensures { Reads (maybe_at (codes "oneshot") (line_at (codes "oneshot") set_row) lines.old.rest.now) result lines.new.rest.now }
+    ensures { ReadsText (maybe_at (codes "oneshot") (line_at (codes "oneshot") set_row) lines.old.rest.now) result lines.new.rest.now }
 {
     lines.take_if(alloc, b"oneshot")
 }
@@ -117,7 +117,7 @@ fn read_players_after(
 
 /// The provider's players, epochs rising.
 fn read_players(alloc: Global, lines: &mut Lines<'_>) -> Result<PlayerLines, Stop>
-    ensures { Reads (many_at (begins (codes "players")) players_at lines.old.rest.now) result lines.new.rest.now }
+    ensures { ReadsText (many_at (begins (codes "players")) players_at lines.old.rest.now) result lines.new.rest.now }
 {
     let mut players = Vec::new(alloc);
     'players: while let Some(line) = read_players_after(alloc, &players, lines)? {
@@ -159,7 +159,7 @@ fn read_address_after(
 }
 
 fn read_address_pairs(alloc: Global, lines: &mut Lines<'_>) -> Result<Vec<(Key, Address)>, Stop>
-    ensures reads { ReadsBy (λ pairs. pairs.items) (many_at (begins (codes "address")) address_at lines.old.rest.now) result lines.new.rest.now }
+    ensures reads { ReadsTextBy (λ pairs. pairs.items) (many_at (begins (codes "address")) address_at lines.old.rest.now) result lines.new.rest.now }
     ensures rising { IfOk result (λ pairs. IsStrictlyIncreasing (keys_of pairs.items)) }
     ensures in_bound { IfOk result (λ pairs. length pairs.items < 2 ^ 32) }
 {
@@ -172,7 +172,7 @@ fn read_address_pairs(alloc: Global, lines: &mut Lines<'_>) -> Result<Vec<(Key, 
 
 /// The provider's addresses, keys rising.
 fn read_addresses(alloc: Global, lines: &mut Lines<'_>) -> Result<Map<Address>, Stop>
-    ensures { Reads (many_at (begins (codes "address")) address_at lines.old.rest.now) result lines.new.rest.now }
+    ensures { ReadsText (many_at (begins (codes "address")) address_at lines.old.rest.now) result lines.new.rest.now }
 {
     let pairs = read_address_pairs(alloc, lines)?;
     Ok(Map::from_sorted(pairs).unwrap())
@@ -185,7 +185,7 @@ fn read_probe(
     addressed: bool,
     lines: &mut Lines<'_>,
 ) -> Result<Option<ProbeLine>, Stop>
-    ensures { Reads (maybe_at (codes "probe") (probe_at addressed) lines.old.rest.now) result lines.new.rest.now }
+    ensures { ReadsText (maybe_at (codes "probe") (probe_at addressed) lines.old.rest.now) result lines.new.rest.now }
 {
     let Some((checkpoint, floor, checkpoint_info, genesis_info)): Option<
         (Epoch, Option<Epoch>, Blob, Blob),
@@ -214,7 +214,7 @@ pub(crate) fn read_config(
     addressed: bool,
     lines: &mut Lines<'_>,
 ) -> Result<ScriptConfig, Stop>
-    ensures { Reads (config_at addressed lines.old.rest.now) result lines.new.rest.now }
+    ensures { ReadsText (config_at addressed lines.old.rest.now) result lines.new.rest.now }
 {
     let opening = read_opening(alloc, lines)?;
     let oneshot = read_oneshot(alloc, lines)?;

@@ -4,7 +4,7 @@ ghost use Rattle.std.specs.Str.{bytes_eq};
 ghost use Rattle.dkg_text.specs.declared.script.Event.{Event as AnEvent};
 ghost use Rattle.dkg_text.specs.Asked.{AreAsked, asks, has_number};
 ghost use Rattle.dkg_text.specs.Grammar.{are_blocks as are_blocks_of, event_at, event_of as event_by_name, events_at, is_event as is_event_of, is_eventful};
-ghost use Rattle.dkg_text.specs.Lines.{Reads, ReadsIf};
+ghost use Rattle.dkg_text.specs.Lines.{ReadsText, ReadsIf};
 
 use crate::asked::Asked;
 use crate::events::Events;
@@ -146,7 +146,7 @@ pub(crate) fn read_events(
     around: Around,
     lines: &mut Lines<'_>,
 ) -> Result<Events, Stop>
-    ensures reads { Reads (events_at around.blocks around.probe lines.old.rest.now) result lines.new.rest.now }
+    ensures reads { ReadsText (events_at around.blocks around.probe lines.old.rest.now) result lines.new.rest.now }
     ensures on { OnOk result (length lines.new.rest.now ≤ length lines.old.rest.now) }
 {
     let mut events = Events::new(alloc);

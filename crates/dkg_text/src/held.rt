@@ -22,7 +22,7 @@ pub struct MessageBytes<'a> {
 
 impl<'a> Model for MessageBytes<'a> {
     ghost use Rattle.std.specs.Prelude.{List, ℕ};
-    ghost use Rattle.dkg_text.specs.Held.{items_held};
+    ghost use Rattle.dkg_text.specs.OwnOrLent.{items_held};
 
     ghost Value = { List ℕ };
 
@@ -65,7 +65,7 @@ pub struct Ancestry<'a> {
 
 impl<'a> Model for Ancestry<'a> {
     ghost use Rattle.std.specs.Prelude.{List, ℕ};
-    ghost use Rattle.dkg_text.specs.Held.{items_held};
+    ghost use Rattle.dkg_text.specs.OwnOrLent.{items_held};
 
     ghost Value = { List ℕ };
 

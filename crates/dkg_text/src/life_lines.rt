@@ -3,7 +3,7 @@ ghost use Rattle.std.specs.Prelude.{◌≡◌, ◌<◌, ◌≤◌, ◌↔◌, Is
 ghost use Rattle.std.specs.List.Sorted.{IsStrictlyIncreasing};
 ghost use Rattle.dkg_values.specs.Rising.{rises};
 ghost use Rattle.dkg_text.specs.Grammar.{absent_from, anchor_at, cut_at, cut_from, held_at, held_from, life_at, lives_at, processed_from, sync_at};
-ghost use Rattle.dkg_text.specs.Lines.{Reads};
+ghost use Rattle.dkg_text.specs.Lines.{ReadsText};
 
 use crate::event_lines::{Around, are_blocks, read_events};
 use crate::lines::Lines;
@@ -48,7 +48,7 @@ fn read_anchor(
     blocks: &[BlockLine],
     lines: &mut Lines<'_>,
 ) -> Result<Option<Anchor>, Stop>
-    ensures reads { Reads (anchor_at blocks.now lines.old.rest.now) result lines.new.rest.now }
+    ensures reads { ReadsText (anchor_at blocks.now lines.old.rest.now) result lines.new.rest.now }
     ensures on { OnOk result (length lines.new.rest.now ≤ length lines.old.rest.now) }
 {
     let anchor = if let Some(number) = lines.take_if(alloc, b"processed")? {
@@ -98,7 +98,7 @@ fn held(blocks: usize, numbers: Indexes) -> Option<Indexes>
 /// `held I ..`: the blocks that a life holds, where there is a line of them.
 #[tactic(auto, unfolding(crate::specs::Grammar::held_at))]
 fn read_held(alloc: Global, blocks: usize, lines: &mut Lines<'_>) -> Result<Indexes, Stop>
-    ensures reads { Reads (held_at blocks lines.old.rest.now) result lines.new.rest.now }
+    ensures reads { ReadsText (held_at blocks lines.old.rest.now) result lines.new.rest.now }
     ensures on { OnOk result (length lines.new.rest.now ≤ length lines.old.rest.now) }
 {
     let Some(numbers) = lines.take_if(alloc, b"held")? else {
@@ -117,7 +117,8 @@ fn read_sync(
     known: &Known<'_>,
     lines: &mut Lines<'_>,
 ) -> Result<Option<SyncLine>, Stop>
-    ensures reads { Reads (sync_at known.now.addressed (is_some known.now.config.now.oneshot) (length known.now.blocks.now) lines.old.rest.now) result lines.new.rest.now }
+    ensures reads { ReadsText
+        (sync_at known.now.addressed (is_some known.now.config.now.oneshot) (length known.now.blocks.now) lines.old.rest.now) result lines.new.rest.now }
     ensures on { OnOk result (length lines.new.rest.now ≤ length lines.old.rest.now) }
 {
     let Some((info, epoch, view, block)): Option<(Blob, Epoch, u64, u32)> = lines.take_if(
@@ -156,7 +157,7 @@ fn cut(events: usize, line: (u64, u64, u64)) -> Option<Cut>
 /// `cut J C P`: where a life is cut, where there is a line of it.
 #[tactic(auto, unfolding(crate::specs::Grammar::cut_at))]
 fn read_cut(alloc: Global, events: usize, lines: &mut Lines<'_>) -> Result<Option<Cut>, Stop>
-    ensures reads { Reads (cut_at events lines.old.rest.now) result lines.new.rest.now }
+    ensures reads { ReadsText (cut_at events lines.old.rest.now) result lines.new.rest.now }
     ensures on { OnOk result (length lines.new.rest.now ≤ length lines.old.rest.now) }
 {
     let Some(line) = lines.take_if(alloc, b"cut")? else {
@@ -171,7 +172,7 @@ fn read_cut(alloc: Global, events: usize, lines: &mut Lines<'_>) -> Result<Optio
 /// The lines from `life W` to `stop P`.
 #[tactic(auto, unfolding(crate::specs::Grammar::life_at))]
 fn read_life(alloc: Global, known: &Known<'_>, lines: &mut Lines<'_>) -> Result<Life, Stop>
-    ensures reads { Reads (life_at known.now.addressed known.now.config.now known.now.blocks.now lines.old.rest.now) result lines.new.rest.now }
+    ensures reads { ReadsText (life_at known.now.addressed known.now.config.now known.now.blocks.now lines.old.rest.now) result lines.new.rest.now }
     ensures on { OnOk result (length lines.new.rest.now < length lines.old.rest.now) }
 {
     let word = lines.take(alloc, b"life")?;
@@ -203,7 +204,7 @@ pub(crate) fn read_lives(
     known: &Known<'_>,
     lines: &mut Lines<'_>,
 ) -> Result<Lives, Stop>
-    ensures { Reads (lives_at known.now.addressed known.now.config.now known.now.blocks.now lines.old.rest.now) result lines.new.rest.now }
+    ensures { ReadsText (lives_at known.now.addressed known.now.config.now known.now.blocks.now lines.old.rest.now) result lines.new.rest.now }
 {
     let mut lives = Vec::new(alloc);
     'lives: while lines.is_at(b"life") {

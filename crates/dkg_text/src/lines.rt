@@ -3,7 +3,7 @@
 //! The readers of a script look at the line in front, take it where it is one of theirs, and refuse it where what it spells is not
 //! allowed there.
 ghost use Rattle.std.specs.Prelude.{◌≡◌, ◌<◌, IfSome, IfOk, MatchOption, None, OnOk, Some, length};
-ghost use Rattle.dkg_text.specs.Lines.{Reads, ReadsIf, begins, front_of, line_at, named, row_of};
+ghost use Rattle.dkg_text.specs.Lines.{ReadsText, ReadsIf, begins, front_of, line_at, named, row_of};
 ghost use Rattle.dkg_text.specs.Rows.{whole as whole_of};
 
 use crate::fields::{Fields, Row, cut, whole};
@@ -123,7 +123,7 @@ impl<'a> Lines<'a> {
     /// Reads a line of this name.
     #[tactic(auto, unfolding(crate::specs::Lines::line_at, crate::specs::Lines::begins))]
     pub(crate) fn take<T: Row + Drop>(&mut self, alloc: Global, name: &[u8]) -> Result<T, Stop>
-        ensures reads { Reads (line_at name.now T.spells self.old.rest.now) result self.new.rest.now }
+        ensures reads { ReadsText (line_at name.now T.spells self.old.rest.now) result self.new.rest.now }
         ensures taken { OnOk result (self.new.taken.now ≡ self.old.rest.now) }
         ensures on { OnOk result (length self.new.rest.now < length self.old.rest.now) }
     {

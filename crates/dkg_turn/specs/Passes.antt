@@ -92,7 +92,7 @@ module _ {T C R : Type 0} where
       pub fresh : ¬ (has v.numbers p.number ≡ true)
 
     -- the turn came, and the value there has this answer for the number
-    pub record Reads (told : T → ℕ → Option R) (same : R → R → Type 0) (number : ℕ) (reply : R) (v w : Known T C R) : Type 0 where
+    pub record LooksAt (told : T → ℕ → Option R) (same : R → R → Type 0) (number : ℕ) (reply : R) (v w : Known T C R) : Type 0 where
       pub ticket : ℕ
       pub log : List (HistoryEntry C R)
       pub value : T

@@ -2,7 +2,7 @@
 ghost use Rattle.std.specs.Prelude.{◌≡◌, ◌-◌, ◌^◌, ◌≤◌, [], true, IfOk, IfErr, IsErr};
 ghost use Rattle.dkg_turn.specs.History.{calls_of, HasSeen};
 ghost use Rattle.dkg_turn.specs.Known.{AreDrawn};
-ghost use Rattle.dkg_turn.specs.Passes.{IsPassOf, Called, Reads, SplitOff, Ends, IsExhausted, joined};
+ghost use Rattle.dkg_turn.specs.Passes.{IsPassOf, Called, LooksAt, SplitOff, Ends, IsExhausted, joined};
 ghost use Rattle.dkg_turn.specs.Refusals.{CallRefused, TakeRefused, SplitRefused};
 ghost use Rattle.dkg_turn.specs.Rules.{known_of, first_view};
 
@@ -110,7 +110,7 @@ impl<T: Turn> Pass<T> {
     ) -> Result<T::Reply, TurnError>
         requires own { IsPassOf lock.now self.old }
         ensures own { IsPassOf lock.now self.new }
-        ensures read { IfOk result (λ reply. Reads T.turns lock.now.start T.told T.same number reply self.old self.new) }
+        ensures read { IfOk result (λ reply. LooksAt T.turns lock.now.start T.told T.same number reply self.old self.new) }
         ensures refused { IfErr result (λ e. TakeRefused T.turns lock.now.start T.told number e self.old self.new) }
         ensures stays { self.old.exhausted ≡ true → result ≡ Err TurnError.Exhausted }
     {

@@ -37,10 +37,10 @@ addresses_of addresses [] = []
 addresses_of addresses (peer ∷ peers) = in_front (lookup peer addresses) peer (addresses_of addresses peers)
 
 -- the answer of a call that must name the first peer that is lacking, unless memory ran out
-abbrev pub Names : {A : Type 0} → Option ℕ → Result A TrackError → Type 0
-Names lack (Ok answer) = lack ≡ None
-Names lack (Err (Missing peer)) = lack ≡ Some peer.0
-Names lack (Err NoMemory) = Unit {0}
+abbrev pub AnswersTracking : {A : Type 0} → Option ℕ → Result A TrackError → Type 0
+AnswersTracking lack (Ok answer) = lack ≡ None
+AnswersTracking lack (Err (Missing peer)) = lack ≡ Some peer.0
+AnswersTracking lack (Err NoMemory) = Unit {0}
 
 -- the addresses of just these peers
 pub record IsOf (addresses : Pairs) (peers : List ℕ) (pairs : Pairs) : Type 0 where

@@ -3,7 +3,7 @@
 //! The orchestrator and the probe hand a manager the peers of an epoch and the directory of its info. A manager of peers
 //! that is reached by keys stands behind a `KeyOnlyManager`, one that dials behind an `AddressableManager`.
 ghost use Rattle.std.specs.Prelude.{◌≡◌, ℕ, [], ◌∷◌, ◌++◌, None, OnOk, OnErr, IfOk, IsTrue};
-ghost use Rattle.dkg_types.specs.Tracking.{IsOf, Names, addresses_of as addresses_from, first_lacking, first_without, with_set};
+ghost use Rattle.dkg_types.specs.Tracking.{IsOf, AnswersTracking, addresses_of as addresses_from, first_lacking, first_without, with_set};
 ghost use Rattle.dkg_types.specs.declared.manager.TrackError.TheVariants.{NoMemory as OutOfMemory};
 
 use crate::addresses::{Address, Addresses};
@@ -55,7 +55,7 @@ pub trait Provider {
 /// Who tracks the peers of an epoch, reached as a directory says.
 pub trait Manager: Provider {
     ghost use Rattle.std.specs.Prelude.{◌≡◌, ℕ, Option, OnOk, OnErr, IsTrue};
-    ghost use Rattle.dkg_types.specs.Tracking.{Names, with_set};
+    ghost use Rattle.dkg_types.specs.Tracking.{AnswersTracking, with_set};
     ghost use Rattle.dkg_types.specs.declared.participants.TrackedPeers.{TrackedPeers};
 
     type Dir: Directory;
@@ -74,7 +74,7 @@ pub trait Manager: Provider {
         ensures ok { IsTrue Self.tells → OnOk result ((n : ℕ) → Self.sets self.new n ≡ with_set (Self.sets self.old) epoch peers n) }
         ensures err { IsTrue Self.tells → OnErr result ((n : ℕ) → Self.sets self.new n ≡ Self.sets self.old n) }
         // Told or not, whoever the directory lacks is named.
-        ensures missing { Names (lacks directory.now peers) result };
+        ensures missing { AnswersTracking (lacks directory.now peers) result };
 }
 
 /// Who tracks peers by their keys alone.
@@ -151,7 +151,7 @@ impl<M: PeerManager> Manager for KeyOnlyManager<M> {
         ensures ok { IsTrue M.tells → OnOk result ((n : ℕ) → M.sets self.new.manager n ≡ with_set (M.sets self.old.manager) epoch peers n) }
         ensures err { IsTrue M.tells → OnErr result ((n : ℕ) → M.sets self.new.manager n ≡ M.sets self.old.manager n) }
         // Told or not, no address is missing.
-        ensures missing { Names None result }
+        ensures missing { AnswersTracking None result }
     {
         self.manager.track(alloc, epoch.0, peers)?;
         Ok(())
@@ -197,7 +197,7 @@ fn pairs_of(
     peers: &[Key],
 ) -> Result<Vec<(Key, Address)>, TrackError>
     ensures found { IfOk result (λ pairs. IsOf directory.now peers.now pairs.items) }
-    ensures missing { Names (first_without directory.now peers.now) result }
+    ensures missing { AnswersTracking (first_without directory.now peers.now) result }
 {
     let mut pairs = Vec::new(alloc);
     for peer in peers {
@@ -216,7 +216,7 @@ fn addresses_of(
     peers: &Set,
 ) -> Result<Map<Address>, TrackError>
     ensures found { IfOk result (IsOf directory.now peers.now) }
-    ensures missing { Names (first_without directory.now peers.now) result }
+    ensures missing { AnswersTracking (first_without directory.now peers.now) result }
 {
     let pairs = pairs_of(alloc, directory, peers.as_slice())?;
     Ok(Map::from_sorted(pairs).unwrap())
@@ -239,7 +239,7 @@ impl<M: AddressedPeerManager> Manager for AddressableManager<M> {
         ensures ok { IsTrue M.tells → OnOk result ((n : ℕ) → M.sets self.new.manager n ≡ with_set (M.sets self.old.manager) epoch peers n) }
         ensures err { IsTrue M.tells → OnErr result ((n : ℕ) → M.sets self.new.manager n ≡ M.sets self.old.manager n) }
         // Told or not, whoever has no address is named.
-        ensures missing { Names (first_lacking directory.now peers) result }
+        ensures missing { AnswersTracking (first_lacking directory.now peers) result }
         // A refusal keeps what each peer's address was, too.
         ensures same { IsTrue M.tells → OnErr result ((n : ℕ) → M.reached self.new.manager n ≡ M.reached self.old.manager n) }
         // The addresses that the manager is handed are those of the directory.

@@ -111,7 +111,7 @@ impl Set {
 
     /// The place of a key, from 0, by binary search.
     pub fn position(&self, key: Key) -> Option<u32>
-        ensures place { result ≡ place_of key self.now }
+        ensures index { result ≡ place_of key self.now }
         ensures within { IfSome result (λ i. i < length self.now) }
     {
         match self.keys.binary_search(&key) {
@@ -123,7 +123,7 @@ impl Set {
     /// Whether the key is there.
     #[tactic(auto, using(crate::specs::Places::has_place))]
     pub fn has(&self, key: Key) -> bool
-        ensures place { result ≡ is_some (place_of key self.now) }
+        ensures index { result ≡ is_some (place_of key self.now) }
         ensures member { IsTrue result ↔ Contains self.now key }
     {
         self.position(key).is_some()

@@ -29,10 +29,10 @@ returns-in_err-store-clause-readable g c = λ told.
 pub returns-in_err-store-clause-acts : goal.returns-in_err-store-clause-acts
 returns-in_err-store-clause-acts g c = λ disk secrets fixed opening by fresh.
     let p = err_from_is_err_and c.from_residual.result c.from_residual.ensures.1 in
-    rw (p.1, p.2) (none_beside nothing_beside _ _ tt (opening_failed fixed opening.today opening.lent.of.unplanned seen_planless opening.reads c.args.number (length (open_calls (g.D.Disk.files c.args.devices.now.disk.now))) opening.life_is opening.calls_are c.in_err-store.field-0.0 (c.in_err-store.ensures.acts disk secrets (subst (λ (n : ℕ). IsInGrammar n (g.D.Disk.files c.args.devices.now.disk.now)) opening.lent.of.limit opening.grammar))))
+    rw (p.1, p.2) (none_beside nothing_beside _ _ tt (opening_failed fixed opening.bare opening.lent.of.unplanned seen_planless opening.reads c.args.number (length (open_calls (g.D.Disk.files c.args.devices.now.disk.now))) opening.life_is opening.calls_are c.in_err-store.field-0.0 (c.in_err-store.ensures.acts disk secrets (subst (λ (n : ℕ). IsInGrammar n (g.D.Disk.files c.args.devices.now.disk.now)) opening.lent.of.limit opening.grammar))))
 
 pub returns-in_err-store-clause-tells : goal.returns-in_err-store-clause-tells
-returns-in_err-store-clause-tells g c = λ fixed lent life today by fresh.
+returns-in_err-store-clause-tells g c = λ fixed lent life is_bare by fresh.
     let p = err_from_is_err_and c.from_residual.result c.from_residual.ensures.1 in
     let read = c.in_err-store.ensures.tells fixed.opening_calls in
     rw (p.1, p.2) (record {
@@ -40,7 +40,7 @@ returns-in_err-store-clause-tells g c = λ fixed lent life today by fresh.
       unplanned = read.unplanned;
       listed = read.listed;
       given = given_untold Records (Life g.row.Dir.Denot) c.in_err-store.field-0.0 (IsTrue g.D.Disk.tells) (IsTrue g.X.SecretStore.tells) (epoch_at (g.B.BlockSource.answers c.args.source.now) c.args.terms.now - 1) read.seen.dealings (g.D.Disk.image c.open_store.new.devices.disk.now) (g.X.SecretStore.held c.open_store.new.devices.secrets.now) read.given;
-      so = none_beside nothing_beside _ _ tt (opening_untold (reading read.seen fixed) (record { reshare = today.reshare; bare = today.bare }) (λ h. read.unplanned) (λ h. read.seen) refl c.args.number fixed.opening_calls life refl c.in_err-store.field-0.0 read.so);
+      so = none_beside nothing_beside _ _ tt (opening_untold (reading read.seen fixed) (record { reshare = is_bare.reshare; bare = is_bare.bare }) (λ h. read.unplanned) (λ h. read.seen) refl c.args.number fixed.opening_calls life refl c.in_err-store.field-0.0 read.so);
     })
 
 pub returns-in_err-store-clause-causes : goal.returns-in_err-store-clause-causes
@@ -59,10 +59,10 @@ returns-in_err-set_up-clause-readable g c = λ told.
 pub returns-in_err-set_up-clause-acts : goal.returns-in_err-set_up-clause-acts
 returns-in_err-set_up-clause-acts g c = λ disk secrets fixed opening by fresh.
     let p = err_from_is_err_and c.from_residual-in_err-set_up.result c.from_residual-in_err-set_up.ensures.1 in
-    rw (p.1, p.2) (beside_as (λ more took. took) (λ now made. opening_made fixed opening.today opening.lent.of.unplanned seen_planless opening.reads c.args.number (length (open_calls (g.D.Disk.files c.args.devices.now.disk.now))) opening.life_is opening.calls_are (g.B.BlockSource.answers c.args.source.now) opening.lent.lent c.args.fence.now fresh c.args.word c.in_ok-store.store c.in_ok-store.ensures.current c.begin-life.result c.begin-life.ensures (by_stop c.in_err-set_up.field-0.0) (c.in_ok-store.ensures.acts disk secrets (subst (λ (n : ℕ). IsInGrammar n (g.D.Disk.files c.args.devices.now.disk.now)) opening.lent.of.limit opening.grammar)) made) (c.in_err-set_up.ensures.acts disk secrets fixed nothing_beside nothing_fresh (lent_to c.args.terms.now (g.B.BlockSource.answers c.args.source.now) c.args.word c.begin-life.result.word fixed (ap (λ (l : Life g.row.Dir.Denot). l.word) c.begin-life.ensures) opening.lent) opening.reads by))
+    rw (p.1, p.2) (beside_as (λ more took. took) (λ now made. opening_made fixed opening.bare opening.lent.of.unplanned seen_planless opening.reads c.args.number (length (open_calls (g.D.Disk.files c.args.devices.now.disk.now))) opening.life_is opening.calls_are (g.B.BlockSource.answers c.args.source.now) opening.lent.lent c.args.fence.now fresh c.args.word c.in_ok-store.store c.in_ok-store.ensures.current c.begin-life.result c.begin-life.ensures (by_stop c.in_err-set_up.field-0.0) (c.in_ok-store.ensures.acts disk secrets (subst (λ (n : ℕ). IsInGrammar n (g.D.Disk.files c.args.devices.now.disk.now)) opening.lent.of.limit opening.grammar)) made) (c.in_err-set_up.ensures.acts disk secrets fixed nothing_beside nothing_fresh (lent_to c.args.terms.now (g.B.BlockSource.answers c.args.source.now) c.args.word c.begin-life.result.word fixed (ap (λ (l : Life g.row.Dir.Denot). l.word) c.begin-life.ensures) opening.lent) opening.reads by))
 
 pub returns-in_err-set_up-clause-tells : goal.returns-in_err-set_up-clause-tells
-returns-in_err-set_up-clause-tells g c = λ fixed lent life today by fresh.
+returns-in_err-set_up-clause-tells g c = λ fixed lent life is_bare by fresh.
     let p = err_from_is_err_and c.from_residual-in_err-set_up.result c.from_residual-in_err-set_up.ensures.1 in
     let read = c.in_ok-store.ensures.tells fixed.opening_calls in
     rw (p.1, p.2) (record {
@@ -70,7 +70,7 @@ returns-in_err-set_up-clause-tells g c = λ fixed lent life today by fresh.
       unplanned = read.unplanned;
       listed = read.listed;
       given = given_stopped (IsTrue g.D.Disk.tells) (IsTrue g.X.SecretStore.tells) _ (epoch_at (g.B.BlockSource.answers c.args.source.now) c.args.terms.now - 1) (ap (λ (l : Life g.row.Dir.Denot). epoch_above c.args.terms.now l.tip - 1) c.begin-life.ensures) read.seen.dealings (g.D.Disk.files c.open_store.new.devices.disk.now) (g.D.Disk.image c.open_store.new.devices.disk.now) (g.D.Disk.image c.set_up.new.devices.disk.now) (g.X.SecretStore.held c.open_store.new.devices.secrets.now) (g.X.SecretStore.held c.set_up.new.devices.secrets.now) (λ told. g.met.D.Disk.reads c.open_store.new.devices.disk.now told) read.given (Unit {0}) (Life g.row.Dir.Denot) c.in_err-set_up.field-0.0 c.in_err-set_up.ensures.gives;
-      so = beside_as (λ more took. took) (λ now told. opening_told (reading (with_secrets read.seen c.in_err-set_up.ensures.tells.0) fixed) (record { reshare = today.reshare; bare = today.bare }) (λ h. read.unplanned) (λ h. with_secrets read.seen c.in_err-set_up.ensures.tells.0) refl c.args.number fixed.opening_calls life refl (g.B.BlockSource.answers c.args.source.now) lent.lent c.args.fence.now fresh c.args.word c.in_ok-store.store c.in_ok-store.ensures.current c.begin-life.result c.begin-life.ensures (by_stop c.in_err-set_up.field-0.0) read.so told)
+      so = beside_as (λ more took. took) (λ now told. opening_told (reading (with_secrets read.seen c.in_err-set_up.ensures.tells.0) fixed) (record { reshare = is_bare.reshare; bare = is_bare.bare }) (λ h. read.unplanned) (λ h. with_secrets read.seen c.in_err-set_up.ensures.tells.0) refl c.args.number fixed.opening_calls life refl (g.B.BlockSource.answers c.args.source.now) lent.lent c.args.fence.now fresh c.args.word c.in_ok-store.store c.in_ok-store.ensures.current c.begin-life.result c.begin-life.ensures (by_stop c.in_err-set_up.field-0.0) read.so told)
           (c.in_err-set_up.ensures.tells.1 (reading (with_secrets read.seen c.in_err-set_up.ensures.tells.0) fixed) nothing_beside nothing_fresh (reading_lent c.args.terms.now (g.B.BlockSource.answers c.args.source.now) c.args.word c.begin-life.result.word fixed (with_secrets read.seen c.in_err-set_up.ensures.tells.0) (ap (λ (l : Life g.row.Dir.Denot). l.word) c.begin-life.ensures) read.unplanned lent) (can_read read.seen c.in_err-set_up.ensures.tells.0 fixed) by);
     })
 
@@ -88,17 +88,17 @@ returns-clause-readable g c = λ told.
 
 pub returns-clause-acts : goal.returns-clause-acts
 returns-clause-acts g c = λ disk secrets fixed opening by fresh.
-    (beside_as (λ more took. took) (λ now made. opening_made fixed opening.today opening.lent.of.unplanned seen_planless opening.reads c.args.number (length (open_calls (g.D.Disk.files c.args.devices.now.disk.now))) opening.life_is opening.calls_are (g.B.BlockSource.answers c.args.source.now) opening.lent.lent c.args.fence.now fresh c.args.word c.in_ok-store.store c.in_ok-store.ensures.current c.begin-life.result c.begin-life.ensures (went (live_of now c.set_up.new.fence c.set_up.new.life)) (c.in_ok-store.ensures.acts disk secrets (subst (λ (n : ℕ). IsInGrammar n (g.D.Disk.files c.args.devices.now.disk.now)) opening.lent.of.limit opening.grammar)) made) (c.in_ok-set_up.ensures.acts disk secrets fixed nothing_beside nothing_fresh (lent_to c.args.terms.now (g.B.BlockSource.answers c.args.source.now) c.args.word c.begin-life.result.word fixed (ap (λ (l : Life g.row.Dir.Denot). l.word) c.begin-life.ensures) opening.lent) opening.reads by))
+    (beside_as (λ more took. took) (λ now made. opening_made fixed opening.bare opening.lent.of.unplanned seen_planless opening.reads c.args.number (length (open_calls (g.D.Disk.files c.args.devices.now.disk.now))) opening.life_is opening.calls_are (g.B.BlockSource.answers c.args.source.now) opening.lent.lent c.args.fence.now fresh c.args.word c.in_ok-store.store c.in_ok-store.ensures.current c.begin-life.result c.begin-life.ensures (went (live_of now c.set_up.new.fence c.set_up.new.life)) (c.in_ok-store.ensures.acts disk secrets (subst (λ (n : ℕ). IsInGrammar n (g.D.Disk.files c.args.devices.now.disk.now)) opening.lent.of.limit opening.grammar)) made) (c.in_ok-set_up.ensures.acts disk secrets fixed nothing_beside nothing_fresh (lent_to c.args.terms.now (g.B.BlockSource.answers c.args.source.now) c.args.word c.begin-life.result.word fixed (ap (λ (l : Life g.row.Dir.Denot). l.word) c.begin-life.ensures) opening.lent) opening.reads by))
 
 pub returns-clause-tells : goal.returns-clause-tells
-returns-clause-tells g c = λ fixed lent life today by fresh.
+returns-clause-tells g c = λ fixed lent life is_bare by fresh.
     let read = c.in_ok-store.ensures.tells fixed.opening_calls in
     (record {
       seen = with_secrets read.seen c.in_ok-set_up.ensures.tells.0;
       unplanned = read.unplanned;
       listed = read.listed;
       given = given_behind (IsTrue g.D.Disk.tells) (IsTrue g.X.SecretStore.tells) _ (epoch_at (g.B.BlockSource.answers c.args.source.now) c.args.terms.now - 1) (ap (λ (l : Life g.row.Dir.Denot). epoch_above c.args.terms.now l.tip - 1) c.begin-life.ensures) read.seen.dealings (g.D.Disk.files c.open_store.new.devices.disk.now) (g.D.Disk.image c.open_store.new.devices.disk.now) (g.D.Disk.image c.set_up.new.devices.disk.now) (g.X.SecretStore.held c.open_store.new.devices.secrets.now) (g.X.SecretStore.held c.set_up.new.devices.secrets.now) (λ told. g.met.D.Disk.reads c.open_store.new.devices.disk.now told) read.given c.in_ok-set_up.ensures.gives;
-      so = beside_as (λ more took. took) (λ now told. opening_told (reading (with_secrets read.seen c.in_ok-set_up.ensures.tells.0) fixed) (record { reshare = today.reshare; bare = today.bare }) (λ h. read.unplanned) (λ h. with_secrets read.seen c.in_ok-set_up.ensures.tells.0) refl c.args.number fixed.opening_calls life refl (g.B.BlockSource.answers c.args.source.now) lent.lent c.args.fence.now fresh c.args.word c.in_ok-store.store c.in_ok-store.ensures.current c.begin-life.result c.begin-life.ensures (went (live_of now c.set_up.new.fence c.set_up.new.life)) read.so told)
+      so = beside_as (λ more took. took) (λ now told. opening_told (reading (with_secrets read.seen c.in_ok-set_up.ensures.tells.0) fixed) (record { reshare = is_bare.reshare; bare = is_bare.bare }) (λ h. read.unplanned) (λ h. with_secrets read.seen c.in_ok-set_up.ensures.tells.0) refl c.args.number fixed.opening_calls life refl (g.B.BlockSource.answers c.args.source.now) lent.lent c.args.fence.now fresh c.args.word c.in_ok-store.store c.in_ok-store.ensures.current c.begin-life.result c.begin-life.ensures (went (live_of now c.set_up.new.fence c.set_up.new.life)) read.so told)
           (c.in_ok-set_up.ensures.tells.1 (reading (with_secrets read.seen c.in_ok-set_up.ensures.tells.0) fixed) nothing_beside nothing_fresh (reading_lent c.args.terms.now (g.B.BlockSource.answers c.args.source.now) c.args.word c.begin-life.result.word fixed (with_secrets read.seen c.in_ok-set_up.ensures.tells.0) (ap (λ (l : Life g.row.Dir.Denot). l.word) c.begin-life.ensures) read.unplanned lent) (can_read read.seen c.in_ok-set_up.ensures.tells.0 fixed) by);
     })
 

@@ -16,7 +16,7 @@ returns-clause-made g c =
     let bears_ack_of = g.C.Ceremony.bears_ack_of in
     let dealing_of = g.C.Ceremony.dealing_of in
     let number : c.parts-2.result.now.number ≡ round.number = ap (λ (r : Round). r.number) c.parts-2.ensures in
-    let plays : has round.players me ≡ true = ap (λ (r : Round). has r.players me) (sym c.parts.ensures) ∙ sym c.has.ensures.place ∙ c.if-not-has.false in
+    let plays : has round.players me ≡ true = ap (λ (r : Round). has r.players me) (sym c.parts.ensures) ∙ sym c.has.ensures.index ∙ c.if-not-has.false in
     let some = some_at round logs store me bears_ack_of dealing_of c.parts-2.result.now.number number (is_some c.in_ok-create_player_with_logs.field-0) c.in_ok-create_player_with_logs.ensures.some in
     elim c.match-branch-2.branch [
       | in-None w ↦ rw w.result-is (λ fixed st mine bears checks records.
@@ -57,7 +57,7 @@ returns-clause-passes g c =
     let bears_ack_of = g.C.Ceremony.bears_ack_of in
     let dealing_of = g.C.Ceremony.dealing_of in
     let number : c.parts-2.result.now.number ≡ round.number = ap (λ (r : Round). r.number) c.parts-2.ensures in
-    let plays : has round.players me ≡ true = ap (λ (r : Round). has r.players me) (sym c.parts.ensures) ∙ sym c.has.ensures.place ∙ c.if-not-has.false in
+    let plays : has round.players me ≡ true = ap (λ (r : Round). has r.players me) (sym c.parts.ensures) ∙ sym c.has.ensures.index ∙ c.if-not-has.false in
     let some = some_at round logs store me bears_ack_of dealing_of c.parts-2.result.now.number number (is_some c.in_ok-create_player_with_logs.field-0) c.in_ok-create_player_with_logs.ensures.some in
     elim c.match-branch-2.branch [
       | in-None w ↦ rw w.result-is (λ fixed st mine bears checks records.

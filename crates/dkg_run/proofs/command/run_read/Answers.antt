@@ -3,7 +3,7 @@ use Rattle.std.specs.Prelude.{IfOk}
 use Rattle.std.proofs.lemmas.List.{append-nil}
 use Rattle.dkg_text.specs.Grammar.{script_or_place}
 use Rattle.dkg_text.specs.declared.script.Script.{Script}
-use Rattle.dkg_script.specs.Built.{ReadsBuilt}
+use Rattle.dkg_script.specs.InForm.{ReadsInForm}
 use Rattle.dkg_script.specs.Inclusion.{IsFormOfInclusion}
 use Rattle.dkg_script.specs.declared.read.ReadError.{ReadError}
 use Rattle.dkg_script.specs.declared.read.ReadError.TheVariants.{Bad, Unsupported}
@@ -11,8 +11,8 @@ use Rattle.dkg_run.proofs.Reported.{is_no_read, is_spelled, runs_faulted, runs_l
 use Rattle.dkg_run.proofs.command.run_read.Goals as goal
 
 -- what was read, where it is this
-reads_so : (bytes : List ℕ) (read it : Result Script ReadError) → read ≡ it → ReadsBuilt (script_or_place false bytes) read → ReadsBuilt (script_or_place false bytes) it
-reads_so bytes read it is = subst (λ (r : Result Script ReadError). ReadsBuilt (script_or_place false bytes) r) is
+reads_so : (bytes : List ℕ) (read it : Result Script ReadError) → read ≡ it → ReadsInForm (script_or_place false bytes) read → ReadsInForm (script_or_place false bytes) it
+reads_so bytes read it is = subst (λ (r : Result Script ReadError). ReadsInForm (script_or_place false bytes) r) is
 
 form_so : (read it : Result Script ReadError) → read ≡ it → IfOk read IsFormOfInclusion → IfOk it IsFormOfInclusion
 form_so read it is = subst (λ (r : Result Script ReadError). IfOk r IsFormOfInclusion) is
@@ -44,7 +44,7 @@ returns-in-Err-Unsupported-clause-ends g c bytes reads =
         gave = refl;
         script = refused.0;
         spells = is_spelled _ _ _ refused.1;
-        not_built = refused.2;
+        not_in_form = refused.2;
         nothing = record { no_entry = refl; untouched = (refl, refl) };
       },
     )
@@ -61,7 +61,7 @@ returns-in-Ok-run_lives-clause-ends g c bytes reads =
         gave = refl;
         script = c.in-Ok.script;
         spells = is_spelled _ _ _ read.0;
-        built = read.1;
+        in_form = read.1;
         form = form_so c.args.read (Ok c.in-Ok.script) is c.requires.form;
         lives = runs_lives _ _ _ _ _ its.promise its.lines its.run;
       },
@@ -82,7 +82,7 @@ returns-clause-ends g c bytes reads =
         gave = refl;
         script = c.in-Ok.script;
         spells = is_spelled _ _ _ read.0;
-        built = read.1;
+        in_form = read.1;
         form = form_so c.args.read (Ok c.in-Ok.script) is c.requires.form;
         lives = runs_lives _ _ _ _ _ its.promise its.lines its.run;
       })),

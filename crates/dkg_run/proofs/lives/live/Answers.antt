@@ -29,7 +29,7 @@ returns-in_err-node-clause-lines g c =
     rw (p.1, p.2) (lines_over g.D.Disk.files c.args.devices.now.disk c.begin_step.new.devices.disk c.begin_step.ensures.same.0 c.args.script.now c.args.number c.args.life.now c.args.out.now.entries _ _
     (stopped_first c.args.script.now c.args.number c.args.life.now (g.D.Disk.files c.begin_step.new.devices.disk.now) c.args.out.now.entries c.begin_step.new.devices.fuse c.in_ok-begin_step.ensures.lit
     _ c.open.new.out.entries c.in_err-node.field-0.0
-    (λ is. reached_cuts _ _ c.open.ensures.moved.counts (cut_behind (limits_of c.args.script.now).most g.D.Disk.tells (g.D.Disk.files c.open.new.devices.disk.now) c.in_err-node.field-0.0 _ _ _ c.in_err-node.ensures.causes is)) c.in_err-node.ensures.tells))
+    (λ is. reached_cuts _ _ c.open.ensures.moved.counts (cut_behind (limits_of c.args.script.now).limit g.D.Disk.tells (g.D.Disk.files c.open.new.devices.disk.now) c.in_err-node.field-0.0 _ _ _ c.in_err-node.ensures.causes is)) c.in_err-node.ensures.tells))
 
 pub returns-in_err-push-clause-lines : goal.returns-in_err-push-clause-lines
 returns-in_err-push-clause-lines g c =
@@ -112,14 +112,14 @@ returns-clause-causes g c =
 -- FITTING
 
 pub returns-in_err-node-clause-fit : goal.returns-in_err-node-clause-fit
-returns-in_err-node-clause-fit g c = λ told. fit_over g.D.Disk.image c.args.devices.now.disk c.begin_step.new.devices.disk c.begin_step.ensures.same.0 (limits_of c.args.script.now).most _ ((c.open.ensures.loose told).fit (limits_of c.args.script.now).most)
+returns-in_err-node-clause-fit g c = λ told. fit_over g.D.Disk.image c.args.devices.now.disk c.begin_step.new.devices.disk c.begin_step.ensures.same.0 (limits_of c.args.script.now).limit _ ((c.open.ensures.loose told).fit (limits_of c.args.script.now).limit)
 
 pub returns-in_err-push-clause-fit : goal.returns-in_err-push-clause-fit
-returns-in_err-push-clause-fit g c = λ told. fit_over g.D.Disk.image c.args.devices.now.disk c.begin_step.new.devices.disk c.begin_step.ensures.same.0 (limits_of c.args.script.now).most _ ((c.open.ensures.loose told).fit (limits_of c.args.script.now).most)
+returns-in_err-push-clause-fit g c = λ told. fit_over g.D.Disk.image c.args.devices.now.disk c.begin_step.new.devices.disk c.begin_step.ensures.same.0 (limits_of c.args.script.now).limit _ ((c.open.ensures.loose told).fit (limits_of c.args.script.now).limit)
 
 pub returns-clause-fit : goal.returns-clause-fit
-returns-clause-fit g c = λ told. fit_over g.D.Disk.image c.args.devices.now.disk c.begin_step.new.devices.disk c.begin_step.ensures.same.0 (limits_of c.args.script.now).most _
-    (fit_then c.args.script.now c.args.number c.args.life.now c.in_ok-node.node c.in_ok-node.ensures.of (g.D.Disk.files c.args.devices.now.disk.now) _ _ _ ((c.open.ensures.loose told).fit (limits_of c.args.script.now).most) (c.take_steps.ensures.fit told))
+returns-clause-fit g c = λ told. fit_over g.D.Disk.image c.args.devices.now.disk c.begin_step.new.devices.disk c.begin_step.ensures.same.0 (limits_of c.args.script.now).limit _
+    (fit_then c.args.script.now c.args.number c.args.life.now c.in_ok-node.node c.in_ok-node.ensures.of (g.D.Disk.files c.args.devices.now.disk.now) _ _ _ ((c.open.ensures.loose told).fit (limits_of c.args.script.now).limit) (c.take_steps.ensures.fit told))
 
 -- OVER BOTH DEVICES
 
@@ -145,12 +145,12 @@ returns-in_err-push-clause-run g c = λ disk secrets stands left image.
 pub returns-clause-run : goal.returns-clause-run
 returns-clause-run g c = λ disk secrets stands left image.
     let its = c.in_ok-node.ensures.acts disk secrets (c.in_ok-node.ensures.readable disk).ok in
-    let today : Lived = lived c.args.script.now c.args.number c.args.life.now seen_planless (g.D.Disk.files c.args.devices.now.disk.now) in
+    let bare : Lived = lived c.args.script.now c.args.number c.args.life.now seen_planless (g.D.Disk.files c.args.devices.now.disk.now) in
     told_ran g.D.Disk.files g.D.Disk.image g.X.SecretStore.held c.args.devices.now c.begin_step.new.devices c.begin_step.ensures.same.0 c.begin_step.ensures.same.1 stands c.args.script.now c.args.number c.args.life.now c.in_ok-begin_step.ensures.lit c.args.out.now.entries c.open.new.devices c.open.new.out.entries (g.D.Disk.files c.open.new.devices.disk.now) (g.met.D.Disk.reads c.open.new.devices.disk.now disk)
     its.0 its.2 c.take_steps.result (world_of g.X.SecretStore.held c.take_steps.new.devices c.take_steps.new.out.entries left) c.push.new.self.entries c.in_ok-push.ensures.ok
-    (c.take_steps.ensures.run disk secrets today its.0
+    (c.take_steps.ensures.run disk secrets bare its.0
     (life_in_form c.args.script.now c.args.number c.args.life.now seen_planless (g.D.Disk.files c.args.devices.now.disk.now) c.requires.form c.requires.checked c.requires.here.0 (λ h. refl))
-    (record { of = c.in_ok-node.ensures.of today refl refl (λ h. refl); blocks_are = c.in_ok-source.ensures.blocks ∙ c.requires.here.1; life_is = refl }) its.1
+    (record { of = c.in_ok-node.ensures.of bare refl refl (λ h. refl); blocks_are = c.in_ok-source.ensures.blocks ∙ c.requires.here.1; life_is = refl }) its.1
     (at_first g.D.Disk.files g.D.Disk.image g.X.SecretStore.held c.args.devices.now c.begin_step.new.devices c.begin_step.ensures.same.0 c.begin_step.ensures.same.1 stands c.args.script.now c.args.number c.args.life.now c.in_ok-begin_step.ensures.lit c.args.out.now.entries c.open.new.devices c.open.new.out.entries (g.D.Disk.files c.open.new.devices.disk.now) (g.met.D.Disk.reads c.open.new.devices.disk.now disk)
     its.0 its.2 c.requires.form c.requires.checked c.requires.here.0)
     left image)
@@ -165,14 +165,14 @@ returns-in_err-source-clause-found g c = let p = err_from_is_err_and c.from_resi
 
 pub returns-in_err-node-clause-found : goal.returns-in_err-node-clause-found
 returns-in_err-node-clause-found g c = let p = err_from_is_err_and c.from_residual-in_err-node.result c.from_residual-in_err-node.ensures.1 in
-    rw (p.1, p.2) (opening_finds (limits_of c.args.script.now).most g.D.Disk.tells (g.D.Disk.files c.open.new.devices.disk.now) c.in_err-node.field-0.0 _ _ _ c.in_err-node.ensures.causes)
+    rw (p.1, p.2) (opening_finds (limits_of c.args.script.now).limit g.D.Disk.tells (g.D.Disk.files c.open.new.devices.disk.now) c.in_err-node.field-0.0 _ _ _ c.in_err-node.ensures.causes)
 
 pub returns-in_err-push-clause-found : goal.returns-in_err-push-clause-found
 returns-in_err-push-clause-found g c = let p = err_from_is_err_and c.from_residual-in_err-push.result c.from_residual-in_err-push.ensures.1 in rw (p.1, p.2) (λ told. record { so = tt })
 
 pub returns-clause-found : goal.returns-clause-found
 returns-clause-found g c =
-    steps_find g.D.Disk.tells g.D.Disk.faults g.X.SecretStore.faults c.open.new.devices c.take_steps.new.devices (limits_of c.args.script.now).most (g.D.Disk.files c.take_steps.new.devices.disk.now) c.take_steps.result c.take_steps.ensures.causes
+    steps_find g.D.Disk.tells g.D.Disk.faults g.X.SecretStore.faults c.open.new.devices c.take_steps.new.devices (limits_of c.args.script.now).limit (g.D.Disk.files c.take_steps.new.devices.disk.now) c.take_steps.result c.take_steps.ensures.causes
 
 -- BLAME, before the steps
 
@@ -185,7 +185,7 @@ returns-in_err-source-clause-causes g c = let p = err_from_is_err_and c.from_res
 pub returns-in_err-node-clause-causes : goal.returns-in_err-node-clause-causes
 returns-in_err-node-clause-causes g c = let p = err_from_is_err_and c.from_residual-in_err-node.result c.from_residual-in_err-node.ensures.1 in
     rw (p.1, p.2) (opening_blames g.D.Disk.faults g.X.SecretStore.faults c.args.devices.now c.begin_step.new.devices c.open.new.devices c.begin_step.ensures.same.0 c.begin_step.ensures.same.1 c.in_err-node.field-0.0
-    (found_cause (limits_of c.args.script.now).most g.D.Disk.tells (g.D.Disk.files c.open.new.devices.disk.now) c.in_err-node.field-0.0 _ _ _ c.in_err-node.ensures.causes))
+    (found_cause (limits_of c.args.script.now).limit g.D.Disk.tells (g.D.Disk.files c.open.new.devices.disk.now) c.in_err-node.field-0.0 _ _ _ c.in_err-node.ensures.causes))
 
 pub returns-in_err-push-clause-causes : goal.returns-in_err-push-clause-causes
 returns-in_err-push-clause-causes g c = let p = err_from_is_err_and c.from_residual-in_err-push.result c.from_residual-in_err-push.ensures.1 in rw (p.1, p.2) tt
@@ -208,10 +208,10 @@ pub returns-clause-firm : goal.returns-clause-firm
 returns-clause-firm g c = c.take_steps.ensures.firm
 
 pub returns-in_err-begin_step-clause-fit : goal.returns-in_err-begin_step-clause-fit
-returns-in_err-begin_step-clause-fit g c = λ told. fit_over g.D.Disk.image c.args.devices.now.disk c.begin_step.new.devices.disk c.begin_step.ensures.same.0 (limits_of c.args.script.now).most (g.D.Disk.image c.begin_step.new.devices.disk.now) (λ fit. fit)
+returns-in_err-begin_step-clause-fit g c = λ told. fit_over g.D.Disk.image c.args.devices.now.disk c.begin_step.new.devices.disk c.begin_step.ensures.same.0 (limits_of c.args.script.now).limit (g.D.Disk.image c.begin_step.new.devices.disk.now) (λ fit. fit)
 
 pub returns-in_err-source-clause-fit : goal.returns-in_err-source-clause-fit
-returns-in_err-source-clause-fit g c = λ told. fit_over g.D.Disk.image c.args.devices.now.disk c.begin_step.new.devices.disk c.begin_step.ensures.same.0 (limits_of c.args.script.now).most (g.D.Disk.image c.begin_step.new.devices.disk.now) (λ fit. fit)
+returns-in_err-source-clause-fit g c = λ told. fit_over g.D.Disk.image c.args.devices.now.disk c.begin_step.new.devices.disk c.begin_step.ensures.same.0 (limits_of c.args.script.now).limit (g.D.Disk.image c.begin_step.new.devices.disk.now) (λ fit. fit)
 
 pub returns-in_err-begin_step-clause-run : goal.returns-in_err-begin_step-clause-run
 returns-in_err-begin_step-clause-run g c = λ disk secrets stands left image.

@@ -149,7 +149,7 @@ returns-clause-run g c = λ disk secrets stands image left.
 
 pub returns-in_err-check_config-clause-found : goal.returns-in_err-check_config-clause-found
 returns-in_err-check_config-clause-found g c = let p = err_from_is_err_and c.from_residual.result c.from_residual.ensures.1 in
-    rw (p.1, p.2) (λ told. config_finds c.args.script.now.config.mode c.args.script.now.config.max_mode.0 (non_zero_u64_get c.args.script.now.config.blocks_per_epoch) _ c.in_err-check_config.ensures.refused (limits_of c.args.script.now).most _)
+    rw (p.1, p.2) (λ told. config_finds c.args.script.now.config.mode c.args.script.now.config.max_mode.0 (non_zero_u64_get c.args.script.now.config.blocks_per_epoch) _ c.in_err-check_config.ensures.refused (limits_of c.args.script.now).limit _)
 
 pub returns-in_err-blocks-clause-found : goal.returns-in_err-blocks-clause-found
 returns-in_err-blocks-clause-found g c = let p = err_from_is_err_and c.from_residual-in_err-blocks.result c.from_residual-in_err-blocks.ensures.1 in rw (p.1, p.2) (λ told. record { so = tt })

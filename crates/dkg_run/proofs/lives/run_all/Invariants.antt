@@ -20,5 +20,5 @@ invariant-loop-i g l = record {
       (world_of g.X.SecretStore.held l.devices l.out.entries (g.D.Disk.files l.devices.disk.now));
   stands : IsTrue g.D.Disk.tells → Stands (g.D.Disk.files l.initial.devices.disk.now) (g.D.Disk.image l.initial.devices.disk.now)
       → Stands (g.D.Disk.files l.devices.disk.now) (g.D.Disk.image l.devices.disk.now);
-  fit : IsTrue g.D.Disk.tells → AreFit (limits_of l.script).most (g.D.Disk.image l.initial.devices.disk.now) → AreFit (limits_of l.script).most (g.D.Disk.image l.devices.disk.now);
+  fit : IsTrue g.D.Disk.tells → AreFit (limits_of l.script).limit (g.D.Disk.image l.initial.devices.disk.now) → AreFit (limits_of l.script).limit (g.D.Disk.image l.devices.disk.now);
 }

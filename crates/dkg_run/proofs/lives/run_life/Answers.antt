@@ -43,7 +43,7 @@ pub returns-clause-causes : goal.returns-clause-causes
 returns-clause-causes g c = life_blames g.D.Disk.faults g.X.SecretStore.faults c.args.devices.now c.live-how.new.devices c.end_life.new.devices c.live-how.result c.end_life.result c.live-how.ensures.causes c.end_life.ensures.faulted c.end_life.ensures.same
 
 pub returns-clause-found : goal.returns-clause-found
-returns-clause-found g c = life_finds g.D.Disk.files (limits_of c.args.script.now).most g.D.Disk.tells c.live-how.new.devices c.end_life.new.devices c.live-how.result c.end_life.result c.live-how.ensures.found c.end_life.ensures.faulted c.end_life.ensures.same
+returns-clause-found g c = life_finds g.D.Disk.files (limits_of c.args.script.now).limit g.D.Disk.tells c.live-how.new.devices c.end_life.new.devices c.live-how.result c.end_life.result c.live-how.ensures.found c.end_life.ensures.faulted c.end_life.ensures.same
 
 pub returns-clause-fit : goal.returns-clause-fit
-returns-clause-fit g c = λ told fit. narrowed_fit (limits_of c.args.script.now).most (g.D.Disk.image c.live-how.new.devices.disk.now) (g.D.Disk.image c.end_life.new.devices.disk.now) c.end_life.ensures.narrows (c.live-how.ensures.fit told fit)
+returns-clause-fit g c = λ told fit. narrowed_fit (limits_of c.args.script.now).limit (g.D.Disk.image c.live-how.new.devices.disk.now) (g.D.Disk.image c.end_life.new.devices.disk.now) c.end_life.ensures.narrows (c.live-how.ensures.fit told fit)

@@ -1,7 +1,7 @@
 use Rattle.std.proofs.Common.{◌≡◌, ◌-◌, ℕ, List, Err, length, subst, arith}
 use Rattle.dkg_text.specs.declared.stop.Stop.{Stop}
 use Rattle.dkg_text.specs.Grammar.{reading_of}
-use Rattle.dkg_text.specs.Lines.{Fails}
+use Rattle.dkg_text.specs.Lines.{FailsText}
 use Rattle.dkg_text.proofs.Places.{place_of}
 use Rattle.dkg_text.proofs.read.read_script.Goals as goal
 
@@ -9,7 +9,7 @@ pub returns-in-Err-Line-clause-place : goal.returns-in-Err-Line-clause-place
 returns-in-Err-Line-clause-place c =
     let left = c.in-Err-Line.left in
     let addressed = c.args.addressed in
-    let stops : reading_of addressed c.new-lines.result.rest.now ≡ Err left = subst (λ (s : Stop). Fails s (reading_of addressed c.new-lines.result.rest.now)) c.in-Err-Line.field-0-is c.in-Err-Line.ensures in
+    let stops : reading_of addressed c.new-lines.result.rest.now ≡ Err left = subst (λ (s : Stop). FailsText s (reading_of addressed c.new-lines.result.rest.now)) c.in-Err-Line.field-0-is c.in-Err-Line.ensures in
     let reads = subst (λ (t : List ℕ). reading_of addressed t ≡ Err left) c.new-lines.ensures stops in
     let size = c.saturating_sub.ensures in
     let is : c.saturating_sub.result ≡ length c.args.bytes.now - left = omega (arith, size) in

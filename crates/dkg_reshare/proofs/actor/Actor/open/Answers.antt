@@ -9,8 +9,8 @@ pub returns-in-Err-clause-acts : goal.returns-in-Err-clause-acts
 returns-in-Err-clause-acts g c = λ disk secrets fixed opening by fresh. c.in-Err.ensures.acts disk secrets fixed opening by fresh
 
 pub returns-in-Err-clause-tells : goal.returns-in-Err-clause-tells
-returns-in-Err-clause-tells g c = λ fixed lent life today by fresh.
-    let read = c.in-Err.ensures.tells fixed lent life today by fresh in
+returns-in-Err-clause-tells g c = λ fixed lent life is_bare by fresh.
+    let read = c.in-Err.ensures.tells fixed lent life is_bare by fresh in
     record { seen = read.seen; unplanned = read.unplanned; listed = read.listed; given = by_stop_alike (Life g.row.Dir.Denot) (Unit {0}) c.in-Err.why _ read.given; so = read.so }
 
 pub returns-in-Err-clause-readable : goal.returns-in-Err-clause-readable
@@ -41,8 +41,8 @@ pub returns-in-Ok-clause-acts : goal.returns-in-Ok-clause-acts
 returns-in-Ok-clause-acts g c = λ disk secrets fixed opening by fresh. c.in-Ok.ensures.acts disk secrets fixed opening by fresh
 
 pub returns-in-Ok-clause-tells : goal.returns-in-Ok-clause-tells
-returns-in-Ok-clause-tells g c = λ fixed lent life today by fresh.
-    let read = c.in-Ok.ensures.tells fixed lent life today by fresh in
+returns-in-Ok-clause-tells g c = λ fixed lent life is_bare by fresh.
+    let read = c.in-Ok.ensures.tells fixed lent life is_bare by fresh in
     record { seen = read.seen; unplanned = read.unplanned; listed = read.listed; given = read.given; so = read.so }
 
 pub returns-in-Ok-clause-readable : goal.returns-in-Ok-clause-readable

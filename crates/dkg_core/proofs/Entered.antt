@@ -20,7 +20,7 @@ use Rattle.dkg_core.specs.Fixed.{Fixed}
 use Rattle.dkg_core.specs.Live.{Live, Orchestrator, Waiting, NodeStop, Faulted}
 use Rattle.dkg_core.specs.Entering.{Half, Acknowledges, Withholds, acked_late, active, delivered_in, enters, enters_at, is_ready, leaves, peers_for, starts_engine, stops_engine, tracks_peers, wait_for, waited_for, with_entered}
 use Rattle.dkg_core.specs.Laws.{Law, Holds}
-use Rattle.dkg_core.specs.Entry.{entry_law, EntersRegistered, LastBlocksAreEntered}
+use Rattle.dkg_core.specs.Entered.{entry_law, EntersRegistered, LastBlocksAreEntered}
 use Rattle.dkg_core.proofs.Holding.{holds_if, holds_option}
 
 was_ready : (fence : Readiness) (epoch : ℕ) → wait_for fence epoch ≡ Ready → is_ready fence.ready epoch ≡ true

@@ -1,9 +1,9 @@
 use Rattle.std.proofs.Common.{◌≡◌, ◌&&◌, ◌∙◌, ◌+◌, Bool, false, true, ℕ, List, Some, add-one, ap, drop, length, sym}
 use Rattle.std.specs.Prelude.{slice_get}
 use Rattle.dkg_text.specs.declared.script.Event.{Event}
-use Rattle.dkg_script.specs.Built.{are_events, is_event}
+use Rattle.dkg_script.specs.InForm.{are_events, is_event}
 use Rattle.dkg_script.proofs.Placed.{from_place}
-use Rattle.dkg_script.proofs.built.are_events.Goals as goal
+use Rattle.dkg_script.proofs.in_form.are_events.Goals as goal
 
 judged_from : (blocks : ℕ) (events : List Event) (place : ℕ) (event : Event) → slice_get events place ≡ Some event
     → are_events blocks (drop place events) ≡ (is_event blocks event && are_events blocks (drop (place + 1) events))

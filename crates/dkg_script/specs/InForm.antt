@@ -68,8 +68,8 @@ are_lives blocks (life ∷ lives) = is_life blocks life && are_lives blocks live
 
 -- THE SCRIPT
 
-unfoldable pub is_built : Script → Bool
-is_built script =
+unfoldable pub is_in_form : Script → Bool
+is_in_form script =
     not script.addressed && is_plain script.config && are_lives (length script.blocks) script.lives
 
 -- What the script of any text has: its players' epochs rise, its blocks' payloads are read, their heights are numbers of 64 bits, no position lies below height 0, and in no life an info is
@@ -94,11 +94,11 @@ refusal_of error.NoMemory = NoMemory
 
 -- What a call answered is what a text spells (`spelled`: the script, or the place of a text that is none), where scripts of another form
 -- are refused. Want of memory tells nothing.
-abbrev pub ReadsBuilt : (spelled : Result Script ℕ) → Result Script ReadError → Type 0
-ReadsBuilt spelled (Ok script) = (spelled ≡ Ok script) × (is_built script ≡ true)
-ReadsBuilt spelled (Err (Bad place)) = spelled ≡ Err place
-ReadsBuilt spelled (Err Unsupported) = (script : Script) × (spelled ≡ Ok script) × (is_built script ≡ false)
-ReadsBuilt spelled (Err NoMemory) = Unit {0}
+abbrev pub ReadsInForm : (spelled : Result Script ℕ) → Result Script ReadError → Type 0
+ReadsInForm spelled (Ok script) = (spelled ≡ Ok script) × (is_in_form script ≡ true)
+ReadsInForm spelled (Err (Bad place)) = spelled ≡ Err place
+ReadsInForm spelled (Err Unsupported) = (script : Script) × (spelled ≡ Ok script) × (is_in_form script ≡ false)
+ReadsInForm spelled (Err NoMemory) = Unit {0}
 
 -- what is told of bytes that are no script: the first line that no script has after the lines before it
 abbrev pub TellsPlace : (addressed : Bool) (bytes : List ℕ) → Result Script ReadError → Type 0

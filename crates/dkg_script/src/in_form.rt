@@ -2,7 +2,7 @@
 ghost use Rattle.std.specs.Bool.{OnFalse, OnTrue};
 ghost use Rattle.std.specs.Prelude.{◌≡◌, ◌<◌, ◌^◌, IfOk, length};
 ghost use Rattle.std.specs.Int.NonZero.{non_zero_u64_get};
-ghost use Rattle.dkg_script.specs.Built.{IsOfText, IsToldNothing, are_events as are_events_of, are_lives as are_lives_of, is_alone as is_alone_of, is_built as is_built_of, is_event as is_event_of, is_key as is_key_of, is_life as is_life_of, is_limit as is_limit_of, is_plain as is_plain_of};
+ghost use Rattle.dkg_script.specs.InForm.{IsOfText, IsToldNothing, are_events as are_events_of, are_lives as are_lives_of, is_alone as is_alone_of, is_in_form as is_in_form_of, is_event as is_event_of, is_key as is_key_of, is_life as is_life_of, is_limit as is_limit_of, is_plain as is_plain_of};
 ghost use Rattle.dkg_script.specs.Inclusion.{IsFormOfInclusion};
 
 use dkg_ceremony::Mem;
@@ -77,9 +77,9 @@ fn are_lives(blocks: &[BlockLine], lives: &[Life]) -> bool
     true
 }
 
-#[tactic(auto, unfolding(crate::specs::Built::is_built))]
+#[tactic(auto, unfolding(crate::specs::InForm::is_in_form))]
 fn passes(script: &Script) -> bool
-    ensures exact { result ≡ is_built_of script.now }
+    ensures exact { result ≡ is_in_form_of script.now }
     ensures short { non_zero_u64_get script.now.config.blocks_per_epoch < 2 ^ 64 }
 {
     let _blocks_per_epoch = script.config.blocks_per_epoch.get();
@@ -91,8 +91,8 @@ fn passes(script: &Script) -> bool
 /// Whether a script is of the form that is run so far.
 ///
 /// The time grows linearly with the script.
-pub fn is_built(_alloc: Global, script: &Script) -> Mem<bool>
-    ensures exact { IfOk result (λ yes. yes ≡ is_built_of script.now) }
+pub fn is_in_form(_alloc: Global, script: &Script) -> Mem<bool>
+    ensures exact { IfOk result (λ yes. yes ≡ is_in_form_of script.now) }
     // What it asks of a script of a text is the form's.
     ensures form { IfOk result (λ yes. OnTrue yes (IsOfText script.now → IsFormOfInclusion script.now)) }
     // .. and nothing else, where the node is told nothing besides.

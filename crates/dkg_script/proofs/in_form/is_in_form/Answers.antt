@@ -1,5 +1,5 @@
 use Rattle.dkg_script.proofs.Formed.{told_form, told_other}
-use Rattle.dkg_script.proofs.built.is_built.Goals as goal
+use Rattle.dkg_script.proofs.in_form.is_in_form.Goals as goal
 
 pub returns-clause-form : goal.returns-clause-form
 returns-clause-form c = told_form c.args.script.now c.passes.result c.passes.ensures.exact c.passes.ensures.short
