@@ -32,8 +32,8 @@ pub enum Why {
 #[derive(Drop)]
 pub struct Restored {
     pub epoch: Epoch,
-    pub dealer: Key,
     pub public: Public,
+    pub dealer: Key,
     pub private: Private,
 }
 
