@@ -44,12 +44,13 @@ pub fn read_be16(input: &mut Reader<'_>) -> Result<u16, CodecError>
     Ok(u16::from_be_bytes([piece[0], piece[1]]))
 }
 
-/// So many keys that rise. The first that doesn't is `Invalid(Set)`, whatever follows.
+/// So many keys that rise. The first that doesn't is `Invalid(Set)`, whatever follows. It takes room for them at once, and for no more than there are bytes.
 pub fn read_keys(alloc: Global, input: &mut Reader<'_>, count: u32) -> Result<Vec<Key>, CodecError>
     ensures exact { ReadsBy (λ keys. keys.items) (keys_at count 0 input.old) result input.new }
     ensures rising { IfOk result (λ keys. (length keys.items ≡ count) × IsStrictlyIncreasing keys.items) }
 {
-    let mut keys = Vec::new(alloc);
+    let room = input.left().len().min(count as usize);
+    let mut keys = Vec::with_capacity(alloc, room)?;
     let mut least = 0u64;
     for _ in 0..count {
         let key = read_be32(input)?;
@@ -62,7 +63,7 @@ pub fn read_keys(alloc: Global, input: &mut Reader<'_>, count: u32) -> Result<Ve
     Ok(keys)
 }
 
-/// So many things, one after another.
+/// So many things, one after another, for which it takes room at once.
 pub fn read_many<T: Read + Drop>(
     alloc: Global,
     input: &mut Reader<'_>,
@@ -72,7 +73,8 @@ pub fn read_many<T: Read + Drop>(
     ensures exact { ReadsBy (λ made. made.items) (many_at (T.read_of cfg.now) count input.old) result input.new }
     ensures count { IfOk result (λ made. length made.items ≡ count) }
 {
-    let mut made = Vec::new(alloc);
+    let room = input.left().len().min(count as usize);
+    let mut made = Vec::with_capacity(alloc, room)?;
     for _ in 0..count {
         let one = T::read_cfg(alloc, input, cfg)?;
         made.push(one)?;

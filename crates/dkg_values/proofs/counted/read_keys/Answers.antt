@@ -7,7 +7,7 @@ use Rattle.dkg_values.proofs.counted.read_keys.Goals as goal
 
 pub returns-in_err-key-clause-exact : goal.returns-in_err-key-clause-exact
 returns-in_err-key-clause-exact c =
-    let p = err_from_is_err_and c.from_residual.result c.from_residual.ensures.1 in
+    let p = err_from_is_err_and c.from_residual-in_err-key.result c.from_residual-in_err-key.ensures.1 in
     rw (p.1, p.2) (keys_ends c.in_err-key.field-0.0 c.loop.keys.items c.args.count c.loop.counter c.loop.least c.loop.input (keys_at c.args.count 0 c.args.input.now) c.loop-test.true c.in_err-key.ensures.exact c.loop.invariant)
 
 pub returns-then-from-least-clause-exact : goal.returns-then-from-least-clause-exact

@@ -7,7 +7,7 @@ use Rattle.dkg_values.proofs.counted.read_many.Goals as goal
 
 pub returns-in_err-one-clause-exact : goal.returns-in_err-one-clause-exact
 returns-in_err-one-clause-exact g c =
-    let p = err_from_is_err_and c.from_residual.result c.from_residual.ensures.1 in
+    let p = err_from_is_err_and c.from_residual-in_err-one.result c.from_residual-in_err-one.ensures.1 in
     let read = g.T.Read.read_of c.args.cfg.now in
     rw (p.1, p.2) (many_ends read c.in_err-one.field-0.0 c.loop.made.items c.args.count c.loop.counter c.loop.input (many_at read c.args.count c.args.input.now) c.loop-test.true c.in_err-one.ensures c.loop.invariant.read)
 
