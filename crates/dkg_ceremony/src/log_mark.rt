@@ -64,7 +64,7 @@ fn entries_of(
     for player in players.as_slice() {
         entries.push(entry_of(*player, privates, acks))?;
     }
-    Ok(LogEntries::new(entries))
+    Ok(LogEntries::new(alloc, entries)?)
 }
 
 /// The log of a dealing, signed by its dealer.

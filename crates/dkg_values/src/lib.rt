@@ -12,6 +12,7 @@ mod memory;
 mod name;
 mod numbers;
 mod set;
+mod shared;
 mod uint;
 mod value;
 
@@ -27,5 +28,6 @@ pub use memory::{Mem, NoMemory};
 pub use name::Name;
 pub use numbers::{Element, Epoch, Height, Key, numbers_compare};
 pub use set::{NotRising, Set, SetIter};
+pub use shared::Shared;
 pub use uint::{read_u32, read_u64, uint_size, write_uint};
 pub use value::Value;

@@ -1,7 +1,7 @@
 use Rattle.std.proofs.Common.{◌≡◌, ◌+◌, ◌*◌, ◌≤◌, length, take}
 use Rattle.dkg_values.specs.Uint.{uint}
 use Rattle.dkg_ceremony.specs.LogEntries.{entries_size}
-use Rattle.dkg_ceremony.proofs.log_entries.LogEntriesEncodeSize.encode_size.Given as goal
+use Rattle.dkg_ceremony.proofs.log_entries.ListedEncodeSize.encode_size.Given as goal
 
 abbrev pub invariant-loop-entry : goal.invariant-loop-entry
 invariant-loop-entry l = record {
