@@ -13,7 +13,7 @@ ghost use Rattle.dkg_dealing.specs.Made.{Speaks};
 ghost use Rattle.dkg_dealing.specs.declared.stop.Stop.TheVariants.{Fault as Faulted};
 ghost use Rattle.dkg_inclusion.specs.InclusionOf.{artifact_of};
 ghost use Rattle.dkg_inclusion.specs.declared.told.EpochInfoResponse.TheVariants.{Available, Unavailable};
-ghost use Rattle.dkg_inclusion.specs.declared.told.Told.TheVariants.{Info as ToldInfo};
+ghost use Rattle.dkg_inclusion.specs.declared.told.Told.TheVariants.{Info as ToldInfo, Log as ToldLog};
 
 use crate::told::{EpochInfoResponse, Told};
 use dkg_artifact::Artifact;
@@ -21,11 +21,12 @@ use dkg_ceremony::encode;
 use dkg_dealing::Stop;
 use dkg_secrets::NumberMap;
 use dkg_types::{AnswerLine, Directory, Entry, EpochInfo, Payload, Transcript, Why};
-use dkg_values::{Blob, Mem, Value};
+use dkg_values::{Blob, Mem, Shared, Value};
 use std::alloc::Global;
 
 /// Tells that a request has no answer (`answers_none`).
 pub fn answer_none<Dir: Directory + Drop>(
+    alloc: Global,
     told: &mut NumberMap<Told<Dir>>,
     request: u64,
     why: Why,
@@ -41,11 +42,11 @@ pub fn answer_none<Dir: Directory + Drop>(
         answer: AnswerLine::Unavailable(why),
     })?;
     let response = EpochInfoResponse::Unavailable(why);
-    Ok(told_as(told, request, Told::Info(response))?)
+    Ok(told_info(alloc, told, request, response)?)
 }
 
 /// Keeps what a request was told (`with_told`).
-pub fn told_as<Dir: Directory + Drop>(
+fn told_as<Dir: Directory + Drop>(
     told: &mut NumberMap<Told<Dir>>,
     request: u64,
     its: Told<Dir>,
@@ -55,6 +56,34 @@ pub fn told_as<Dir: Directory + Drop>(
 {
     told.insert(request, its)?;
     Ok(())
+}
+
+/// Keeps the log that a request was told, or that there was none.
+pub fn told_log<Dir: Directory + Drop>(
+    alloc: Global,
+    told: &mut NumberMap<Told<Dir>>,
+    request: u64,
+    payload: Option<Payload<Dir>>,
+) -> Mem<()>
+    ensures done { OnOk result (told.new ≡ maps.insert told.old request (ToldLog payload)) }
+    ensures same { OnErr result (told.new ≡ told.old) }
+{
+    let payload = Shared::of(alloc, payload)?;
+    Ok(told_as(told, request, Told::Log(payload))?)
+}
+
+/// Keeps the answer that a final-block request was told.
+fn told_info<Dir: Directory + Drop>(
+    alloc: Global,
+    told: &mut NumberMap<Told<Dir>>,
+    request: u64,
+    response: EpochInfoResponse<Dir>,
+) -> Mem<()>
+    ensures done { OnOk result (told.new ≡ maps.insert told.old request (ToldInfo response)) }
+    ensures same { OnErr result (told.new ≡ told.old) }
+{
+    let response = Shared::of(alloc, response)?;
+    Ok(told_as(told, request, Told::Info(response))?)
 }
 
 /// What a final block carries by an info: it, or nothing (`info_payload`).
@@ -104,5 +133,5 @@ pub(crate) fn answer<Dir: Directory + Drop>(
         answer: AnswerLine::Available(line),
     })?;
     let response = EpochInfoResponse::Available(payload);
-    Ok(told_as(told, request, Told::Info(response))?)
+    Ok(told_info(alloc, told, request, response)?)
 }

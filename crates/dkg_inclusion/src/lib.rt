@@ -12,7 +12,7 @@ mod scanning;
 mod told;
 mod verifying;
 
-pub use answers::{answer_none, bytes_of, told_as};
+pub use answers::{answer_none, bytes_of, told_log};
 pub use artifacts::keep_artifact;
 pub use inclusion::{Hand, Inclusion};
 pub use requests::{ask, cancel, end, feed, work};

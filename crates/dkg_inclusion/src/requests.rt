@@ -110,7 +110,7 @@ pub fn ask<
                 alloc, ceremony, provider, terms, life, inclusion, devices, out,
             )
         }
-        Stage::Following => answer_none(&mut inclusion.told, request, Why::Following, out),
+        Stage::Following => answer_none(alloc, &mut inclusion.told, request, Why::Following, out),
     }
 }
 

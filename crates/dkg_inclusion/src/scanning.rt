@@ -287,7 +287,7 @@ pub(crate) fn take_answer<
 {
     match fed {
         Fed::Need => Ok(()),
-        Fed::Unavailable(why) => answer_none(&mut inclusion.told, request, why, out),
+        Fed::Unavailable(why) => answer_none(alloc, &mut inclusion.told, request, why, out),
         Fed::Logs(found) => {
             let logs = filled_by(alloc, canonical(alloc, life)?, &found)?;
             ask_for(

@@ -4,7 +4,7 @@ ghost use Rattle.dkg_inclusion.specs.InclusionOf.{posted_in};
 
 use dkg_secrets::NumberMap;
 use dkg_types::{Directory, Payload, Why};
-use dkg_values::{Mem, Value};
+use dkg_values::{Mem, Shared, Value};
 use std::alloc::Global;
 
 /// The answer to a final-block request.
@@ -15,14 +15,14 @@ pub enum EpochInfoResponse<Dir> {
     Unavailable(Why),
 }
 
-/// What a request was told last.
+/// What a request was told last. It lies apart, since a request that waits was told nothing yet, and takes no room for it so.
 #[derive(Drop)]
 pub enum Told<Dir> {
     /// A final-block request waits for its answer.
     Posted,
     /// The log that goes into the block, if one does.
-    Log(Option<Payload<Dir>>),
-    Info(EpochInfoResponse<Dir>),
+    Log(Shared<Option<Payload<Dir>>>),
+    Info(Shared<EpochInfoResponse<Dir>>),
 }
 
 /// A copy of a payload, if there is one.
@@ -73,19 +73,19 @@ impl<Dir: Directory + Drop> Value for EpochInfoResponse<Dir> {
 }
 
 impl<Dir: Directory + Drop> Value for Told<Dir> {
-    fn copy(&self, alloc: Global) -> Mem<Told<Dir>> {
+    fn copy(&self, _alloc: Global) -> Mem<Told<Dir>> {
         match self {
             Told::Posted => Ok(Told::Posted),
-            Told::Log(payload) => Ok(Told::Log(copy_of(alloc, payload)?)),
-            Told::Info(response) => Ok(Told::Info(response.copy(alloc)?)),
+            Told::Log(payload) => Ok(Told::Log(payload.share()?)),
+            Told::Info(response) => Ok(Told::Info(response.share()?)),
         }
     }
 
     fn same(&self, other: &Told<Dir>) -> bool {
         match (self, other) {
             (Told::Posted, Told::Posted) => true,
-            (Told::Log(one), Told::Log(two)) => is_same(one, two),
-            (Told::Info(one), Told::Info(two)) => one.same(two),
+            (Told::Log(one), Told::Log(two)) => is_same(one.get(), two.get()),
+            (Told::Info(one), Told::Info(two)) => one.get().same(two.get()),
             _ => false,
         }
     }

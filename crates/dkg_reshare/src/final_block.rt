@@ -364,6 +364,7 @@ fn share_for<Dir: Directory + Drop>(
 
 /// Answers the requests that are left: the final block came first (`answers_all`).
 fn answer_all<C: Ceremony, Dir: Directory + Drop>(
+    alloc: Global,
     inclusion: &mut Inclusion<C, Dir>,
     out: &mut Transcript,
 ) -> Result<(), Stop>
@@ -375,7 +376,13 @@ fn answer_all<C: Ceremony, Dir: Directory + Drop>(
     ensures memory { IfErr result (λ stop. stop ≡ Faulted OutOfMemory) }
 {
     while let Some(request) = inclusion.requests.pop() {
-        answer_none(&mut inclusion.told, request.number, Why::Finished, out)?;
+        answer_none(
+            alloc,
+            &mut inclusion.told,
+            request.number,
+            Why::Finished,
+            out,
+        )?;
     }
     Ok(())
 }
@@ -424,7 +431,7 @@ fn pass_on<C: Ceremony + Drop, R: Registrar, Dir: Directory + Drop, D: Disk, X: 
         → AreFit (non_zero_u32_get terms.now.limit) (D.image devices.new.disk.now) }
 {
     life.tip = Some(tip_of(block));
-    answer_all(inclusion, out)?;
+    answer_all(alloc, inclusion, out)?;
     inclusion.renew(alloc);
     set_up_committed(
         alloc, ceremony, signer, registrar, terms, life, devices, info, fence, out,

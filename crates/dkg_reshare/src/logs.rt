@@ -26,7 +26,7 @@ ghost use Rattle.dkg_reshare.specs.CarriedLogs.{CarriesWithin, cleared_of};
 
 use dkg_ceremony::{Ceremony, Round, SignedDealerLog};
 use dkg_dealing::{Life, Stage, Stop, Terms};
-use dkg_inclusion::{Inclusion, Told, bytes_of, told_as};
+use dkg_inclusion::{Inclusion, bytes_of, told_log};
 use dkg_journal::Disk;
 use dkg_store::{Devices, SecretStore, Store};
 use dkg_types::{Block, Directory, Entry, Fault, Payload, ReshareBlock, Transcript};
@@ -232,7 +232,7 @@ pub(crate) fn serve<C: Ceremony, Dir: Directory + Drop>(
         request,
         payload: line,
     })?;
-    told_as(&mut inclusion.told, request, Told::Log(payload))?;
+    told_log(alloc, &mut inclusion.told, request, payload)?;
     if !serves {
         return Ok(());
     }

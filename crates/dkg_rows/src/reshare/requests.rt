@@ -26,7 +26,10 @@ fn is_posted(told: Option<&Told<Unit>>) -> bool {
 
 /// Whether the answer is that no log is there.
 fn has_no_log(told: Option<&Told<Unit>>) -> bool {
-    matches!(told, Some(Told::Log(None)))
+    match told {
+        Some(Told::Log(log)) => log.get().is_none(),
+        _ => false,
+    }
 }
 
 /// Whether the answer is an info, which a copy keeps.
@@ -44,7 +47,7 @@ fn is_info(told: &Told<Unit>) -> bool {
     match told {
         Told::Info(response) => {
             matches!(
-                response,
+                response.get(),
                 EpochInfoResponse::Available(Some(Payload::EpochInfo(_)))
             )
         }
