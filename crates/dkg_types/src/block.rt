@@ -18,6 +18,7 @@ use dkg_ceremony::{
     CodecError, Digest, EncodeSize, Epoch, Height, Key, Mem, ModeVersion, Read, Reader, Spelled,
     Value, Write, read_byte, read_u64, uint_size, write_uint,
 };
+use dkg_values::Shared;
 use sha2::{Digest as Hashes, Sha256};
 use std::alloc::Global;
 use std::marker::Model;
@@ -49,9 +50,9 @@ pub trait ReshareBlock<Dir> {
         ensures { option_copied result ≡ carried self.now };
 }
 
-/// A block of the chain. Its digest is computed once, when it is made, and the type keeps that it is that of the block's bytes.
+/// What a block and its copies share. The digest is computed once, when a block is made, and the type keeps that it is that of the block's bytes.
 #[derive(Drop)]
-pub struct Block<Dir: Directory> {
+struct Parts<Dir: Directory> {
     context: Context,
     parent: Digest,
     height: Height,
@@ -59,7 +60,7 @@ pub struct Block<Dir: Directory> {
     digest: Digest,
 }
 
-impl<Dir: Directory> Model for Block<Dir> {
+impl<Dir: Directory> Model for Parts<Dir> {
     ghost use Rattle.std.specs.Prelude.{◌≡◌};
     ghost use Rattle.sha2.specs.Sha256.{sha256};
     ghost use Rattle.dkg_types.specs.BlockCodes.{block_bytes};
@@ -70,6 +71,18 @@ impl<Dir: Directory> Model for Block<Dir> {
     ghost view = { λ b. record { context = b.context; parent = b.parent; height = b.height; payload = b.payload; digest = b.digest } };
 
     ghost invariant = { λ b. b.digest ≡ sha256 (block_bytes Dir.spelling b.context b.parent b.height b.payload) };
+}
+
+/// A block of the chain, in memory that it shares with its copies. Its digest is that of its bytes.
+#[derive(Drop)]
+pub struct Block<Dir: Directory>(Shared<Parts<Dir>>);
+
+impl<Dir: Directory> Model for Block<Dir> {
+    ghost use Rattle.dkg_types.specs.Blocks.{Block as Seen};
+
+    ghost Value = { Seen Dir };
+
+    ghost view = { λ b. b.0 };
 }
 
 impl Spelled for Context {
@@ -208,6 +221,27 @@ fn block_digest<Dir: Directory>(
     Ok(digest_of(&out))
 }
 
+/// The parts of a block, with its digest.
+fn parts_of<Dir: Directory + Drop>(
+    alloc: Global,
+    context: Context,
+    parent: Digest,
+    height: Height,
+    payload: Option<Payload<Dir>>,
+) -> Mem<Parts<Dir>>
+    ensures { IfOk result (IsBlock Dir.spelling context parent height payload) }
+{
+    let payload = Apart::of(alloc, payload)?;
+    let digest = block_digest(alloc, &context, &parent, height, &payload)?;
+    Ok(Parts {
+        context,
+        parent,
+        height,
+        payload,
+        digest,
+    })
+}
+
 impl<Dir: Directory + Drop> Block<Dir> {
     pub fn new(
         alloc: Global,
@@ -218,15 +252,8 @@ impl<Dir: Directory + Drop> Block<Dir> {
     ) -> Mem<Block<Dir>>
         ensures { IfOk result (IsBlock Dir.spelling context parent height payload) }
     {
-        let payload = Apart::of(alloc, payload)?;
-        let digest = block_digest(alloc, &context, &parent, height, &payload)?;
-        Ok(Block {
-            context,
-            parent,
-            height,
-            payload,
-            digest,
-        })
+        let parts = parts_of(alloc, context, parent, height, payload)?;
+        Ok(Block(Shared::of(alloc, parts)?))
     }
 
     /// The first block of a chain: at height 0, without a payload, the zero digest as both its parents.
@@ -258,34 +285,8 @@ impl<Dir: Directory> Block<Dir> {
     }
 }
 
-impl<Dir: Directory> Block<Dir> {
-    pub fn context(&self) -> Context
-        ensures { result ≡ self.now.context }
-    {
-        self.context
-    }
-
-    /// The digest of the block below.
-    pub fn parent(&self) -> Digest
-        ensures { result ≡ self.now.parent }
-    {
-        self.parent
-    }
-
-    pub fn height(&self) -> Height
-        ensures { result ≡ self.now.height }
-    {
-        self.height
-    }
-
-    pub fn digest(&self) -> Digest
-        ensures { result ≡ self.now.digest }
-    {
-        self.digest
-    }
-
-    /// The info that the block carries.
-    pub fn epoch_info(&self) -> Option<&EpochInfo<Dir>>
+impl<Dir: Directory> Parts<Dir> {
+    fn epoch_info(&self) -> Option<&EpochInfo<Dir>>
         ensures { option_copied result ≡ info_of self.now.payload }
     {
         match self.payload.get() {
@@ -295,33 +296,74 @@ impl<Dir: Directory> Block<Dir> {
     }
 }
 
+impl<Dir: Directory> Block<Dir> {
+    pub fn context(&self) -> Context
+        ensures { result ≡ self.now.context }
+    {
+        let parts = self.0.get();
+        parts.context
+    }
+
+    /// The digest of the block below.
+    pub fn parent(&self) -> Digest
+        ensures { result ≡ self.now.parent }
+    {
+        let parts = self.0.get();
+        parts.parent
+    }
+
+    pub fn height(&self) -> Height
+        ensures { result ≡ self.now.height }
+    {
+        let parts = self.0.get();
+        parts.height
+    }
+
+    pub fn digest(&self) -> Digest
+        ensures { result ≡ self.now.digest }
+    {
+        let parts = self.0.get();
+        parts.digest
+    }
+
+    /// The info that the block carries.
+    pub fn epoch_info(&self) -> Option<&EpochInfo<Dir>>
+        ensures { option_copied result ≡ info_of self.now.payload }
+    {
+        self.0.get().epoch_info()
+    }
+}
+
 impl<Dir: Directory> ReshareBlock<Dir> for Block<Dir> {
     ghost carried = { λ block. block.payload };
 
     fn payload(&self) -> Option<&Payload<Dir>>
         ensures { option_copied result ≡ self.now.payload }
     {
-        self.payload.get()
+        let parts = self.0.get();
+        parts.payload.get()
     }
 }
 
-impl<Dir: Directory + Drop> Value for Block<Dir> {
-    fn copy(&self, _alloc: Global) -> Mem<Block<Dir>> {
-        Ok(Block {
-            context: self.context,
-            parent: self.parent,
-            height: self.height,
-            payload: self.payload.share()?,
-            digest: self.digest,
-        })
-    }
-
-    fn same(&self, other: &Block<Dir>) -> bool {
+impl<Dir: Directory + Drop> Parts<Dir> {
+    fn same(&self, other: &Parts<Dir>) -> bool
+        ensures { IsTrue result ↔ (self.now ≡ other.now) }
+    {
         self.context == other.context
             && self.parent == other.parent
             && self.height == other.height
             && is_same_payload(&self.payload, &other.payload)
             && self.digest == other.digest
+    }
+}
+
+impl<Dir: Directory + Drop> Value for Block<Dir> {
+    fn copy(&self, _alloc: Global) -> Mem<Block<Dir>> {
+        Ok(Block(self.0.share()?))
+    }
+
+    fn same(&self, other: &Block<Dir>) -> bool {
+        self.0.get().same(other.0.get())
     }
 }
 
@@ -335,10 +377,9 @@ fn carried_fits<Dir: Directory>(payload: &Apart<Dir>)
     }
 }
 
-impl<Dir: Directory> Block<Dir> {
-    /// A block may be read under the limits that it keeps to.
+impl<Dir: Directory> Parts<Dir> {
     #[tactic(auto, using(crate::specs::Within::block_fits))]
-    pub fn fits_limits(&self)
+    fn fits_limits(&self)
         ensures { (most version : ℕ) → BlockWithin Dir.matches_of most version self.now → BlockFits (PayloadFits (λ peers. Dir.fits (Dir.config_of peers)) Dir.matches_of most version) Dir.spelling self.now }
     {
         self.context.fits_limits();
@@ -346,6 +387,22 @@ impl<Dir: Directory> Block<Dir> {
         let _height = self.height.0;
         carried_fits(&self.payload);
     }
+}
+
+impl<Dir: Directory> Block<Dir> {
+    /// A block may be read under the limits that it keeps to.
+    pub fn fits_limits(&self)
+        ensures { (most version : ℕ) → BlockWithin Dir.matches_of most version self.now
+            → BlockFits (PayloadFits (λ peers. Dir.fits (Dir.config_of peers)) Dir.matches_of most version) Dir.spelling self.now }
+    {
+        self.0.get().fits_limits();
+    }
+}
+
+impl<Dir: Directory> Spelled for Parts<Dir> {
+    ghost use Rattle.dkg_types.specs.BlockCodes.{block_spelling};
+
+    ghost spelling = { block_spelling Dir.spelling };
 }
 
 impl<Dir: Directory> Spelled for Block<Dir> {
@@ -365,7 +422,7 @@ fn size_of_flagged<Dir: Directory>(payload: &Apart<Dir>) -> usize
     }
 }
 
-impl<Dir: Directory> EncodeSize for Block<Dir> {
+impl<Dir: Directory> EncodeSize for Parts<Dir> {
     ghost use Rattle.std.specs.Prelude.{◌≡◌, ◌+◌, ◌^◌, ◌≤◌, length};
     ghost use Rattle.dkg_types.specs.BlockCodes.{block_spelling};
 
@@ -381,13 +438,31 @@ impl<Dir: Directory> EncodeSize for Block<Dir> {
     }
 }
 
-impl<Dir: Directory> Write for Block<Dir> {
+impl<Dir: Directory> Write for Parts<Dir> {
     #[tactic(auto, unfolding(crate::specs::BlockCodes::block_bytes))]
     fn put(&self, out: &mut BytesMut) -> Mem<()> {
         self.context.put(out)?;
         self.parent.put(out)?;
         self.height.put(out)?;
         put_flagged(&self.payload, out)
+    }
+}
+
+impl<Dir: Directory> EncodeSize for Block<Dir> {
+    ghost use Rattle.std.specs.Prelude.{◌≡◌, ◌+◌, ◌^◌, ◌≤◌, length};
+    ghost use Rattle.dkg_types.specs.BlockCodes.{block_spelling};
+
+    fn encode_size(&self) -> usize
+        ensures size { result ≡ length (block_spelling Dir.spelling self.now) }
+        ensures bound { result ≤ 2 ^ 62 + 110 }
+    {
+        self.0.get().encode_size()
+    }
+}
+
+impl<Dir: Directory> Write for Block<Dir> {
+    fn put(&self, out: &mut BytesMut) -> Mem<()> {
+        self.0.get().put(out)
     }
 }
 
