@@ -59,6 +59,30 @@ impl<Dir: Directory> Request<Dir> {
     }
 }
 
+/// Makes room for a first block, and for no more, since many a request is fed no second one while it waits.
+fn make_room<Dir: Directory + Drop>(blocks: &mut Vec<Block<Dir>>) -> Mem<()>
+    ensures { blocks.new.items ≡ blocks.old.items }
+{
+    if blocks.is_empty() {
+        blocks.reserve_exact(1)?;
+    }
+    Ok(())
+}
+
+/// Adds a copy of a block.
+fn add<Dir: Directory + Drop>(
+    alloc: Global,
+    blocks: &mut Vec<Block<Dir>>,
+    block: &Block<Dir>,
+) -> Mem<()>
+    ensures { OnOk result (blocks.new.items ≡ blocks.old.items ++ block.now ∷ []) }
+{
+    let copy = block.copy(alloc)?;
+    make_room(blocks)?;
+    blocks.push(copy)?;
+    Ok(())
+}
+
 impl<Dir: Directory + Drop> Request<Dir> {
     /// Feeds a block, where the request is of this number and its ancestry has not ended.
     fn feed(&mut self, alloc: Global, number: u64, block: &Block<Dir>) -> Mem<()>
@@ -66,7 +90,7 @@ impl<Dir: Directory + Drop> Request<Dir> {
         ensures number { self.new.number ≡ self.old.number }
     {
         if self.number == number && !self.ended {
-            self.blocks.0.push(block.copy(alloc)?)?;
+            add(alloc, &mut self.blocks.0, block)?;
         }
         Ok(())
     }
