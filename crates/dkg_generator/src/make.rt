@@ -10,7 +10,8 @@ use crate::life::{life, put_events};
 use crate::plan::{EPOCHS, ME, Plan, plan_of};
 use dkg_ceremony::{Blob, Epoch, Height, Map, Mem, Mode, ModeVersion, Value};
 use dkg_text::{
-    BlockLine, BlockLines, Events, Life, Lives, PlayerLine, PlayerLines, Script, ScriptConfig,
+    BlockLine, BlockLines, Carried, Events, Life, Lives, PlayerLine, PlayerLines, Script,
+    ScriptConfig,
 };
 use dkg_types::{EpochInfo, Unit};
 use std::alloc::Global;
@@ -26,8 +27,8 @@ fn copied(alloc: Global, bytes: Option<&Blob>) -> Mem<Option<Blob>>
     }
 }
 
-/// What the block at a place carries.
-fn carried_at(alloc: Global, plan: &Plan, place: u64) -> Mem<Option<Blob>>
+/// The bytes that the block at a place carries.
+fn bytes_at(alloc: Global, plan: &Plan, place: u64) -> Mem<Option<Blob>>
     requires { place < 64 }
     ensures { IfOk result (λ made. made ≡ carried_at_of plan.now.first plan.now.next plan.now.logs.items place) }
 {
@@ -36,6 +37,17 @@ fn carried_at(alloc: Global, plan: &Plan, place: u64) -> Mem<Option<Blob>>
         63 => Ok(Some(plan.next.copy(alloc)?)),
         1..=31 => Ok(None),
         _ => copied(alloc, plan.logs.get(place as usize - 32)),
+    }
+}
+
+/// What the block at a place carries.
+fn carried_at(alloc: Global, plan: &Plan, place: u64) -> Mem<Option<Carried>>
+    requires { place < 64 }
+    ensures { IfOk result (λ made. made ≡ carried_at_of plan.now.first plan.now.next plan.now.logs.items place) }
+{
+    match bytes_at(alloc, plan, place)? {
+        Some(bytes) => Ok(Some(Carried::new(alloc, bytes)?)),
+        None => Ok(None),
     }
 }
 

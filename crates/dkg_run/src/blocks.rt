@@ -6,33 +6,38 @@ ghost use Rattle.dkg_ceremony.specs.Schedule.{epoch_of};
 ghost use Rattle.dkg_script.specs.Readings.{unit_payload};
 ghost use Rattle.dkg_lives.specs.Given.{AreBytes, block_on, blocks_in, parent_in, payload_in};
 
-use dkg_ceremony::{CodecError, Digest, Epoch, Height, Key, Mem, NoMemory, decode_cfg};
+use dkg_ceremony::{Digest, Epoch, Height, Key, Mem};
 use dkg_script::{BlockLine, Script, ScriptConfig};
+use dkg_text::Carried;
 use dkg_types::{Block, Context, Payload, Unit};
+use dkg_values::Shared;
 use std::alloc::Global;
 
 /// The payload that bytes spell, if they spell one.
-fn payload_in(alloc: Global, config: &ScriptConfig, bytes: &[u8]) -> Mem<Option<Payload<Unit>>>
+fn payload_in(
+    alloc: Global,
+    config: &ScriptConfig,
+    carried: &Carried,
+) -> Mem<Option<Shared<Payload<Unit>>>>
     ensures payload { IfOk result (λ payload. payload ≡ unit_payload
-        (record { limit = non_zero_u32_get config.now.limit; version = config.now.max_mode.0; addressed = false }) bytes.now) }
-    ensures bytes { IsBytes bytes.now }
+        (record { limit = non_zero_u32_get config.now.limit; version = config.now.max_mode.0; addressed = false }) carried.now) }
+    ensures bytes { IsBytes carried.now }
 {
-    let limits = (config.limit, config.max_mode);
-    match decode_cfg::<Payload<Unit>>(alloc, bytes, &limits) {
-        Ok(payload) => Ok(Some(payload)),
-        Err(CodecError::NoMemory) => Err(NoMemory),
-        Err(_) => Ok(None),
-    }
+    carried.payload(alloc, (config.limit, config.max_mode))
 }
 
 /// The payload of a block line, if it has one.
-fn payload_of(alloc: Global, config: &ScriptConfig, line: &BlockLine) -> Mem<Option<Payload<Unit>>>
+fn payload_of(
+    alloc: Global,
+    config: &ScriptConfig,
+    line: &BlockLine,
+) -> Mem<Option<Shared<Payload<Unit>>>>
     ensures payload { IfOk result (λ payload. payload ≡ payload_in config.now line.now.payload) }
     ensures bytes { IfSome line.now.payload IsBytes }
 {
     match &line.payload {
         None => Ok(None),
-        Some(payload) => payload_in(alloc, config, payload.as_slice()),
+        Some(carried) => payload_in(alloc, config, carried),
     }
 }
 
@@ -74,7 +79,7 @@ fn block_on(
         parent,
     };
     let payload = payload_of(alloc, config, line)?;
-    Block::new(alloc, context, parent, line.height, payload)
+    Block::sharing(alloc, context, parent, line.height, payload)
 }
 
 /// The blocks of a script, in the order of its lines.

@@ -1,6 +1,8 @@
 pub mod Allowed
 pub mod Asked
 pub mod PayloadKinds
+pub mod FoundPayloads
+pub mod Carrying
 pub mod FaultLines
 pub mod Fields
 pub mod Grammar

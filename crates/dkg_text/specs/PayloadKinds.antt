@@ -4,6 +4,7 @@ use Rattle.std.specs.Result.{result_ok}
 use Rattle.std.specs.Str.{bytes_eq}
 use Rattle.dkg_values.specs.Codec.{whole}
 use Rattle.dkg_values.specs.Rising.{keys_of}
+use Rattle.dkg_types.specs.declared.directory.Unit as directory
 use Rattle.dkg_types.specs.declared.payload.Payload.{Payload}
 use Rattle.dkg_types.specs.declared.payload.Payload.TheVariants.{DealerLog, EpochInfo}
 use Rattle.dkg_types.specs.AddressCodes.{addresses_at}
@@ -15,6 +16,10 @@ use Rattle.dkg_text.specs.declared.payload.PayloadKind.TheVariants.{Log, Info}
 abbrev pub kind_of : {Dir : Type 0} → Payload Dir → PayloadKind
 kind_of (DealerLog log) = Log
 kind_of (EpochInfo info) = Info
+
+-- the payload that bytes spell where directories say nothing, if they spell one
+abbrev pub unit_spelled : (limit version : ℕ) → List ℕ → Option (Payload directory.Unit)
+unit_spelled limit version bytes = result_ok (whole (payload_at (λ _. unit_at) (λ _ _. true) limit version bytes))
 
 -- what the bytes spell where directories say nothing, and where they hold addresses
 unfoldable pub unit_kind : (limit version : ℕ) → List ℕ → Option PayloadKind

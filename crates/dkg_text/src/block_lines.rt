@@ -1,11 +1,11 @@
 //! The lines of a script's blocks: each names an earlier one as its parent, or none, and may carry a payload.
 ghost use Rattle.std.specs.Prelude.{◌≡◌, ◌<◌, IfOk, IfSome, codes, length};
 ghost use Rattle.std.specs.Int.NonZero.{non_zero_u32_get};
-ghost use Rattle.dkg_text.specs.Grammar.{block_at, blocks_at, is_parent as is_parent_of, is_payload as is_payload_of, limit_of};
+ghost use Rattle.dkg_text.specs.Grammar.{block_at, blocks_at, is_parent as is_parent_of, is_payload, limit_of};
 ghost use Rattle.dkg_text.specs.Lines.{ReadsText, ReadsIf, begins};
 
+use crate::carried::Carried;
 use crate::lines::Lines;
-use crate::payload::carried_by;
 use crate::script::{BlockLine, BlockLines, ScriptConfig};
 use crate::stop::Stop;
 use dkg_ceremony::{Blob, Height, Mem};
@@ -32,21 +32,22 @@ fn is_parent(before: usize, parent: Option<u32>) -> bool
     }
 }
 
-/// Whether what a block carries is read under the limits.
-fn is_payload(
+/// What a block carries, and whether that is read under the limits.
+fn read_payload(
     alloc: Global,
     addressed: bool,
     config: &ScriptConfig,
-    payload: &Option<Blob>,
-) -> Mem<bool>
-    ensures { IfOk result (λ yes. yes ≡ is_payload_of addressed (limit_of config.now) config.now.max_mode.0 payload.now) }
+    payload: Option<Blob>,
+) -> Mem<(Option<Carried>, bool)>
+    ensures { IfOk result (λ made. (made.0 ≡ payload) × (made.1 ≡ is_payload addressed (limit_of config.now) config.now.max_mode.0 payload)) }
 {
     match payload {
         Some(bytes) => {
             let limits = (limit(config), config.max_mode);
-            Ok(carried_by(alloc, addressed, limits, bytes.as_slice())?.is_some())
+            let (carried, is_read) = Carried::read(alloc, addressed, limits, bytes)?;
+            Ok((Some(carried), is_read))
         }
-        None => Ok(true),
+        None => Ok((None, true)),
     }
 }
 
@@ -67,7 +68,8 @@ fn read_block_after(
     else {
         return Ok(None);
     };
-    if is_parent(done.len(), parent) && is_payload(alloc, addressed, config, &payload)? {
+    let (payload, is_read) = read_payload(alloc, addressed, config, payload)?;
+    if is_parent(done.len(), parent) && is_read {
         Ok(Some(BlockLine {
             height,
             parent,

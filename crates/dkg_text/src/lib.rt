@@ -6,6 +6,7 @@
 
 mod asked;
 mod block_lines;
+mod carried;
 mod config_lines;
 mod error;
 mod event_lines;
@@ -26,6 +27,7 @@ mod text;
 mod words;
 mod write;
 
+pub use carried::Carried;
 pub use error::ScriptError;
 pub use events::Events;
 pub use fields::number;

@@ -5,6 +5,7 @@
 //! bytes that decode; numbers of blocks count the block lines from 0.
 ghost use Rattle.std.specs.Prelude.{◌≡◌};
 
+use crate::carried::Carried;
 use crate::events::Events;
 use crate::held::{Ancestry, MessageBytes};
 use dkg_ceremony::{Blob, Epoch, Height, Key, Map, Mode, ModeVersion, Set};
@@ -13,7 +14,7 @@ use std::marker::Model;
 use std::num::{NonZeroU32, NonZeroU64};
 
 /// A run of one node: its configuration, the blocks and the lives, in order.
-#[derive(Debug, Drop)]
+#[derive(Drop)]
 pub struct Script {
     /// Whether directories are `Addresses`; else they are `Unit`.
     pub addressed: bool,
@@ -63,16 +64,16 @@ pub struct ProbeLine {
 }
 
 /// A block: its parent is an earlier block's number, its payload is encoded.
-#[derive(Debug, Drop)]
+#[derive(Drop)]
 pub struct BlockLine {
     pub height: Height,
     pub parent: Option<u32>,
     pub view: u64,
-    pub payload: Option<Blob>,
+    pub payload: Option<Carried>,
 }
 
 /// Lines of blocks, which contracts see as a list.
-#[derive(Debug, Drop)]
+#[derive(Drop)]
 pub struct BlockLines(pub Vec<BlockLine>);
 
 /// One life, from an opening to a stop.

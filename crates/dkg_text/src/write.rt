@@ -6,6 +6,7 @@ ghost use Rattle.std.specs.List.{flat_map};
 ghost use Rattle.dkg_text.specs.Fields.{bytes_field, number_field};
 ghost use Rattle.dkg_text.specs.Writing.{address_fields, address_line, anchor_line, block_line, bytes_or_dash, config_text, cut_line, event_line, event_text, held_line, life_text, limits_text, mode_number, number_or_dash, numbers_fields, oneshot_line, opening_text, players_line, probe_line, provided_text, socket_fields, start_text, sync_line, text_of, text_or_none};
 
+use crate::carried::Carried;
 use crate::events::Events;
 use crate::script::{
     Anchor, BlockLine, Cut, Event, Life, PlayerLine, ProbeLine, Script, ScriptConfig, SyncLine,
@@ -168,11 +169,11 @@ fn put_number_or_dash(text: &mut Text, number: Option<u64>) -> Mem<()>
     }
 }
 
-fn put_bytes_or_dash(text: &mut Text, bytes: &Option<Blob>) -> Mem<()>
-    ensures { OnOk result (text.new ≡ text.old ++ bytes_or_dash bytes.now) }
+fn put_carried(text: &mut Text, carried: &Option<Carried>) -> Mem<()>
+    ensures { OnOk result (text.new ≡ text.old ++ bytes_or_dash carried.now) }
 {
-    match bytes {
-        Some(bytes) => text.bytes(bytes.as_slice()),
+    match carried {
+        Some(bytes) => bytes.put(text),
         None => text.word(b"-"),
     }
 }
@@ -238,7 +239,7 @@ fn put_block(text: &mut Text, block: &BlockLine) -> Mem<()>
     text.number(block.height.0)?;
     put_parent(text, block.parent)?;
     text.number(block.view)?;
-    put_bytes_or_dash(text, &block.payload)?;
+    put_carried(text, &block.payload)?;
     text.put(b"\n")
 }
 

@@ -33,6 +33,13 @@ impl<Dir: Drop> Apart<Dir> {
 }
 
 impl<Dir> Apart<Dir> {
+    /// What lies apart already.
+    pub(crate) fn held(payload: Option<Shared<Payload<Dir>>>) -> Apart<Dir>
+        ensures { result ≡ payload }
+    {
+        Apart(payload)
+    }
+
     pub(crate) fn get(&self) -> Option<&Payload<Dir>>
         ensures { option_copied result ≡ self.now }
     {

@@ -227,11 +227,10 @@ fn parts_of<Dir: Directory + Drop>(
     context: Context,
     parent: Digest,
     height: Height,
-    payload: Option<Payload<Dir>>,
+    payload: Apart<Dir>,
 ) -> Mem<Parts<Dir>>
     ensures { IfOk result (IsBlock Dir.spelling context parent height payload) }
 {
-    let payload = Apart::of(alloc, payload)?;
     let digest = block_digest(alloc, &context, &parent, height, &payload)?;
     Ok(Parts {
         context,
@@ -252,7 +251,22 @@ impl<Dir: Directory + Drop> Block<Dir> {
     ) -> Mem<Block<Dir>>
         ensures { IfOk result (IsBlock Dir.spelling context parent height payload) }
     {
+        let payload = Apart::of(alloc, payload)?;
         let parts = parts_of(alloc, context, parent, height, payload)?;
+        Ok(Block(Shared::of(alloc, parts)?))
+    }
+
+    /// A block of a payload in memory that it shares.
+    pub fn sharing(
+        alloc: Global,
+        context: Context,
+        parent: Digest,
+        height: Height,
+        payload: Option<Shared<Payload<Dir>>>,
+    ) -> Mem<Block<Dir>>
+        ensures { IfOk result (IsBlock Dir.spelling context parent height payload) }
+    {
+        let parts = parts_of(alloc, context, parent, height, Apart::held(payload))?;
         Ok(Block(Shared::of(alloc, parts)?))
     }
 
