@@ -378,7 +378,8 @@ fn halves_are_spelled(rt: HostRuntime) -> Result<(), Fail> {
     let bytes = encode(rt.alloc(), &Private(element))?;
     is(&rt, bytes.as_slice(), [1, 2].as_slice());
     let elements = [element, element].to_vec(rt.alloc())?;
-    let bytes = encode(rt.alloc(), &Public::new(elements))?;
+    let public = Public::new(rt.alloc(), elements)?;
+    let bytes = encode(rt.alloc(), &public)?;
     is(&rt, bytes.as_slice(), [2, 1, 2, 1, 2].as_slice());
     Ok(())
 }

@@ -74,7 +74,7 @@ fn sum(
         i -= 1;
         add_times(&mut sum, weights[i], public_of(logs, selected[i]));
     }
-    Ok(Public::new(sum))
+    Ok(Public::new(alloc, sum)?)
 }
 
 /// Whether a dealer's log reveals the player at a place.

@@ -96,7 +96,7 @@ fn polynomial(alloc: Global, again: &Option<Element>, seed: &Seed, count: u32) -
     for index in 0..count {
         elements.push(dealt(again, seed, index))?;
     }
-    Ok(Public::new(elements))
+    Ok(Public::new(alloc, elements)?)
 }
 
 /// The private half of each player.

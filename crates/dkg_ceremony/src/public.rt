@@ -1,31 +1,64 @@
 //! The public half of a dealing.
 //!
 //! A dealer sends it to every player; a sharing has one as its polynomial.
-ghost use Rattle.std.specs.Prelude.{◌≡◌, ℕ, ◌+◌, ◌*◌, ◌<◌, ◌≤◌, ◌^◌, length, slice_index, vec_len};
-ghost use Rattle.dkg_ceremony.specs.Publics.{IsPublic};
+ghost use Rattle.std.specs.Prelude.{◌≡◌, ◌↔◌, ℕ, ◌+◌, ◌*◌, ◌<◌, ◌≤◌, ◌^◌, ◌++◌, IfOk, IsTrue, OnErr, OnOk, length, slice_index, vec_len};
+ghost use Rattle.dkg_values.specs.Codec.{StandsInFront};
 ghost use Rattle.dkg_values.specs.Lists.{public_spelling, PublicFits};
+ghost use Rattle.dkg_ceremony.specs.Coefficients.{coefficients};
+ghost use Rattle.dkg_ceremony.specs.Publics.{IsPublic};
 
 use bytes::{BufMut, BytesMut};
 use dkg_values::{
-    CodecError, Element, EncodeSize, Mem, Read, Reader, Spelled, Value, Write, read_count,
+    CodecError, Element, EncodeSize, Mem, Read, Reader, Shared, Spelled, Value, Write, read_count,
     read_many, uint_size, write_uint,
 };
 use std::alloc::Global;
 use std::marker::Model;
 
-/// The coefficients of a polynomial, from the constant one on: at least one and fewer than 2^32, which contracts see as a list.
-#[derive(Debug, Drop)]
-pub struct Public(pub Vec<Element>);
+/// The most coefficients that lie in a public half itself. With them it takes 16 bytes, as where they lie apart.
+const FEW: usize = 6;
 
-impl Model for Public {
-    ghost use Rattle.std.specs.Prelude.{List, ℕ};
-    ghost use Rattle.dkg_ceremony.specs.Publics.{IsPublic};
+/// So many coefficients, and zeros behind them.
+#[derive(Debug, Drop)]
+struct Short {
+    count: u8,
+    elements: [Element; 6],
+}
+
+impl Model for Short {
+    ghost use Rattle.std.specs.Prelude.{List, ℕ, ◌≤◌, take};
 
     ghost Value = { List ℕ };
 
-    ghost view = { λ p. p.0.items };
+    ghost view = { λ s. take s.count s.elements };
 
-    ghost invariant = { λ p. IsPublic p.0.items };
+    ghost invariant = { λ s. s.count ≤ 6 };
+}
+
+/// Where the coefficients lie: few of them in their place, and many apart, in memory that copies share.
+#[derive(Debug, Drop)]
+enum Form {
+    Few(Short),
+    Many(Shared<Vec<Element>>),
+}
+
+/// The coefficients of a polynomial, from the constant one on: at least one and fewer than 2^32, which contracts see as a list.
+#[derive(Debug, Drop)]
+pub struct Public {
+    form: Form,
+}
+
+impl Model for Public {
+    ghost use Rattle.std.specs.Prelude.{List, ℕ};
+
+    ghost Value = { List ℕ };
+
+    ghost use Rattle.dkg_ceremony.specs.Coefficients.{coefficients};
+    ghost use Rattle.dkg_ceremony.specs.Publics.{IsPublic};
+
+    ghost view = { λ p. coefficients p.form };
+
+    ghost invariant = { λ p. IsPublic (coefficients p.form) };
 }
 
 /// Each element is below 65,521: to know it, each is read.
@@ -37,15 +70,139 @@ fn known(elements: &[Element])
     }
 }
 
+fn zero() -> Element
+    ensures { result ≡ 0 }
+{
+    match Element::new(0) {
+        Some(element) => element,
+        None => unreachable!(),
+    }
+}
+
+/// The element at a place, and zero behind the last.
+#[tactic(auto, using(std::proofs::lemmas::List::get_or_past))]
+fn coefficient(elements: &[Element], place: usize) -> Element
+    ensures { result ≡ slice_index elements.now place }
+{
+    if place < elements.len() {
+        elements[place]
+    } else {
+        zero()
+    }
+}
+
+impl Short {
+    fn of(elements: &[Element]) -> Short
+        requires { length elements.now ≤ 6 }
+        ensures { result ≡ elements.now }
+    {
+        Short {
+            count: elements.len() as u8,
+            elements: [
+                coefficient(elements, 0),
+                coefficient(elements, 1),
+                coefficient(elements, 2),
+                coefficient(elements, 3),
+                coefficient(elements, 4),
+                coefficient(elements, 5),
+            ],
+        }
+    }
+
+    fn as_slice(&self) -> &[Element]
+        ensures items { result.now ≡ self.now }
+        ensures few { length result.now ≤ 6 }
+    {
+        let (elements, _zeros) = self.elements.split_at(self.count as usize);
+        elements
+    }
+}
+
+impl Form {
+    fn of(alloc: Global, elements: Vec<Element>) -> Mem<Form>
+        ensures { IfOk result (λ form. coefficients form ≡ elements.items) }
+    {
+        if elements.len() <= FEW {
+            return Ok(Form::Few(Short::of(&elements)));
+        }
+        Ok(Form::Many(Shared::of(alloc, elements)?))
+    }
+
+    fn as_slice(&self) -> &[Element]
+        ensures { result.now ≡ coefficients self.now }
+    {
+        match self {
+            Form::Few(short) => short.as_slice(),
+            Form::Many(elements) => elements.get().as_slice(),
+        }
+    }
+
+    fn share(&self) -> Mem<Form>
+        ensures { IfOk result (λ form. coefficients form ≡ coefficients self.now) }
+    {
+        match self {
+            Form::Few(short) => Ok(Form::Few(Short::of(short.as_slice()))),
+            Form::Many(elements) => Ok(Form::Many(elements.share()?)),
+        }
+    }
+}
+
+/// The polynomial of coefficients that lie somewhere.
+fn formed(form: Form) -> Public
+    requires { IsPublic (coefficients form) }
+    ensures { result ≡ coefficients form }
+{
+    Public { form }
+}
+
+/// The polynomial of these coefficients.
+fn public_of(alloc: Global, elements: Vec<Element>) -> Mem<Public>
+    requires { IsPublic elements.items }
+    ensures { IfOk result (λ made. made ≡ elements.items) }
+{
+    let form = Form::of(alloc, elements)?;
+    Ok(formed(form))
+}
+
+/// Whether both are the same coefficients.
+fn are_same(one: &[Element], other: &[Element]) -> bool
+    ensures { IsTrue result ↔ (one.now ≡ other.now) }
+{
+    one == other
+}
+
+/// How many bytes coefficients take.
+#[tactic(auto, using(dkg_values::specs::ListGrammar::public_size))]
+fn size_of_all(elements: &[Element]) -> usize
+    requires { length elements.now < 2 ^ 32 }
+    ensures size { result ≡ length (public_spelling elements.now) }
+    ensures bound { result ≤ 2 ^ 34 }
+    ensures limit { (most : ℕ) → length elements.now ≤ most → result ≤ 5 + 2 * most }
+{
+    uint_size(elements.len() as u64) + 2 * elements.len()
+}
+
+/// Writes coefficients.
+fn put_all(elements: &[Element], out: &mut BytesMut) -> Mem<()>
+    ensures ok { OnOk result (out.new.items ≡ out.old.items ++ public_spelling elements.now) }
+    ensures err { OnErr result (StandsInFront out.old.items out.new.items) }
+{
+    write_uint(out, elements.len() as u64)?;
+    for element in elements {
+        out.put_u16(element.get())?;
+    }
+    Ok(())
+}
+
 impl Public {
     /// The polynomial of these coefficients.
-    pub fn new(elements: Vec<Element>) -> Public
+    pub fn new(alloc: Global, elements: Vec<Element>) -> Mem<Public>
         requires some { 1 ≤ vec_len elements }
         requires in_bound { vec_len elements < 2 ^ 32 }
-        ensures { result ≡ elements.items }
+        ensures { IfOk result (λ made. made ≡ elements.items) }
     {
         known(&elements);
-        Public(elements)
+        public_of(alloc, elements)
     }
 
     /// The coefficients, from the constant one on.
@@ -53,7 +210,7 @@ impl Public {
         ensures items { result.now ≡ self.now }
         ensures kept { IsPublic self.now }
     {
-        &self.0
+        self.form.as_slice()
     }
 
     /// A polynomial may be read under each limit that is no less than its length.
@@ -66,13 +223,13 @@ impl Public {
 }
 
 impl Value for Public {
-    fn copy(&self, alloc: Global) -> Mem<Public> {
-        let elements = Vec::from_slice(alloc, &self.0)?;
-        Ok(Public(elements))
+    fn copy(&self, _alloc: Global) -> Mem<Public> {
+        let form = self.form.share()?;
+        Ok(formed(form))
     }
 
     fn same(&self, other: &Public) -> bool {
-        self.0 == other.0
+        are_same(self.as_slice(), other.as_slice())
     }
 }
 
@@ -83,23 +240,18 @@ impl Spelled for Public {
 }
 
 impl EncodeSize for Public {
-    #[tactic(auto, using(dkg_values::specs::ListGrammar::public_size))]
     fn encode_size(&self) -> usize
         ensures size { result ≡ length (public_spelling self.now) }
         ensures bound { result ≤ 2 ^ 34 }
         ensures limit { (most : ℕ) → length self.now ≤ most → result ≤ 5 + 2 * most }
     {
-        uint_size(self.0.len() as u64) + 2 * self.0.len()
+        size_of_all(self.as_slice())
     }
 }
 
 impl Write for Public {
     fn put(&self, out: &mut BytesMut) -> Mem<()> {
-        write_uint(out, self.0.len() as u64)?;
-        for element in &self.0 {
-            out.put_u16(element.get())?;
-        }
-        Ok(())
+        put_all(self.as_slice(), out)
     }
 }
 
@@ -119,6 +271,6 @@ impl Read for Public {
         let count = read_count(input, 1, *cfg)?;
         let elements = read_many::<Element>(alloc, input, count, &())?;
         known(&elements);
-        Ok(Public(elements))
+        Ok(public_of(alloc, elements)?)
     }
 }

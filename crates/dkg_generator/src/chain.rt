@@ -54,7 +54,7 @@ fn polynomial(alloc: Global, number: u64) -> Mem<Public>
     for index in 0..5 {
         elements.push(coefficient(number, index))?;
     }
-    Ok(Public::new(elements))
+    Ok(Public::new(alloc, elements)?)
 }
 
 /// The info that the first block carries.

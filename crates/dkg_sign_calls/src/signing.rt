@@ -26,7 +26,7 @@ fn sharing(alloc: Global) -> Result<Sharing, Fail> {
     Ok(Sharing {
         mode: Mode::NonZeroCounter,
         total: 4,
-        poly: Public::new(elements),
+        poly: Public::new(alloc, elements)?,
     })
 }
 

@@ -20,7 +20,7 @@ pub(crate) fn public_of(alloc: Global, coefficients: [u16; 3]) -> Result<Public,
 {
     let [a, b, c] = coefficients;
     let elements = vec![in alloc; element(a)?, element(b)?, element(c)?]?;
-    Ok(Public::new(elements))
+    Ok(Public::new(alloc, elements)?)
 }
 
 /// Records a dealing, and prunes behind it. Whether the prune failed, and how many dealings are kept.

@@ -8,7 +8,7 @@ use std::marker::Model;
 use std::sync::Arc;
 
 /// A value in memory that it shares with its copies: a copy is a pointer. Contracts see it as if it lay in its place.
-#[derive(Drop)]
+#[derive(Debug, Drop)]
 pub struct Shared<T> {
     held: Arc<T, Global>,
 }

@@ -39,11 +39,12 @@ fn private(number: u16) -> Result<Private, Fail> {
 
 fn public(alloc: Global) -> Result<Public, Fail> {
     let elements = vec![in alloc; element(15)?, element(7)?, element(1)?]?;
-    Ok(Public::new(elements))
+    Ok(Public::new(alloc, elements)?)
 }
 
 fn constant(alloc: Global) -> Result<Public, Fail> {
-    Ok(Public::new(vec![in alloc; element(5)?]?))
+    let elements = vec![in alloc; element(5)?]?;
+    Ok(Public::new(alloc, elements)?)
 }
 
 fn blob(alloc: Global) -> Result<Blob, Fail> {
