@@ -103,12 +103,12 @@ fn payload_of<Dir: Directory + Drop>(
 pub fn bytes_of<Dir: Directory + Drop>(
     alloc: Global,
     payload: &Option<Payload<Dir>>,
-) -> Mem<Option<Blob>>
+) -> Mem<Option<Shared<Blob>>>
     ensures { IfOk result (λ made. made ≡ option_map (payload_spelling Dir.spelling) payload.now) }
 {
     match payload {
         None => Ok(None),
-        Some(payload) => Ok(Some(encode(alloc, payload)?)),
+        Some(payload) => Ok(Some(Shared::of(alloc, encode(alloc, payload)?)?)),
     }
 }
 

@@ -23,6 +23,7 @@ use dkg_types::{
     Block, BlockedWhy, Directory, Entry, EpochInfo, Finalization, Manager, Scheme, TrackError,
     Transcript,
 };
+use dkg_values::Shared;
 use std::alloc::Global;
 use std::num::NonZeroU32;
 
@@ -246,7 +247,7 @@ fn resolve<Dir: Directory + Drop>(
     ensures kept { OnErr result (state.new.known ≡ state.old.known) }
 {
     let info = info_blob(alloc, &artifact.info)?;
-    let floor = encode(alloc, &artifact.floor)?;
+    let floor = Shared::of(alloc, encode(alloc, &artifact.floor)?)?;
     out.push(Entry::Artifact { info, floor })?;
     state.subscribers = 0;
     state.awaited = None;

@@ -323,7 +323,7 @@ fn line(alloc: Global, entry: &Entry) -> Result<String, Fail> {
         }
         Entry::Artifact { info, floor } => {
             let info = hex::encode(alloc, info.as_slice())?;
-            let floor = hex::encode(alloc, floor.as_slice())?;
+            let floor = hex::encode(alloc, floor.get().as_slice())?;
             Ok(format!(in alloc; ">artifact {info} {floor}")?)
         }
         _ => Err(Fail::from("another entry")),

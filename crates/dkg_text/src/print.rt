@@ -12,6 +12,7 @@ use dkg_ceremony::{Ack, Blob, Epoch, Height, Key, Mem, Phase, Private, Public, S
 use dkg_types::{
     AnswerLine, BlockedWhy, Entry, Part, PreparedLine, Restored, RestoredList, Role, Verdict, Why,
 };
+use dkg_values::Shared;
 use std::alloc::Global;
 
 /// The fields of a dealing: its epoch, whom it is from or to, and its two halves.
@@ -143,12 +144,22 @@ fn put_or(text: &mut Text, bytes: &Option<Blob>, none: &[u8]) -> Mem<()>
     }
 }
 
-fn put_log(text: &mut Text, request: u64, payload: &Option<Blob>) -> Mem<()>
+/// The same of bytes that lie apart.
+fn put_shared(text: &mut Text, bytes: &Option<Shared<Blob>>, none: &[u8]) -> Mem<()>
+    ensures { OnOk result (text.new ≡ text.old ++ field_or bytes.now none.now) }
+{
+    match bytes {
+        Some(bytes) => text.bytes(bytes.get().as_slice()),
+        None => text.word(none),
+    }
+}
+
+fn put_log(text: &mut Text, request: u64, payload: &Option<Shared<Blob>>) -> Mem<()>
     ensures { OnOk result (text.new ≡ text.old ++ line_of (Entry.Log request payload.now)) }
 {
     text.put(b"log")?;
     text.number(request)?;
-    put_or(text, payload, b"none")
+    put_shared(text, payload, b"none")
 }
 
 fn put_why(text: &mut Text, why: Why) -> Mem<()>
@@ -187,7 +198,7 @@ fn put_answer_line(text: &mut Text, answer: &AnswerLine) -> Mem<()>
     ensures { OnOk result (text.new ≡ text.old ++ answer_fields answer.now) }
 {
     match answer {
-        AnswerLine::Available(payload) => put_or(text, payload, b"none"),
+        AnswerLine::Available(payload) => put_shared(text, payload, b"none"),
         AnswerLine::Unavailable(why) => put_unavailable(text, *why),
     }
 }
@@ -257,12 +268,12 @@ fn put_sent(text: &mut Text, to: Option<Key>, bytes: &Blob) -> Mem<()>
     text.bytes(bytes.as_slice())
 }
 
-fn put_artifact(text: &mut Text, info: &Blob, floor: &Blob) -> Mem<()>
+fn put_artifact(text: &mut Text, info: &Blob, floor: &Shared<Blob>) -> Mem<()>
     ensures { OnOk result (text.new ≡ text.old ++ line_of (Entry.Artifact info.now floor.now)) }
 {
     text.put(b"artifact")?;
     text.bytes(info.as_slice())?;
-    text.bytes(floor.as_slice())
+    text.bytes(floor.get().as_slice())
 }
 
 fn put_call(text: &mut Text, caller: u64, line: &Blob) -> Mem<()>

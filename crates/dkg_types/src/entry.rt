@@ -4,6 +4,7 @@ ghost use Rattle.std.specs.Prelude.{◌≡◌, ◌↔◌, IfOk, IsTrue};
 
 use crate::fault::Fault;
 use dkg_ceremony::{Ack, Blob, Epoch, Height, Key, Mem, Phase, Private, Public, Share, Value};
+use dkg_values::Shared;
 use std::alloc::Global;
 use std::marker::Model;
 
@@ -90,7 +91,7 @@ pub enum BlockedWhy {
 /// The answer to a final-block request; a payload stands as its encoding.
 #[derive(Drop)]
 pub enum AnswerLine {
-    Available(Option<Blob>),
+    Available(Option<Shared<Blob>>),
     Unavailable(Why),
 }
 
@@ -109,7 +110,7 @@ pub enum Verdict {
     Unresolved,
 }
 
-/// One thing that a run tells. What is printed as an encoding is a `Blob` of it.
+/// One thing that a run tells. What is printed as an encoding is a `Blob` of it, which lies apart where the entry would be larger than 48 bytes with it.
 #[derive(Drop)]
 pub enum Entry {
     /// A life was opened, and these dealings were found.
@@ -161,7 +162,7 @@ pub enum Entry {
     /// The answer to a log request.
     Log {
         request: u64,
-        payload: Option<Blob>,
+        payload: Option<Shared<Blob>>,
     },
     /// The answer to a final-block request.
     Answer {
@@ -203,7 +204,7 @@ pub enum Entry {
     /// The probe knows the artifact.
     Artifact {
         info: Blob,
-        floor: Blob,
+        floor: Shared<Blob>,
     },
     /// A caller's turn began; the line is the event's text.
     Call {
@@ -263,7 +264,7 @@ impl Value for RestoredList {
     }
 }
 
-fn copy_of(alloc: Global, encoding: &Option<Blob>) -> Mem<Option<Blob>>
+fn copy_of<T: Value>(alloc: Global, encoding: &Option<T>) -> Mem<Option<T>>
     ensures { IfOk result (λ made. made ≡ encoding.now) }
 {
     match encoding {
@@ -272,7 +273,7 @@ fn copy_of(alloc: Global, encoding: &Option<Blob>) -> Mem<Option<Blob>>
     }
 }
 
-fn are_same(one: &Option<Blob>, other: &Option<Blob>) -> bool
+fn are_same<T: Value>(one: &Option<T>, other: &Option<T>) -> bool
     ensures { IsTrue result ↔ (one.now ≡ other.now) }
 {
     match (one, other) {

@@ -8,6 +8,7 @@ use dkg_types::{
     AnswerLine, BlockedWhy, BoxedPublic, ConfigCause, Entry, Fault, LocalCause, Part,
     ParticipantsCause, ParticipantsError, PreparedLine, Restored, RestoredList, Role, Verdict, Why,
 };
+use dkg_values::Shared;
 use std::alloc::Global;
 use std::process::Abort;
 use std::test::Fail;
@@ -49,6 +50,10 @@ fn constant(alloc: Global) -> Result<Public, Fail> {
 
 fn blob(alloc: Global) -> Result<Blob, Fail> {
     Ok(Blob::new([0u8, 171, 255].to_vec(alloc)?))
+}
+
+fn blob_apart(alloc: Global) -> Result<Shared<Blob>, Fail> {
+    Ok(Shared::of(alloc, blob(alloc)?)?)
 }
 
 fn dealing(epoch: u64, dealer: u32, public: Public, private: Private) -> Restored {
@@ -262,7 +267,7 @@ answer 3 unavailable held
 fn answers_show_payloads(rt: HostRuntime) -> Result<(), Fail> {
     let answer = AnswerLine::Available(None);
     shows(&rt, Entry::Answer { request: 1, answer }, "answer 1 none\n")?;
-    let answer = AnswerLine::Available(Some(blob(rt.alloc())?));
+    let answer = AnswerLine::Available(Some(blob_apart(rt.alloc())?));
     let entry = Entry::Answer { request: 2, answer };
     shows(&rt, entry, "answer 2 00abff\n")
 }
@@ -270,7 +275,7 @@ fn answers_show_payloads(rt: HostRuntime) -> Result<(), Fail> {
 #[test]
 fn requests_show_their_bytes(rt: HostRuntime) -> Result<(), Fail> {
     let request = 8;
-    let payload = Some(blob(rt.alloc())?);
+    let payload = Some(blob_apart(rt.alloc())?);
     shows(&rt, Entry::Log { request, payload }, "log 8 00abff\n")?;
     let payload = None;
     shows(&rt, Entry::Log { request, payload }, "log 8 none\n")
@@ -313,7 +318,7 @@ fn the_probe_shows_its_bytes(rt: HostRuntime) -> Result<(), Fail> {
 #[test]
 fn artifacts_show_their_bytes(rt: HostRuntime) -> Result<(), Fail> {
     let info = blob(rt.alloc())?;
-    let floor = blob(rt.alloc())?;
+    let floor = blob_apart(rt.alloc())?;
     let entry = Entry::Artifact { info, floor };
     shows(&rt, entry, "artifact 00abff 00abff\n")
 }
