@@ -1,5 +1,5 @@
 -- An actor between two calls, by its state.
-use Rattle.std.specs.Prelude.{List, ◌≡◌, ◌==◌, ◌&&◌, not, nat_lt, ℕ, ⊤, Option, None, Bool, true, Result, Ok, Err, IsErrOf}
+use Rattle.std.specs.Prelude.{List, ◌≡◌, ◌==◌, ◌&&◌, not, nat_lt, ℕ, ⊤, Option, None, Bool, true, Result, Ok, Err, IsErrOf, IsTrue}
 use Rattle.std.specs.declared.num.NonZeroU32.{NonZeroU32}
 use Rattle.std.specs.declared.num.NonZeroU64.{NonZeroU64}
 use Rattle.dkg_ceremony.specs.Schedule.{epoch_of, midpoint}
@@ -35,7 +35,7 @@ use Rattle.dkg_reshare.specs.CarriedLogs.{CarriesWithin}
 use Rattle.dkg_dealing.specs.Judged.{judged}
 use Rattle.dkg_dealing.specs.LiveOf.{records_of}
 use Rattle.dkg_dealing.specs.Ready.{IsReadyLife}
-use Rattle.dkg_dealing.specs.Rules.{AckOf, DealOf, CheckAckOf}
+use Rattle.dkg_dealing.specs.Rules.{AckOf, DealOf, CheckAckOf, SameProvided}
 
 -- STATES
 
@@ -106,6 +106,13 @@ EndsAt state (Err stop) P = HasFailed state
 pub record FailsStop {C Dir Signer Cfg : Type 0} (state : State C Dir Signer Cfg) (result : Result (Unit {0}) Stop) (same : Type 0) : Type 0 where
   pub stopped : HasFailed state → (result ≡ Err Failed) × same
   pub only : IsErrOf result Failed → HasFailed state
+
+-- WHAT STAYS of an actor over a call: its life's random word, the parts that it was made of, and what its provider says, if that tells.
+pub record Stays {C Dir Signer Cfg : Type 0} (old new : State C Dir Signer Cfg) (same : Type 0) (tells : Bool) (participants participants_now : ℕ → List ℕ)
+    (directory directory_now : ℕ → List ℕ → Dir) : Type 0 where
+  pub word : IfLiving old (λ life. IfLiving new (λ now. now.word ≡ life.word))
+  pub rest : same
+  pub provider : IsTrue tells → SameProvided participants participants_now directory directory_now
 
 -- MESSAGES
 

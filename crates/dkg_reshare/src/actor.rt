@@ -20,7 +20,7 @@ ghost use Rattle.dkg_dealing.specs.Opened.{IsInGrammar, IsOpeningOf, OpensReadab
 ghost use Rattle.dkg_dealing.specs.Rules.{IncludesBy, IsRuledBy, SameProvided};
 ghost use Rattle.dkg_dealing.specs.Planless.{IsBareOpening};
 ghost use Rattle.dkg_inclusion.specs.InclusionOf.{IsSeen, IsSettledInclusion, result_of};
-ghost use Rattle.dkg_reshare.specs.Actors.{AreTerms, BringsWithin, EndsAt, FailsStop, IfIncluding, IfLiving, IsAgreed, IsOpenedOn, IsNew, lives, message_of, running_in, told_in};
+ghost use Rattle.dkg_reshare.specs.Actors.{AreTerms, BringsWithin, EndsAt, FailsStop, IfIncluding, IfLiving, IsAgreed, IsOpenedOn, IsNew, Stays, lives, message_of, running_in, told_in};
 ghost use Rattle.dkg_reshare.specs.CarriedLogs.{CarriesWithin};
 
 use crate::blocks::take_block;
@@ -329,9 +329,11 @@ impl<
         // It may go on over these devices alone, or it has failed.
         ensures ends { EndsAt self.new.state result (λ life. IsReadyLife D.tells D.files D.image C.ack_of C.deal_of C.check_ack_of self.new.terms life
             devices.new) }
-        ensures word { IfLiving self.old.state (λ old. IfLiving self.new.state (λ life. life.word ≡ old.word)) }
-        ensures rest { (self.new.ceremony ≡ self.old.ceremony) × (self.new.signer ≡ self.old.signer)
-            × (self.new.manager ≡ self.old.manager) × (self.new.terms ≡ self.old.terms) }
+        // A life keeps its random word, the other parts stay, and a provider that tells says what it said.
+        ensures stays { Stays self.old.state self.new.state ((self.new.ceremony ≡ self.old.ceremony) × (self.new.signer ≡ self.old.signer)
+            × (self.new.manager ≡ self.old.manager) × (self.new.terms ≡ self.old.terms))
+            P.tells (P.participants_of self.old.provider) (P.participants_of self.new.provider)
+            (P.directory_of self.old.provider) (P.directory_of self.new.provider) }
         ensures fails { FailsStop self.old.state result ((self.new.state ≡ self.old.state) × (self.new.registrar ≡ self.old.registrar)
             × (devices.new ≡ devices.old) × (out.new ≡ out.old) × (fence.new ≡ fence.old)) }
         ensures moved { Moved D.tells D.made X.made D.faults X.faults devices.old devices.new }
@@ -340,8 +342,6 @@ impl<
         // No record that a crash leaves is out of its grammar, or past the limit, where none was.
         ensures fit { IsTrue D.tells → AreFit (non_zero_u32_get self.old.terms.limit) (D.image devices.old.disk.now)
             → AreFit (non_zero_u32_get self.old.terms.limit) (D.image devices.new.disk.now) }
-        ensures provider { IsTrue P.tells → SameProvided (P.participants_of self.old.provider) (P.participants_of self.new.provider)
-            (P.directory_of self.old.provider) (P.directory_of self.new.provider) }
     {
         let State::Living(life, inclusion) = &mut self.state else {
             return Err(Stop::Failed);
@@ -408,9 +408,11 @@ impl<
         // It may go on over these devices alone, or it has failed.
         ensures ends { EndsAt self.new.state result (λ life. IsReadyLife D.tells D.files D.image C.ack_of C.deal_of C.check_ack_of self.new.terms life
             devices.new) }
-        ensures word { IfLiving self.old.state (λ old. IfLiving self.new.state (λ life. life.word ≡ old.word)) }
-        ensures rest { (self.new.ceremony ≡ self.old.ceremony) × (self.new.signer ≡ self.old.signer)
-            × (self.new.manager ≡ self.old.manager) × (self.new.terms ≡ self.old.terms) }
+        // A life keeps its random word, the other parts stay, and a provider that tells says what it said.
+        ensures stays { Stays self.old.state self.new.state ((self.new.ceremony ≡ self.old.ceremony) × (self.new.signer ≡ self.old.signer)
+            × (self.new.manager ≡ self.old.manager) × (self.new.terms ≡ self.old.terms))
+            P.tells (P.participants_of self.old.provider) (P.participants_of self.new.provider)
+            (P.directory_of self.old.provider) (P.directory_of self.new.provider) }
         ensures fails { FailsStop self.old.state result ((self.new.state ≡ self.old.state) × (self.new.registrar ≡ self.old.registrar)
             × (devices.new ≡ devices.old) × (out.new ≡ out.old) × (fence.new ≡ fence.old)) }
         ensures moved { Moved D.tells D.made X.made D.faults X.faults devices.old devices.new }
@@ -419,8 +421,6 @@ impl<
         // No record that a crash leaves is out of its grammar, or past the limit, where none was.
         ensures fit { IsTrue D.tells → AreFit (non_zero_u32_get self.old.terms.limit) (D.image devices.old.disk.now)
             → AreFit (non_zero_u32_get self.old.terms.limit) (D.image devices.new.disk.now) }
-        ensures provider { IsTrue P.tells → SameProvided (P.participants_of self.old.provider) (P.participants_of self.new.provider)
-            (P.directory_of self.old.provider) (P.directory_of self.new.provider) }
     {
         let State::Living(life, inclusion) = &mut self.state else {
             return Err(Stop::Failed);
@@ -488,9 +488,11 @@ impl<
         // It may go on over these devices alone, or it has failed.
         ensures ends { EndsAt self.new.state result (λ life. IsReadyLife D.tells D.files D.image C.ack_of C.deal_of C.check_ack_of self.new.terms life
             devices.new) }
-        ensures word { IfLiving self.old.state (λ old. IfLiving self.new.state (λ life. life.word ≡ old.word)) }
-        ensures rest { (self.new.ceremony ≡ self.old.ceremony) × (self.new.signer ≡ self.old.signer)
-            × (self.new.manager ≡ self.old.manager) × (self.new.terms ≡ self.old.terms) }
+        // A life keeps its random word, the other parts stay, and a provider that tells says what it said.
+        ensures stays { Stays self.old.state self.new.state ((self.new.ceremony ≡ self.old.ceremony) × (self.new.signer ≡ self.old.signer)
+            × (self.new.manager ≡ self.old.manager) × (self.new.terms ≡ self.old.terms))
+            P.tells (P.participants_of self.old.provider) (P.participants_of self.new.provider)
+            (P.directory_of self.old.provider) (P.directory_of self.new.provider) }
         ensures fails { FailsStop self.old.state result ((self.new.state ≡ self.old.state) × (self.new.registrar ≡ self.old.registrar)
             × (devices.new ≡ devices.old) × (out.new ≡ out.old)) }
         ensures moved { Moved D.tells D.made X.made D.faults X.faults devices.old devices.new }
@@ -500,8 +502,6 @@ impl<
         ensures fit { IsTrue D.tells → AreFit (non_zero_u32_get self.old.terms.limit) (D.image devices.old.disk.now)
             → AreFit (non_zero_u32_get self.old.terms.limit) (D.image devices.new.disk.now) }
         ensures registrar { self.new.registrar ≡ self.old.registrar }
-        ensures provider { IsTrue P.tells → SameProvided (P.participants_of self.old.provider) (P.participants_of self.new.provider)
-            (P.directory_of self.old.provider) (P.directory_of self.new.provider) }
     {
         let State::Living(life, inclusion) = &mut self.state else {
             return Err(Stop::Failed);

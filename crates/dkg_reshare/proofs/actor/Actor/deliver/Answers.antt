@@ -29,20 +29,18 @@ returns-in_default-clause-fails g c = record {
 pub returns-in_default-clause-moved : goal.returns-in_default-clause-moved
 returns-in_default-clause-moved g c = moved_none g.D.Disk.tells g.D.Disk.made g.X.SecretStore.made g.D.Disk.faults g.X.SecretStore.faults g.met.D.Disk.made_none g.met.X.SecretStore.made_none c.args.devices.now
 
-pub returns-in_default-clause-word : goal.returns-in_default-clause-word
-returns-in_default-clause-word g c = not_living c.args.self.now.state c.in_default.not-Living _
-
-pub returns-in_default-clause-rest : goal.returns-in_default-clause-rest
-returns-in_default-clause-rest g c = (refl, refl, refl, refl)
+pub returns-in_default-clause-stays : goal.returns-in_default-clause-stays
+returns-in_default-clause-stays g c = record {
+  word = not_living c.args.self.now.state c.in_default.not-Living _;
+  rest = (refl, refl, refl, refl);
+  provider = λ provided. (λ epoch. refl, λ epoch peers. refl);
+}
 
 pub returns-in_default-clause-causes : goal.returns-in_default-clause-causes
 returns-in_default-clause-causes g c = tt
 
 pub returns-in_default-clause-fit : goal.returns-in_default-clause-fit
 returns-in_default-clause-fit g c = λ told fit. fit
-
-pub returns-in_default-clause-provider : goal.returns-in_default-clause-provider
-returns-in_default-clause-provider g c = λ provided. (λ epoch. refl, λ epoch peers. refl)
 
 pub take_block-requires-clause-ready : goal.take_block-requires-clause-ready
 take_block-requires-clause-ready g c = of_living c.args.self.now.state c.in-Living.life c.in-Living.inclusion c.in-Living.is _ c.requires.at.ready
@@ -65,11 +63,12 @@ returns-in-Ok-clause-tells g c = λ provided fixed beside. rw c.in-Living.is (c.
 pub returns-in-Ok-clause-ends : goal.returns-in-Ok-clause-ends
 returns-in-Ok-clause-ends g c = c.in-Ok.ensures.ready
 
-pub returns-in-Ok-clause-word : goal.returns-in-Ok-clause-word
-returns-in-Ok-clause-word g c = rw c.in-Living.is c.take_block.ensures.word
-
-pub returns-in-Ok-clause-rest : goal.returns-in-Ok-clause-rest
-returns-in-Ok-clause-rest g c = (refl, refl, refl, refl)
+pub returns-in-Ok-clause-stays : goal.returns-in-Ok-clause-stays
+returns-in-Ok-clause-stays g c = record {
+  word = rw c.in-Living.is c.take_block.ensures.word;
+  rest = (refl, refl, refl, refl);
+  provider = c.take_block.ensures.provider;
+}
 
 pub returns-in-Ok-clause-fails : goal.returns-in-Ok-clause-fails
 returns-in-Ok-clause-fails g c = record {
@@ -86,9 +85,6 @@ returns-in-Ok-clause-causes g c = tt
 pub returns-in-Ok-clause-fit : goal.returns-in-Ok-clause-fit
 returns-in-Ok-clause-fit g c = c.take_block.ensures.fit
 
-pub returns-in-Ok-clause-provider : goal.returns-in-Ok-clause-provider
-returns-in-Ok-clause-provider g c = c.take_block.ensures.provider
-
 pub returns-in-Err-clause-including : goal.returns-in-Err-clause-including
 returns-in-Err-clause-including g c = tt
 
@@ -101,11 +97,12 @@ returns-in-Err-clause-tells g c = λ provided fixed beside. rw c.in-Living.is (c
 pub returns-in-Err-clause-ends : goal.returns-in-Err-clause-ends
 returns-in-Err-clause-ends g c = rw c.fail.ensures.failed tt
 
-pub returns-in-Err-clause-word : goal.returns-in-Err-clause-word
-returns-in-Err-clause-word g c = rw (c.in-Living.is, c.fail.ensures.failed) tt
-
-pub returns-in-Err-clause-rest : goal.returns-in-Err-clause-rest
-returns-in-Err-clause-rest g c = c.fail.ensures.rest
+pub returns-in-Err-clause-stays : goal.returns-in-Err-clause-stays
+returns-in-Err-clause-stays g c = record {
+  word = rw (c.in-Living.is, c.fail.ensures.failed) tt;
+  rest = c.fail.ensures.rest;
+  provider = rw c.fail.ensures.provider c.take_block.ensures.provider;
+}
 
 pub returns-in-Err-clause-fails : goal.returns-in-Err-clause-fails
 returns-in-Err-clause-fails g c = record {
@@ -121,6 +118,3 @@ returns-in-Err-clause-causes g c = caused_in_step g.D.Disk.tells _ _ _ c.in-Err.
 
 pub returns-in-Err-clause-fit : goal.returns-in-Err-clause-fit
 returns-in-Err-clause-fit g c = c.take_block.ensures.fit
-
-pub returns-in-Err-clause-provider : goal.returns-in-Err-clause-provider
-returns-in-Err-clause-provider g c = rw c.fail.ensures.provider c.take_block.ensures.provider

@@ -24,10 +24,10 @@ pub returns-in_err-deliver-clause-ready : goal.returns-in_err-deliver-clause-rea
 returns-in_err-deliver-clause-ready g c = let p = err_from_is_err_and c.from_residual.result c.from_residual.ensures.1 in rw p.1 tt
 
 pub returns-in_err-deliver-clause-terms : goal.returns-in_err-deliver-clause-terms
-returns-in_err-deliver-clause-terms g c = c.in_err-deliver.ensures.rest.3
+returns-in_err-deliver-clause-terms g c = c.in_err-deliver.ensures.stays.rest.3
 
 pub returns-in_err-deliver-clause-of : goal.returns-in_err-deliver-clause-of
-returns-in_err-deliver-clause-of g c = of_again c.args.self.now (record c.args.self.now { actor = c.deliver.new.self; fence = c.deliver.new.fence }) c.requires.ready.living c.in_err-deliver.ensures.rest.3 c.in_err-deliver.ensures.word (c.in_err-deliver.ensures.provider refl).0
+returns-in_err-deliver-clause-of g c = of_again c.args.self.now (record c.args.self.now { actor = c.deliver.new.self; fence = c.deliver.new.fence }) c.requires.ready.living c.in_err-deliver.ensures.stays.rest.3 c.in_err-deliver.ensures.stays.word (c.in_err-deliver.ensures.stays.provider refl).0
 
 pub returns-in_err-deliver-clause-acts : goal.returns-in_err-deliver-clause-acts
 returns-in_err-deliver-clause-acts g c = λ disk secrets lived number st of may view.
@@ -68,14 +68,14 @@ deliver-requires-2 g c =
 
 pub returns-clause-ready : goal.returns-clause-ready
 returns-clause-ready g c =
-    ready_behind g.D.Disk.tells g.D.Disk.files g.D.Disk.image c.args.self.now (record c.args.self.now { actor = c.deliver.new.self; fence = c.deliver-2.new.fence; half = c.deliver-2.new.self }) c.args.devices.now c.deliver.new.devices c.requires.ready c.in_ok-deliver.ensures.rest.3 refl
+    ready_behind g.D.Disk.tells g.D.Disk.files g.D.Disk.image c.args.self.now (record c.args.self.now { actor = c.deliver.new.self; fence = c.deliver-2.new.fence; half = c.deliver-2.new.self }) c.args.devices.now c.deliver.new.devices c.requires.ready c.in_ok-deliver.ensures.stays.rest.3 refl
     c.in_ok-deliver.ensures.ends c.in_ok-deliver.ensures.including c.deliver-2.result c.deliver-2.ensures.settled
 
 pub returns-clause-terms : goal.returns-clause-terms
-returns-clause-terms g c = c.in_ok-deliver.ensures.rest.3
+returns-clause-terms g c = c.in_ok-deliver.ensures.stays.rest.3
 
 pub returns-clause-of : goal.returns-clause-of
-returns-clause-of g c = of_again c.args.self.now (record c.args.self.now { actor = c.deliver.new.self; fence = c.deliver-2.new.fence; half = c.deliver-2.new.self }) c.requires.ready.living c.in_ok-deliver.ensures.rest.3 c.in_ok-deliver.ensures.word (c.in_ok-deliver.ensures.provider refl).0
+returns-clause-of g c = of_again c.args.self.now (record c.args.self.now { actor = c.deliver.new.self; fence = c.deliver-2.new.fence; half = c.deliver-2.new.self }) c.requires.ready.living c.in_ok-deliver.ensures.stays.rest.3 c.in_ok-deliver.ensures.stays.word (c.in_ok-deliver.ensures.stays.provider refl).0
 
 pub returns-clause-acts : goal.returns-clause-acts
 returns-clause-acts g c = λ disk secrets lived number st of may view.

@@ -17,14 +17,14 @@ pub step-requires-clause-including : goal.step-requires-clause-including
 step-requires-clause-including g c = c.requires.ready.including
 
 pub returns-clause-ready : goal.returns-clause-ready
-returns-clause-ready g c = ready_on g.D.Disk.tells g.D.Disk.files g.D.Disk.image c.args.self.now (record c.args.self.now { actor = c.step.new.self; fence = c.step.new.fence }) c.args.devices.now c.step.new.devices c.requires.ready c.step.ensures.rest.3 refl refl
+returns-clause-ready g c = ready_on g.D.Disk.tells g.D.Disk.files g.D.Disk.image c.args.self.now (record c.args.self.now { actor = c.step.new.self; fence = c.step.new.fence }) c.args.devices.now c.step.new.devices c.requires.ready c.step.ensures.stays.rest.3 refl refl
     c.step.result c.step.ensures.ends c.step.ensures.including
 
 pub returns-clause-terms : goal.returns-clause-terms
-returns-clause-terms g c = c.step.ensures.rest.3
+returns-clause-terms g c = c.step.ensures.stays.rest.3
 
 pub returns-clause-of : goal.returns-clause-of
-returns-clause-of g c = of_again c.args.self.now (record c.args.self.now { actor = c.step.new.self; fence = c.step.new.fence }) c.requires.ready.living c.step.ensures.rest.3 c.step.ensures.word (c.step.ensures.provider refl).0
+returns-clause-of g c = of_again c.args.self.now (record c.args.self.now { actor = c.step.new.self; fence = c.step.new.fence }) c.requires.ready.living c.step.ensures.stays.rest.3 c.step.ensures.stays.word (c.step.ensures.stays.provider refl).0
 
 pub returns-clause-acts : goal.returns-clause-acts
 returns-clause-acts g c = λ disk secrets lived number st of may view.
