@@ -1,7 +1,7 @@
 //! Answers to final-block requests: each is a line, and is kept for its caller.
 //!
 //! Each function here is a part of the relation's `Including`, and names it.
-ghost use Rattle.std.specs.Prelude.{◌≡◌, IfErr, IfOk, OnErr, OnOk, option_map};
+ghost use Rattle.std.specs.Prelude.{◌≡◌, IfErr, IfOk, IsSome, OnErr, OnOk, option_map};
 ghost use Rattle.std.specs.FinMap as maps;
 ghost use Rattle.dkg_types.specs.PayloadCodes.{info_payload, payload_spelling};
 ghost use Rattle.dkg_types.specs.declared.fault.Fault.TheVariants.{NoMemory as OutOfMemory};
@@ -104,7 +104,8 @@ pub fn bytes_of<Dir: Directory + Drop>(
     alloc: Global,
     payload: &Option<Payload<Dir>>,
 ) -> Mem<Option<Shared<Blob>>>
-    ensures { IfOk result (λ made. made ≡ option_map (payload_spelling Dir.spelling) payload.now) }
+    ensures ok { IfOk result (λ made. made ≡ option_map (payload_spelling Dir.spelling) payload.now) }
+    ensures none { OnErr result (IsSome payload.now) }
 {
     match payload {
         None => Ok(None),

@@ -2,7 +2,7 @@
 //!
 //! From an epoch's midpoint on blocks carry the dealers' logs, and final-block requests are read, one at a time. Whoever takes a message here is
 //! lent both the life and its inclusion.
-ghost use Rattle.std.specs.Prelude.{◌≡◌, [], None, OnOk};
+ghost use Rattle.std.specs.Prelude.{◌≡◌, [], IsSome, None, OnErr, OnOk};
 ghost use Rattle.dkg_core.specs.Core.{no_inclusion};
 ghost use Rattle.dkg_inclusion.specs.InclusionOf.{IsSeen, in_front};
 
@@ -74,8 +74,12 @@ impl<C: Ceremony + Drop, Dir: Directory + Drop> Inclusion<C, Dir> {
     }
 
     /// Takes the request that is read back to the front of those that wait: over another tip its ancestry is read again.
+    ///
+    /// Memory may be wanting for a request in hand alone, which is given up then.
     pub fn put_back(&mut self) -> Mem<()>
-        ensures { OnOk result (self.new ≡ record self.old { hand = None; requests = in_front self.old.hand self.old.requests }) }
+        ensures ok { OnOk result (self.new ≡ record self.old { hand = None; requests = in_front self.old.hand self.old.requests }) }
+        ensures err { OnErr result (self.new ≡ record self.old { hand = None }) }
+        ensures held { OnErr result (IsSome self.old.hand) }
     {
         match self.hand.take() {
             None => Ok(()),

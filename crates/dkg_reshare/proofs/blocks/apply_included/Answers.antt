@@ -50,14 +50,14 @@ returns-then-eq-clause-acts g c = λ disk secrets provided fixed beside of reads
     let is : (c.args.block.now.height == c.args.bounds.now.last) ≡ true = grind (arith, nat_tests, common_steps) in
     let has = its_round c.args.life.now.round (c.requires.ready.placed.joins (λ follows. let h : ◌≡◌ {A = Stage} Including Following = sym c.requires.includes ∙ follows in cc)) in
     with_as beside beside.inclusion (λ more took. took) (λ now made. makes_as (is_final fixed c.args.block.now (non_zero_u64_get c.args.terms.now.blocks_per_epoch) of.of.blocks of.of.reshare c.args.bounds.now c.requires.bounds (live_of beside c.args.fence.now c.args.life.now) has.0 has.1 is) _ made) (λ i its. its)
-    (c.take_final_block.ensures.acts disk secrets provided fixed has.0 beside of reads by provides has.1 (seen_back c.args.inclusion.now beside.inclusion seen c.put_back.new.self c.in_ok-put_back.ensures))
+    (c.take_final_block.ensures.acts disk secrets provided fixed has.0 beside of reads by provides has.1 (seen_back c.args.inclusion.now beside.inclusion seen c.put_back.new.self c.in_ok-put_back.ensures.ok))
 
 pub returns-then-eq-clause-tells : goal.returns-then-eq-clause-tells
 returns-then-eq-clause-tells g c = λ provided fixed beside of reads by provides seen.
     let is : (c.args.block.now.height == c.args.bounds.now.last) ≡ true = grind (arith, nat_tests, common_steps) in
     let has = its_round c.args.life.now.round (c.requires.ready.placed.joins (λ follows. let h : ◌≡◌ {A = Stage} Including Following = sym c.requires.includes ∙ follows in cc)) in
     with_as beside beside.inclusion (λ more took. took) (λ now told. tells_as (is_final fixed c.args.block.now (non_zero_u64_get c.args.terms.now.blocks_per_epoch) of.of.blocks of.of.reshare c.args.bounds.now c.requires.bounds (live_of beside c.args.fence.now c.args.life.now) has.0 has.1 is) _ told) (λ i its. its)
-    (c.take_final_block.ensures.tells provided fixed has.0 beside of reads by provides has.1 (seen_back c.args.inclusion.now beside.inclusion seen c.put_back.new.self c.in_ok-put_back.ensures))
+    (c.take_final_block.ensures.tells provided fixed has.0 beside of reads by provides has.1 (seen_back c.args.inclusion.now beside.inclusion seen c.put_back.new.self c.in_ok-put_back.ensures.ok))
 
 pub returns-then-eq-clause-ready : goal.returns-then-eq-clause-ready
 returns-then-eq-clause-ready g c = c.take_final_block.ensures.ready
@@ -87,7 +87,7 @@ pub take_final_block-requires-clause-ready : goal.take_final_block-requires-clau
 take_final_block-requires-clause-ready g c = c.requires.ready
 
 pub take_final_block-requires-clause-including : goal.take_final_block-requires-clause-including
-take_final_block-requires-clause-including g c = back_ready g.C.Ceremony.check_log_of g.C.Ceremony.dealing_of g.C.Ceremony.finish_of (non_zero_u64_get c.args.terms.now.blocks_per_epoch) c.args.life.now c.args.inclusion.now c.requires.including c.put_back.new.self c.in_ok-put_back.ensures
+take_final_block-requires-clause-including g c = back_ready g.C.Ceremony.check_log_of g.C.Ceremony.dealing_of g.C.Ceremony.finish_of (non_zero_u64_get c.args.terms.now.blocks_per_epoch) c.args.life.now c.args.inclusion.now c.requires.including c.put_back.new.self c.in_ok-put_back.ensures.ok
 
 pub take_final_block-requires-clause-includes : goal.take_final_block-requires-clause-includes
 take_final_block-requires-clause-includes g c = c.requires.includes
@@ -102,13 +102,13 @@ pub take_final_block-requires-clause-last : goal.take_final_block-requires-claus
 take_final_block-requires-clause-last g c = grind (arith, nat_tests, common_steps)
 
 pub take_final_block-requires-clause-idle : goal.take_final_block-requires-clause-idle
-take_final_block-requires-clause-idle g c = back_idle c.args.inclusion.now c.put_back.new.self c.in_ok-put_back.ensures
+take_final_block-requires-clause-idle g c = back_idle c.args.inclusion.now c.put_back.new.self c.in_ok-put_back.ensures.ok
 
 pub include-requires-clause-ready : goal.include-requires-clause-ready
 include-requires-clause-ready g c = c.requires.ready
 
 pub include-requires-clause-including : goal.include-requires-clause-including
-include-requires-clause-including g c = back_ready g.C.Ceremony.check_log_of g.C.Ceremony.dealing_of g.C.Ceremony.finish_of (non_zero_u64_get c.args.terms.now.blocks_per_epoch) c.args.life.now c.args.inclusion.now c.requires.including c.put_back.new.self c.in_ok-put_back.ensures
+include-requires-clause-including g c = back_ready g.C.Ceremony.check_log_of g.C.Ceremony.dealing_of g.C.Ceremony.finish_of (non_zero_u64_get c.args.terms.now.blocks_per_epoch) c.args.life.now c.args.inclusion.now c.requires.including c.put_back.new.self c.in_ok-put_back.ensures.ok
 
 pub include-requires-clause-includes : goal.include-requires-clause-includes
 include-requires-clause-includes g c = c.requires.includes
@@ -120,7 +120,7 @@ pub include-requires-clause-within : goal.include-requires-clause-within
 include-requires-clause-within g c = c.requires.within
 
 pub include-requires-clause-idle : goal.include-requires-clause-idle
-include-requires-clause-idle g c = back_idle c.args.inclusion.now c.put_back.new.self c.in_ok-put_back.ensures
+include-requires-clause-idle g c = back_idle c.args.inclusion.now c.put_back.new.self c.in_ok-put_back.ensures.ok
 
 pub include-requires-clause-inside : goal.include-requires-clause-inside
 include-requires-clause-inside g c =
@@ -135,14 +135,14 @@ returns-clause-acts g c = λ disk secrets provided fixed beside of reads by prov
     let is : (c.args.block.now.height == c.args.bounds.now.last) ≡ false = grind (arith, nat_tests, common_steps) in
     let has = its_round c.args.life.now.round (c.requires.ready.placed.joins (λ follows. let h : ◌≡◌ {A = Stage} Including Following = sym c.requires.includes ∙ follows in cc)) in
     with_as beside beside.inclusion (λ more none. on_ok c.include.result (took_nothing g.R.Registrar.tells (g.R.Registrar.taken c.args.registrar.now) more none)) (λ now made. makes_as (not_final fixed c.args.block.now (non_zero_u64_get c.args.terms.now.blocks_per_epoch) of.of.blocks of.of.reshare c.args.bounds.now c.requires.bounds (live_of beside c.args.fence.now c.args.life.now) has.0 has.1 is) _ made) (λ i its. its)
-    (c.include.ensures.acts disk secrets provided fixed has.0 beside c.args.fence.now of.of reads by provides has.1 (seen_back c.args.inclusion.now beside.inclusion seen c.put_back.new.self c.in_ok-put_back.ensures))
+    (c.include.ensures.acts disk secrets provided fixed has.0 beside c.args.fence.now of.of reads by provides has.1 (seen_back c.args.inclusion.now beside.inclusion seen c.put_back.new.self c.in_ok-put_back.ensures.ok))
 
 pub returns-clause-tells : goal.returns-clause-tells
 returns-clause-tells g c = λ provided fixed beside of reads by provides seen.
     let is : (c.args.block.now.height == c.args.bounds.now.last) ≡ false = grind (arith, nat_tests, common_steps) in
     let has = its_round c.args.life.now.round (c.requires.ready.placed.joins (λ follows. let h : ◌≡◌ {A = Stage} Including Following = sym c.requires.includes ∙ follows in cc)) in
     with_as beside beside.inclusion (λ more none. on_ok c.include.result (took_nothing g.R.Registrar.tells (g.R.Registrar.taken c.args.registrar.now) more none)) (λ now told. tells_as (not_final fixed c.args.block.now (non_zero_u64_get c.args.terms.now.blocks_per_epoch) of.of.blocks of.of.reshare c.args.bounds.now c.requires.bounds (live_of beside c.args.fence.now c.args.life.now) has.0 has.1 is) _ told) (λ i its. its)
-    (c.include.ensures.tells provided fixed has.0 beside c.args.fence.now of.of reads by provides has.1 (seen_back c.args.inclusion.now beside.inclusion seen c.put_back.new.self c.in_ok-put_back.ensures))
+    (c.include.ensures.tells provided fixed has.0 beside c.args.fence.now of.of reads by provides has.1 (seen_back c.args.inclusion.now beside.inclusion seen c.put_back.new.self c.in_ok-put_back.ensures.ok))
 
 pub returns-clause-causes : goal.returns-clause-causes
 returns-clause-causes g c = result_caused g.D.Disk.tells (λ x. x) (λ x. x) (λ x. x) c.include.result c.include.ensures.causes

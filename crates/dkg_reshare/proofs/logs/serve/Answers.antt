@@ -28,20 +28,20 @@ pub returns-in_err-told_log-clause-speaks : goal.returns-in_err-told_log-clause-
 returns-in_err-told_log-clause-speaks g c = λ fixed beside fence spells seen.
     let p = err_from_is_err_and c.from_residual-in_err-told_log.result c.from_residual-in_err-told_log.ensures.1 in
     rw (p.1, p.2) (ends_beside beside tt refl (unserved_speaks fixed g.Dir.Spelled.spelling spells c.args.request c.args.height beside fence c.args.life.now c.args.inclusion.now seen
-    c.in_ok-payload.payload (c.in_ok-payload.ensures.made beside fence seen) c.in_ok-line.line c.in_ok-line.ensures c.args.out.now.entries _ c.in_ok-push.ensures.ok _ refl))
+    c.in_ok-payload.payload (c.in_ok-payload.ensures.made beside fence seen) c.in_ok-line.line c.in_ok-line.ensures.ok c.args.out.now.entries _ c.in_ok-push.ensures.ok _ refl))
 
 pub returns-then-not-serves-clause-speaks : goal.returns-then-not-serves-clause-speaks
 returns-then-not-serves-clause-speaks g c = λ fixed beside fence spells seen.
     let none : is_some c.in_ok-payload.payload ≡ false = grind (arith, common_steps) in
     served_speaks fixed g.Dir.Spelled.spelling spells c.args.request c.args.height beside fence c.args.life.now c.args.inclusion.now seen
-    c.in_ok-payload.payload (c.in_ok-payload.ensures.made beside fence seen) c.in_ok-line.line c.in_ok-line.ensures c.args.out.now.entries _ c.in_ok-push.ensures.ok _
+    c.in_ok-payload.payload (c.in_ok-payload.ensures.made beside fence seen) c.in_ok-line.line c.in_ok-line.ensures.ok c.args.out.now.entries _ c.in_ok-push.ensures.ok _
     (λ i. record c.args.inclusion.now { served = (if (sym none) i then Some c.args.height else c.args.inclusion.now.served); told = c.in_ok-told_log.ensures.done i })
 
 pub returns-clause-speaks : goal.returns-clause-speaks
 returns-clause-speaks g c = λ fixed beside fence spells seen.
     let some : is_some c.in_ok-payload.payload ≡ true = grind (arith, common_steps) in
     served_speaks fixed g.Dir.Spelled.spelling spells c.args.request c.args.height beside fence c.args.life.now c.args.inclusion.now seen
-    c.in_ok-payload.payload (c.in_ok-payload.ensures.made beside fence seen) c.in_ok-line.line c.in_ok-line.ensures c.args.out.now.entries _ c.in_ok-push.ensures.ok _
+    c.in_ok-payload.payload (c.in_ok-payload.ensures.made beside fence seen) c.in_ok-line.line c.in_ok-line.ensures.ok c.args.out.now.entries _ c.in_ok-push.ensures.ok _
     (λ i. record c.args.inclusion.now { served = (if (sym some) i then Some c.args.height else c.args.inclusion.now.served); told = c.in_ok-told_log.ensures.done i })
 
 -- OUTSIDE OF INCLUSION none is served
