@@ -8,6 +8,7 @@ pub mod Derived
 pub mod Deriving
 pub mod Included
 pub mod Keeping
+pub mod Looking
 pub mod Posted
 pub mod Requesting
 pub mod Scans

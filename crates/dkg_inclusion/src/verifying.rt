@@ -32,6 +32,7 @@ ghost use Rattle.dkg_inclusion.specs.Concluded.{canonical_in};
 ghost use Rattle.dkg_inclusion.specs.Refusing.{refusal_for};
 ghost use Rattle.dkg_inclusion.specs.Including.{EndsCaching, telling};
 ghost use Rattle.dkg_inclusion.specs.InclusionOf.{IsReadyInclusion, IsRunnable, IsSeen, cached_of, dealings_of, job_of, result_of};
+ghost use Rattle.dkg_inclusion.specs.Looks.{OnlyLooks};
 ghost use Rattle.dkg_inclusion.specs.declared.told.EpochInfoResponse.TheVariants.{Available};
 
 use crate::answers::answer;
@@ -282,7 +283,6 @@ fn complete<
     ensures ready { OnOk result (IsReadyLife D.tells D.files D.image C.ack_of C.deal_of C.check_ack_of terms.now life.new devices.new) }
     ensures including { OnOk result (IsReadyInclusion C.check_log_of C.dealing_of C.finish_of (non_zero_u64_get terms.now.blocks_per_epoch) life.new
         inclusion.new) }
-    ensures same { life.new ≡ life.old }
     ensures rest { inclusion.new ≡ record inclusion.old {
       verification = inclusion.new.verification;
       waiter = inclusion.new.waiter;
@@ -290,10 +290,8 @@ fn complete<
       told = inclusion.new.told;
     } }
     ensures idle { OnOk result (inclusion.new.verification.running ≡ None) }
-    ensures provider { IsTrue P.tells → SameProvided (P.participants_of provider.old) (P.participants_of provider.new)
+    ensures stays { OnlyLooks life.old life.new X.held devices.old devices.new P.tells (P.participants_of provider.old) (P.participants_of provider.new)
         (P.directory_of provider.old) (P.directory_of provider.new) }
-    ensures disk { devices.new.disk.now ≡ devices.old.disk.now }
-    ensures held { X.held devices.new.secrets.now ≡ X.held devices.old.secrets.now }
     ensures acts { IsTrue D.tells → IsTrue X.tells → IsTrue P.tells → (c : Fixed Dir) (beside : Beside Dir) (fence : Readiness) → IsOf terms.now c
         → ReadsPlanless c
         → IsRuledBy C.round_of C.deal_of C.dealing_of C.ack_of C.check_ack_of C.sign_log_of C.bears_ack_of C.share_public_of C.partial_public_of c.rules
@@ -353,7 +351,6 @@ pub fn end_verifying<
     ensures ready { OnOk result (IsReadyLife D.tells D.files D.image C.ack_of C.deal_of C.check_ack_of terms.now life.new devices.new) }
     ensures including { OnOk result (IsReadyInclusion C.check_log_of C.dealing_of C.finish_of (non_zero_u64_get terms.now.blocks_per_epoch) life.new
         inclusion.new) }
-    ensures same { life.new ≡ life.old }
     ensures rest { inclusion.new ≡ record inclusion.old {
       verification = inclusion.new.verification;
       waiter = inclusion.new.waiter;
@@ -361,10 +358,8 @@ pub fn end_verifying<
       told = inclusion.new.told;
     } }
     ensures idle { OnOk result (inclusion.new.verification.running ≡ None) }
-    ensures provider { IsTrue P.tells → SameProvided (P.participants_of provider.old) (P.participants_of provider.new)
+    ensures stays { OnlyLooks life.old life.new X.held devices.old devices.new P.tells (P.participants_of provider.old) (P.participants_of provider.new)
         (P.directory_of provider.old) (P.directory_of provider.new) }
-    ensures disk { devices.new.disk.now ≡ devices.old.disk.now }
-    ensures held { X.held devices.new.secrets.now ≡ X.held devices.old.secrets.now }
     ensures acts { IsTrue D.tells → IsTrue X.tells → IsTrue P.tells → (c : Fixed Dir) (beside : Beside Dir) (fence : Readiness) → IsOf terms.now c
         → ReadsPlanless c
         → IsRuledBy C.round_of C.deal_of C.dealing_of C.ack_of C.check_ack_of C.sign_log_of C.bears_ack_of C.share_public_of C.partial_public_of c.rules

@@ -23,7 +23,7 @@ ghost use Rattle.dkg_dealing.specs.Given.{IsOf, ReadsPlanless};
 ghost use Rattle.dkg_dealing.specs.LiveOf.{Beside, EndsWith, live_of};
 ghost use Rattle.dkg_dealing.specs.Made.{Makes, Tells};
 ghost use Rattle.dkg_dealing.specs.Moved.{IsFirm, Moved};
-ghost use Rattle.dkg_dealing.specs.Rules.{IncludesBy, IsRuledBy, SameProvided};
+ghost use Rattle.dkg_dealing.specs.Rules.{IncludesBy, IsRuledBy};
 ghost use Rattle.dkg_dealing.specs.Ends.{IsCausedBy, ends};
 ghost use Rattle.dkg_dealing.specs.Given.{IsIn};
 ghost use Rattle.dkg_dealing.specs.LiveOf.{TookSchemes};
@@ -34,6 +34,7 @@ ghost use Rattle.dkg_dealing.specs.declared.stop.Stop.TheVariants.{Fault as Faul
 ghost use Rattle.dkg_inclusion.specs.Concluded.{FindsBy, HaveSameParts, canonical_in, sees_verified, verifies};
 ghost use Rattle.dkg_inclusion.specs.Including.{derives_by, derives_final, derives_now};
 ghost use Rattle.dkg_inclusion.specs.InclusionOf.{IsReadyInclusion, IsSeen, IsSettledInclusion, artifact_of, cached_of};
+ghost use Rattle.dkg_inclusion.specs.Looks.{OnlyLooks};
 
 use dkg_artifact::{Artifact, ArtifactCache};
 use dkg_ceremony::{Ceremony, DealerLog, Share, encode};
@@ -144,17 +145,14 @@ fn derive_now<
     requires includes { life.old.stage ≡ Including }
     requires canonical { logs.now ≡ canonical_in life.old }
     requires idle { inclusion.old.verification.running ≡ None }
-    ensures same { life.new ≡ life.old }
     ensures rest { inclusion.new ≡ record inclusion.old {
       verification = inclusion.new.verification;
       waiter = inclusion.new.waiter;
       cache = inclusion.new.cache;
     } }
     ensures idle { OnOk result (inclusion.new.verification.running ≡ None) }
-    ensures provider { IsTrue P.tells → SameProvided (P.participants_of provider.old) (P.participants_of provider.new)
+    ensures stays { OnlyLooks life.old life.new X.held devices.old devices.new P.tells (P.participants_of provider.old) (P.participants_of provider.new)
         (P.directory_of provider.old) (P.directory_of provider.new) }
-    ensures disk { devices.new.disk.now ≡ devices.old.disk.now }
-    ensures held { X.held devices.new.secrets.now ≡ X.held devices.old.secrets.now }
     ensures acts { IsTrue D.tells → IsTrue X.tells → IsTrue P.tells → (c : Fixed Dir) (round : Round) (beside : Beside Dir) (fence : Readiness)
         (out : List Line) → IsOf terms.now c → ReadsPlanless c
         → IsRuledBy C.round_of C.deal_of C.dealing_of C.ack_of C.check_ack_of C.sign_log_of C.bears_ack_of C.share_public_of C.partial_public_of c.rules
@@ -218,17 +216,14 @@ fn artifact_by<
     requires includes { life.old.stage ≡ Including }
     requires canonical { logs.now ≡ canonical_in life.old }
     requires idle { inclusion.old.verification.running ≡ None }
-    ensures same { life.new ≡ life.old }
     ensures rest { inclusion.new ≡ record inclusion.old {
       verification = inclusion.new.verification;
       waiter = inclusion.new.waiter;
       cache = inclusion.new.cache;
     } }
     ensures idle { OnOk result (inclusion.new.verification.running ≡ None) }
-    ensures provider { IsTrue P.tells → SameProvided (P.participants_of provider.old) (P.participants_of provider.new)
+    ensures stays { OnlyLooks life.old life.new X.held devices.old devices.new P.tells (P.participants_of provider.old) (P.participants_of provider.new)
         (P.directory_of provider.old) (P.directory_of provider.new) }
-    ensures disk { devices.new.disk.now ≡ devices.old.disk.now }
-    ensures held { X.held devices.new.secrets.now ≡ X.held devices.old.secrets.now }
     ensures acts { IsTrue D.tells → IsTrue X.tells → IsTrue P.tells → (c : Fixed Dir) (round : Round) (beside : Beside Dir) (fence : Readiness)
         (out : List Line) → IsOf terms.now c → ReadsPlanless c
         → IsRuledBy C.round_of C.deal_of C.dealing_of C.ack_of C.check_ack_of C.sign_log_of C.bears_ack_of C.share_public_of C.partial_public_of c.rules
@@ -283,11 +278,8 @@ pub(crate) fn derive<
     ensures including { OnOk result (IsReadyInclusion C.check_log_of C.dealing_of C.finish_of (non_zero_u64_get terms.now.blocks_per_epoch) life.new
         inclusion.new) }
     ensures hand { inclusion.new.hand ≡ inclusion.old.hand }
-    ensures same { life.new ≡ life.old }
-    ensures provider { IsTrue P.tells → SameProvided (P.participants_of provider.old) (P.participants_of provider.new)
+    ensures stays { OnlyLooks life.old life.new X.held devices.old devices.new P.tells (P.participants_of provider.old) (P.participants_of provider.new)
         (P.directory_of provider.old) (P.directory_of provider.new) }
-    ensures disk { devices.new.disk.now ≡ devices.old.disk.now }
-    ensures held { X.held devices.new.secrets.now ≡ X.held devices.old.secrets.now }
     ensures acts { IsTrue D.tells → IsTrue X.tells → IsTrue P.tells → (c : Fixed Dir) (round : Round) (beside : Beside Dir) (fence : Readiness)
         → IsOf terms.now c → ReadsPlanless c
         → IsRuledBy C.round_of C.deal_of C.dealing_of C.ack_of C.check_ack_of C.sign_log_of C.bears_ack_of C.share_public_of C.partial_public_of c.rules

@@ -18,6 +18,7 @@ use Rattle.dkg_dealing.proofs.Said.{said_none, speaks_tells}
 use Rattle.dkg_inclusion.proofs.Staying.{settled_answered, want_blames}
 use Rattle.dkg_inclusion.proofs.Telling.{ends_beside, ends_with}
 use Rattle.dkg_inclusion.proofs.Within.{within_as, within_behind}
+use Rattle.dkg_inclusion.proofs.Looking.{looked}
 use Rattle.dkg_inclusion.proofs.requests.ask.Goals as goal
 
 -- NO MEMORY
@@ -47,17 +48,8 @@ returns-in_err-post-clause-causes g c =
     let p = err_from_is_err_and c.from_residual.result c.from_residual.ensures.1 in
     rw (p.1, p.2) tt
 
-pub returns-in_err-post-clause-same : goal.returns-in_err-post-clause-same
-returns-in_err-post-clause-same g c = refl
-
-pub returns-in_err-post-clause-provider : goal.returns-in_err-post-clause-provider
-returns-in_err-post-clause-provider g c = λ provider. (λ epoch. refl, λ epoch peers. refl)
-
-pub returns-in_err-post-clause-disk : goal.returns-in_err-post-clause-disk
-returns-in_err-post-clause-disk g c = refl
-
-pub returns-in_err-post-clause-held : goal.returns-in_err-post-clause-held
-returns-in_err-post-clause-held g c = refl
+pub returns-in_err-post-clause-stays : goal.returns-in_err-post-clause-stays
+returns-in_err-post-clause-stays g c = looked
 
 pub returns-in_err-post-clause-moved : goal.returns-in_err-post-clause-moved
 returns-in_err-post-clause-moved g c = moved_none g.D.Disk.tells g.D.Disk.made g.X.SecretStore.made g.D.Disk.faults g.X.SecretStore.faults g.met.D.Disk.made_none g.met.X.SecretStore.made_none c.args.devices.now
@@ -89,17 +81,8 @@ returns-in_err-queue-in-Dealing-clause-causes g c =
     let p = err_from_is_err_and c.from_residual-in_err-queue-in-Dealing.result c.from_residual-in_err-queue-in-Dealing.ensures.1 in
     rw (p.1, p.2) tt
 
-pub returns-in_err-queue-in-Dealing-clause-same : goal.returns-in_err-queue-in-Dealing-clause-same
-returns-in_err-queue-in-Dealing-clause-same g c = refl
-
-pub returns-in_err-queue-in-Dealing-clause-provider : goal.returns-in_err-queue-in-Dealing-clause-provider
-returns-in_err-queue-in-Dealing-clause-provider g c = λ provider. (λ epoch. refl, λ epoch peers. refl)
-
-pub returns-in_err-queue-in-Dealing-clause-disk : goal.returns-in_err-queue-in-Dealing-clause-disk
-returns-in_err-queue-in-Dealing-clause-disk g c = refl
-
-pub returns-in_err-queue-in-Dealing-clause-held : goal.returns-in_err-queue-in-Dealing-clause-held
-returns-in_err-queue-in-Dealing-clause-held g c = refl
+pub returns-in_err-queue-in-Dealing-clause-stays : goal.returns-in_err-queue-in-Dealing-clause-stays
+returns-in_err-queue-in-Dealing-clause-stays g c = looked
 
 pub returns-in_err-queue-in-Dealing-clause-moved : goal.returns-in_err-queue-in-Dealing-clause-moved
 returns-in_err-queue-in-Dealing-clause-moved g c = moved_none g.D.Disk.tells g.D.Disk.made g.X.SecretStore.made g.D.Disk.faults g.X.SecretStore.faults g.met.D.Disk.made_none g.met.X.SecretStore.made_none c.args.devices.now
@@ -121,17 +104,8 @@ returns-in_ok-queue-in-Dealing-clause-ready g c = c.requires.ready
 pub returns-in_ok-queue-in-Dealing-clause-including : goal.returns-in_ok-queue-in-Dealing-clause-including
 returns-in_ok-queue-in-Dealing-clause-including g c = settled_dealing g.C.Ceremony.check_log_of g.C.Ceremony.dealing_of g.C.Ceremony.finish_of (non_zero_u64_get c.args.terms.now.blocks_per_epoch) c.args.life.now c.args.inclusion.now c.post.new.told _ c.queue.new.inclusion c.in_ok-queue-in-Dealing.ensures.ok c.in-Dealing.is c.requires.including.ready
 
-pub returns-in_ok-queue-in-Dealing-clause-same : goal.returns-in_ok-queue-in-Dealing-clause-same
-returns-in_ok-queue-in-Dealing-clause-same g c = refl
-
-pub returns-in_ok-queue-in-Dealing-clause-provider : goal.returns-in_ok-queue-in-Dealing-clause-provider
-returns-in_ok-queue-in-Dealing-clause-provider g c = λ provider. (λ epoch. refl, λ epoch peers. refl)
-
-pub returns-in_ok-queue-in-Dealing-clause-disk : goal.returns-in_ok-queue-in-Dealing-clause-disk
-returns-in_ok-queue-in-Dealing-clause-disk g c = refl
-
-pub returns-in_ok-queue-in-Dealing-clause-held : goal.returns-in_ok-queue-in-Dealing-clause-held
-returns-in_ok-queue-in-Dealing-clause-held g c = refl
+pub returns-in_ok-queue-in-Dealing-clause-stays : goal.returns-in_ok-queue-in-Dealing-clause-stays
+returns-in_ok-queue-in-Dealing-clause-stays g c = looked
 
 pub returns-in_ok-queue-in-Dealing-clause-moved : goal.returns-in_ok-queue-in-Dealing-clause-moved
 returns-in_ok-queue-in-Dealing-clause-moved g c = moved_none g.D.Disk.tells g.D.Disk.made g.X.SecretStore.made g.D.Disk.faults g.X.SecretStore.faults g.met.D.Disk.made_none g.met.X.SecretStore.made_none c.args.devices.now
@@ -163,17 +137,8 @@ returns-in_err-queue-in-Including-clause-causes g c =
     let p = err_from_is_err_and c.from_residual-in_err-queue-in-Including.result c.from_residual-in_err-queue-in-Including.ensures.1 in
     rw (p.1, p.2) tt
 
-pub returns-in_err-queue-in-Including-clause-same : goal.returns-in_err-queue-in-Including-clause-same
-returns-in_err-queue-in-Including-clause-same g c = refl
-
-pub returns-in_err-queue-in-Including-clause-provider : goal.returns-in_err-queue-in-Including-clause-provider
-returns-in_err-queue-in-Including-clause-provider g c = λ provider. (λ epoch. refl, λ epoch peers. refl)
-
-pub returns-in_err-queue-in-Including-clause-disk : goal.returns-in_err-queue-in-Including-clause-disk
-returns-in_err-queue-in-Including-clause-disk g c = refl
-
-pub returns-in_err-queue-in-Including-clause-held : goal.returns-in_err-queue-in-Including-clause-held
-returns-in_err-queue-in-Including-clause-held g c = refl
+pub returns-in_err-queue-in-Including-clause-stays : goal.returns-in_err-queue-in-Including-clause-stays
+returns-in_err-queue-in-Including-clause-stays g c = looked
 
 pub returns-in_err-queue-in-Including-clause-moved : goal.returns-in_err-queue-in-Including-clause-moved
 returns-in_err-queue-in-Including-clause-moved g c = moved_none g.D.Disk.tells g.D.Disk.made g.X.SecretStore.made g.D.Disk.faults g.X.SecretStore.faults g.met.D.Disk.made_none g.met.X.SecretStore.made_none c.args.devices.now
@@ -196,17 +161,8 @@ returns-in_ok-queue-in-Including-clause-ready g c = c.advance.ensures.ready
 pub returns-in_ok-queue-in-Including-clause-including : goal.returns-in_ok-queue-in-Including-clause-including
 returns-in_ok-queue-in-Including-clause-including g c = c.advance.ensures.including
 
-pub returns-in_ok-queue-in-Including-clause-same : goal.returns-in_ok-queue-in-Including-clause-same
-returns-in_ok-queue-in-Including-clause-same g c = c.advance.ensures.same
-
-pub returns-in_ok-queue-in-Including-clause-provider : goal.returns-in_ok-queue-in-Including-clause-provider
-returns-in_ok-queue-in-Including-clause-provider g c = c.advance.ensures.provider
-
-pub returns-in_ok-queue-in-Including-clause-disk : goal.returns-in_ok-queue-in-Including-clause-disk
-returns-in_ok-queue-in-Including-clause-disk g c = c.advance.ensures.disk
-
-pub returns-in_ok-queue-in-Including-clause-held : goal.returns-in_ok-queue-in-Including-clause-held
-returns-in_ok-queue-in-Including-clause-held g c = c.advance.ensures.held
+pub returns-in_ok-queue-in-Including-clause-stays : goal.returns-in_ok-queue-in-Including-clause-stays
+returns-in_ok-queue-in-Including-clause-stays g c = c.advance.ensures.stays
 
 pub returns-in_ok-queue-in-Including-clause-moved : goal.returns-in_ok-queue-in-Including-clause-moved
 returns-in_ok-queue-in-Including-clause-moved g c = c.advance.ensures.moved
@@ -247,17 +203,8 @@ returns-in-Following-clause-ready g c = in_any c.answer_none.result c.requires.r
 pub returns-in-Following-clause-including : goal.returns-in-Following-clause-including
 returns-in-Following-clause-including g c = in_any c.answer_none.result (settled_answered g.C.Ceremony.check_log_of g.C.Ceremony.dealing_of g.C.Ceremony.finish_of (non_zero_u64_get c.args.terms.now.blocks_per_epoch) c.args.life.now c.args.inclusion.now c.args.inclusion.now.cache c.answer_none.new.told c.requires.including)
 
-pub returns-in-Following-clause-same : goal.returns-in-Following-clause-same
-returns-in-Following-clause-same g c = refl
-
-pub returns-in-Following-clause-provider : goal.returns-in-Following-clause-provider
-returns-in-Following-clause-provider g c = λ provider. (λ epoch. refl, λ epoch peers. refl)
-
-pub returns-in-Following-clause-disk : goal.returns-in-Following-clause-disk
-returns-in-Following-clause-disk g c = refl
-
-pub returns-in-Following-clause-held : goal.returns-in-Following-clause-held
-returns-in-Following-clause-held g c = refl
+pub returns-in-Following-clause-stays : goal.returns-in-Following-clause-stays
+returns-in-Following-clause-stays g c = looked
 
 pub returns-in-Following-clause-moved : goal.returns-in-Following-clause-moved
 returns-in-Following-clause-moved g c = moved_none g.D.Disk.tells g.D.Disk.made g.X.SecretStore.made g.D.Disk.faults g.X.SecretStore.faults g.met.D.Disk.made_none g.met.X.SecretStore.made_none c.args.devices.now

@@ -8,6 +8,7 @@ use Rattle.dkg_dealing.proofs.Committing.{goes_told}
 use Rattle.dkg_dealing.proofs.Kept.{moved_none}
 use Rattle.dkg_inclusion.proofs.Telling.{ends_with}
 use Rattle.dkg_inclusion.proofs.Within.{within_as, within_behind}
+use Rattle.dkg_inclusion.proofs.Looking.{looked}
 use Rattle.dkg_inclusion.proofs.requests.cancel.Goals as goal
 
 -- IT WAITS FOR THE VERIFICATION, which goes on for nobody.
@@ -30,17 +31,8 @@ returns-then-eq-clause-ready g c = c.requires.ready
 pub returns-then-eq-clause-including : goal.returns-then-eq-clause-including
 returns-then-eq-clause-including g c = settled_alone g.C.Ceremony.check_log_of g.C.Ceremony.dealing_of g.C.Ceremony.finish_of (non_zero_u64_get c.args.terms.now.blocks_per_epoch) c.args.life.now c.args.inclusion.now c.requires.including
 
-pub returns-then-eq-clause-same : goal.returns-then-eq-clause-same
-returns-then-eq-clause-same g c = refl
-
-pub returns-then-eq-clause-provider : goal.returns-then-eq-clause-provider
-returns-then-eq-clause-provider g c = λ provider. (λ epoch. refl, λ epoch peers. refl)
-
-pub returns-then-eq-clause-disk : goal.returns-then-eq-clause-disk
-returns-then-eq-clause-disk g c = refl
-
-pub returns-then-eq-clause-held : goal.returns-then-eq-clause-held
-returns-then-eq-clause-held g c = refl
+pub returns-then-eq-clause-stays : goal.returns-then-eq-clause-stays
+returns-then-eq-clause-stays g c = looked
 
 pub returns-then-eq-clause-moved : goal.returns-then-eq-clause-moved
 returns-then-eq-clause-moved g c = moved_none g.D.Disk.tells g.D.Disk.made g.X.SecretStore.made g.D.Disk.faults g.X.SecretStore.faults g.met.D.Disk.made_none g.met.X.SecretStore.made_none c.args.devices.now
@@ -65,17 +57,8 @@ returns-clause-ready g c = c.advance.ensures.ready
 pub returns-clause-including : goal.returns-clause-including
 returns-clause-including g c = c.advance.ensures.including
 
-pub returns-clause-same : goal.returns-clause-same
-returns-clause-same g c = c.advance.ensures.same
-
-pub returns-clause-provider : goal.returns-clause-provider
-returns-clause-provider g c = c.advance.ensures.provider
-
-pub returns-clause-disk : goal.returns-clause-disk
-returns-clause-disk g c = c.advance.ensures.disk
-
-pub returns-clause-held : goal.returns-clause-held
-returns-clause-held g c = c.advance.ensures.held
+pub returns-clause-stays : goal.returns-clause-stays
+returns-clause-stays g c = c.advance.ensures.stays
 
 pub returns-clause-moved : goal.returns-clause-moved
 returns-clause-moved g c = c.advance.ensures.moved

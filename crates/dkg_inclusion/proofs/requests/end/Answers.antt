@@ -25,17 +25,8 @@ returns-clause-ready g c = c.go_on.ensures.ready
 pub returns-clause-including : goal.returns-clause-including
 returns-clause-including g c = c.go_on.ensures.including
 
-pub returns-clause-same : goal.returns-clause-same
-returns-clause-same g c = c.go_on.ensures.same
-
-pub returns-clause-provider : goal.returns-clause-provider
-returns-clause-provider g c = c.go_on.ensures.provider
-
-pub returns-clause-disk : goal.returns-clause-disk
-returns-clause-disk g c = c.go_on.ensures.disk
-
-pub returns-clause-held : goal.returns-clause-held
-returns-clause-held g c = c.go_on.ensures.held
+pub returns-clause-stays : goal.returns-clause-stays
+returns-clause-stays g c = c.go_on.ensures.stays
 
 pub returns-clause-moved : goal.returns-clause-moved
 returns-clause-moved g c = c.go_on.ensures.moved

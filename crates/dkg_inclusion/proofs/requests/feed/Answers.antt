@@ -12,6 +12,7 @@ use Rattle.dkg_inclusion.proofs.Requesting.{block_answers, block_goes, feeding}
 use Rattle.dkg_dealing.proofs.Said.{said_none}
 use Rattle.dkg_inclusion.proofs.Telling.{ends_beside}
 use Rattle.dkg_inclusion.proofs.Within.{within_as, within_behind}
+use Rattle.dkg_inclusion.proofs.Looking.{looked}
 use Rattle.dkg_inclusion.proofs.requests.feed.Goals as goal
 
 pub returns-clause-acts : goal.returns-clause-acts
@@ -32,17 +33,8 @@ returns-clause-ready g c = c.go_on.ensures.ready
 pub returns-clause-including : goal.returns-clause-including
 returns-clause-including g c = c.go_on.ensures.including
 
-pub returns-clause-same : goal.returns-clause-same
-returns-clause-same g c = c.go_on.ensures.same
-
-pub returns-clause-provider : goal.returns-clause-provider
-returns-clause-provider g c = c.go_on.ensures.provider
-
-pub returns-clause-disk : goal.returns-clause-disk
-returns-clause-disk g c = c.go_on.ensures.disk
-
-pub returns-clause-held : goal.returns-clause-held
-returns-clause-held g c = c.go_on.ensures.held
+pub returns-clause-stays : goal.returns-clause-stays
+returns-clause-stays g c = c.go_on.ensures.stays
 
 pub returns-clause-moved : goal.returns-clause-moved
 returns-clause-moved g c = c.go_on.ensures.moved
@@ -110,17 +102,8 @@ returns-in_err-feed-clause-including g c =
     let p = err_from_is_err_and c.from_residual.result c.from_residual.ensures.1 in
     rw p.1 tt
 
-pub returns-in_err-feed-clause-same : goal.returns-in_err-feed-clause-same
-returns-in_err-feed-clause-same g c = refl
-
-pub returns-in_err-feed-clause-provider : goal.returns-in_err-feed-clause-provider
-returns-in_err-feed-clause-provider g c = λ provider. (λ epoch. refl, λ epoch peers. refl)
-
-pub returns-in_err-feed-clause-disk : goal.returns-in_err-feed-clause-disk
-returns-in_err-feed-clause-disk g c = refl
-
-pub returns-in_err-feed-clause-held : goal.returns-in_err-feed-clause-held
-returns-in_err-feed-clause-held g c = refl
+pub returns-in_err-feed-clause-stays : goal.returns-in_err-feed-clause-stays
+returns-in_err-feed-clause-stays g c = looked
 
 pub returns-in_err-fed-clause-ready : goal.returns-in_err-fed-clause-ready
 returns-in_err-fed-clause-ready g c =
@@ -132,14 +115,5 @@ returns-in_err-fed-clause-including g c =
     let p = err_from_is_err_and c.from_residual-in_err-fed.result c.from_residual-in_err-fed.ensures.1 in
     rw p.1 tt
 
-pub returns-in_err-fed-clause-same : goal.returns-in_err-fed-clause-same
-returns-in_err-fed-clause-same g c = refl
-
-pub returns-in_err-fed-clause-provider : goal.returns-in_err-fed-clause-provider
-returns-in_err-fed-clause-provider g c = λ provider. (λ epoch. refl, λ epoch peers. refl)
-
-pub returns-in_err-fed-clause-disk : goal.returns-in_err-fed-clause-disk
-returns-in_err-fed-clause-disk g c = refl
-
-pub returns-in_err-fed-clause-held : goal.returns-in_err-fed-clause-held
-returns-in_err-fed-clause-held g c = refl
+pub returns-in_err-fed-clause-stays : goal.returns-in_err-fed-clause-stays
+returns-in_err-fed-clause-stays g c = looked

@@ -1,4 +1,4 @@
-use Rattle.std.proofs.Common.{ap, refl, ◌∙◌}
+use Rattle.std.proofs.Common.{ap, refl}
 use Rattle.std.proofs.lemmas.Result.{err_from_is_err_and}
 use Rattle.std.specs.Int.NonZero.{non_zero_u64_get}
 use Rattle.dkg_artifact.specs.declared.scan.Fed as declared
@@ -7,13 +7,13 @@ use Rattle.dkg_dealing.specs.LiveOf.{live_of}
 use Rattle.dkg_inclusion.proofs.Asking.{MakesOver, TellsOver, answer_stopped, answer_then, behind_hand, joined_as, makes_joins, seen_behind, tells_joins}
 use Rattle.dkg_dealing.proofs.Blamed.{blamed_behind}
 use Rattle.dkg_dealing.proofs.Burning.{makes_nothing}
-use Rattle.dkg_inclusion.proofs.Caching.{same_provided}
 use Rattle.dkg_dealing.proofs.Committing.{goes_told}
 use Rattle.dkg_dealing.proofs.Kept.{moved_none, moved_then}
 use Rattle.dkg_inclusion.proofs.Scans.{is_answered}
 use Rattle.dkg_inclusion.proofs.Staying.{behind_ready, includes_on, some_in, some_of}
 use Rattle.dkg_inclusion.proofs.Telling.{ends_beside}
 use Rattle.dkg_inclusion.proofs.Within.{within_as, within_behind, within_then}
+use Rattle.dkg_inclusion.proofs.Looking.{looked, looked_then}
 use Rattle.dkg_inclusion.proofs.requests.go_on.Goals as goal
 
 -- IT NEEDS MORE
@@ -44,7 +44,7 @@ returns-in_ok-take_answer-in_default-clause-acts g c = λ disk secrets provider 
     within_behind beside (behind_hand (MakesOver g.D.Disk.files g.D.Disk.image g.X.SecretStore.held) (makes_joins g.D.Disk.files g.D.Disk.image g.X.SecretStore.held) fixed c.args.request beside fence c.args.life.now c.args.inclusion.now seen hand.0 hand.1 round.0 round.1 c.args.fed answered).inclusion
     (within_then (behind_hand (MakesOver g.D.Disk.files g.D.Disk.image g.X.SecretStore.held) (makes_joins g.D.Disk.files g.D.Disk.image g.X.SecretStore.held) fixed c.args.request beside fence c.args.life.now c.args.inclusion.now seen hand.0 hand.1 round.0 round.1 c.args.fed answered) (c.in_ok-take_answer-in_default.ensures.acts disk secrets provider fixed round.0 (behind_hand (MakesOver g.D.Disk.files g.D.Disk.image g.X.SecretStore.held) (makes_joins g.D.Disk.files g.D.Disk.image g.X.SecretStore.held) fixed c.args.request beside fence c.args.life.now c.args.inclusion.now seen hand.0 hand.1 round.0 round.1 c.args.fed answered) fence of reads by includes round.1 (seen_behind c.args.inclusion.now beside.inclusion seen))
     (λ now is made. within_as (λ i was. was) (λ later was next. answer_then (MakesOver g.D.Disk.files g.D.Disk.image g.X.SecretStore.held) (makes_joins g.D.Disk.files g.D.Disk.image g.X.SecretStore.held) fixed c.args.request beside fence c.args.life.now c.args.inclusion.now seen hand.0 hand.1 round.0 round.1 c.args.fed answered c.take_answer.new.inclusion (ap (λ x. x.hand) its_rest) (ap (λ x. x.requests) its_rest) now is _ c.take_answer.new.life (c.args.devices.now, c.args.out.now.entries) (c.take_answer.new.devices, c.take_answer.new.out.entries) (c.advance.new.devices, c.advance.new.out.entries) made next)
-    (c.advance.ensures.acts disk secrets provider fixed now fence of reads by (includes_on fixed (c.take_answer.ensures.provider provider) includes) is)))
+    (c.advance.ensures.acts disk secrets provider fixed now fence of reads by (includes_on fixed (c.take_answer.ensures.stays.provider provider) includes) is)))
 
 pub returns-in_ok-take_answer-in_default-clause-tells : goal.returns-in_ok-take_answer-in_default-clause-tells
 returns-in_ok-take_answer-in_default-clause-tells g c = λ provider fixed beside fence of reads by includes seen.
@@ -56,7 +56,7 @@ returns-in_ok-take_answer-in_default-clause-tells g c = λ provider fixed beside
     within_behind beside (behind_hand TellsOver tells_joins fixed c.args.request beside fence c.args.life.now c.args.inclusion.now seen hand.0 hand.1 round.0 round.1 c.args.fed answered).inclusion
     (within_then (behind_hand TellsOver tells_joins fixed c.args.request beside fence c.args.life.now c.args.inclusion.now seen hand.0 hand.1 round.0 round.1 c.args.fed answered) (c.in_ok-take_answer-in_default.ensures.tells provider fixed round.0 (behind_hand TellsOver tells_joins fixed c.args.request beside fence c.args.life.now c.args.inclusion.now seen hand.0 hand.1 round.0 round.1 c.args.fed answered) fence of reads by includes round.1 (seen_behind c.args.inclusion.now beside.inclusion seen))
     (λ now is made. within_as (λ i was. was) (λ later was next. answer_then TellsOver tells_joins fixed c.args.request beside fence c.args.life.now c.args.inclusion.now seen hand.0 hand.1 round.0 round.1 c.args.fed answered c.take_answer.new.inclusion (ap (λ x. x.hand) its_rest) (ap (λ x. x.requests) its_rest) now is _ c.take_answer.new.life c.args.out.now.entries c.take_answer.new.out.entries c.advance.new.out.entries made next)
-    (c.advance.ensures.tells provider fixed now fence of reads by (includes_on fixed (c.take_answer.ensures.provider provider) includes) is)))
+    (c.advance.ensures.tells provider fixed now fence of reads by (includes_on fixed (c.take_answer.ensures.stays.provider provider) includes) is)))
 
 pub returns-in_ok-take_answer-in_default-clause-moved : goal.returns-in_ok-take_answer-in_default-clause-moved
 returns-in_ok-take_answer-in_default-clause-moved g c = moved_then g.D.Disk.tells g.D.Disk.made g.X.SecretStore.made g.D.Disk.faults g.X.SecretStore.faults g.met.D.Disk.made_more g.met.X.SecretStore.made_more _ _ _ c.take_answer.ensures.moved c.advance.ensures.moved
@@ -70,17 +70,8 @@ returns-in_ok-take_answer-in_default-clause-ready g c = c.advance.ensures.ready
 pub returns-in_ok-take_answer-in_default-clause-including : goal.returns-in_ok-take_answer-in_default-clause-including
 returns-in_ok-take_answer-in_default-clause-including g c = c.advance.ensures.including
 
-pub returns-in_ok-take_answer-in_default-clause-same : goal.returns-in_ok-take_answer-in_default-clause-same
-returns-in_ok-take_answer-in_default-clause-same g c = c.advance.ensures.same ∙ c.take_answer.ensures.same
-
-pub returns-in_ok-take_answer-in_default-clause-provider : goal.returns-in_ok-take_answer-in_default-clause-provider
-returns-in_ok-take_answer-in_default-clause-provider g c = λ provider. same_provided (c.take_answer.ensures.provider provider) (c.advance.ensures.provider provider)
-
-pub returns-in_ok-take_answer-in_default-clause-disk : goal.returns-in_ok-take_answer-in_default-clause-disk
-returns-in_ok-take_answer-in_default-clause-disk g c = c.advance.ensures.disk ∙ c.take_answer.ensures.disk
-
-pub returns-in_ok-take_answer-in_default-clause-held : goal.returns-in_ok-take_answer-in_default-clause-held
-returns-in_ok-take_answer-in_default-clause-held g c = c.advance.ensures.held ∙ c.take_answer.ensures.held
+pub returns-in_ok-take_answer-in_default-clause-stays : goal.returns-in_ok-take_answer-in_default-clause-stays
+returns-in_ok-take_answer-in_default-clause-stays g c = looked_then c.take_answer.ensures.stays c.advance.ensures.stays
 
 pub take_answer-requires-clause-ready : goal.take_answer-requires-clause-ready
 take_answer-requires-clause-ready g c = c.requires.ready
@@ -135,17 +126,8 @@ returns-in_err-take_answer-in_default-clause-including g c =
     let p = err_from_is_err_and c.from_residual.result c.from_residual.ensures.1 in
     rw p.1 tt
 
-pub returns-in_err-take_answer-in_default-clause-same : goal.returns-in_err-take_answer-in_default-clause-same
-returns-in_err-take_answer-in_default-clause-same g c = c.take_answer.ensures.same
-
-pub returns-in_err-take_answer-in_default-clause-provider : goal.returns-in_err-take_answer-in_default-clause-provider
-returns-in_err-take_answer-in_default-clause-provider g c = c.take_answer.ensures.provider
-
-pub returns-in_err-take_answer-in_default-clause-disk : goal.returns-in_err-take_answer-in_default-clause-disk
-returns-in_err-take_answer-in_default-clause-disk g c = c.take_answer.ensures.disk
-
-pub returns-in_err-take_answer-in_default-clause-held : goal.returns-in_err-take_answer-in_default-clause-held
-returns-in_err-take_answer-in_default-clause-held g c = c.take_answer.ensures.held
+pub returns-in_err-take_answer-in_default-clause-stays : goal.returns-in_err-take_answer-in_default-clause-stays
+returns-in_err-take_answer-in_default-clause-stays g c = c.take_answer.ensures.stays
 
 pub returns-in_err-take_answer-in_default-clause-moved : goal.returns-in_err-take_answer-in_default-clause-moved
 returns-in_err-take_answer-in_default-clause-moved g c = c.take_answer.ensures.moved
@@ -160,17 +142,8 @@ returns-in_err-take_answer-in_default-clause-causes g c =
 pub returns-in-Need-clause-ready : goal.returns-in-Need-clause-ready
 returns-in-Need-clause-ready g c = c.requires.ready
 
-pub returns-in-Need-clause-same : goal.returns-in-Need-clause-same
-returns-in-Need-clause-same g c = refl
-
-pub returns-in-Need-clause-provider : goal.returns-in-Need-clause-provider
-returns-in-Need-clause-provider g c = λ provider. (λ epoch. refl, λ epoch peers. refl)
-
-pub returns-in-Need-clause-disk : goal.returns-in-Need-clause-disk
-returns-in-Need-clause-disk g c = refl
-
-pub returns-in-Need-clause-held : goal.returns-in-Need-clause-held
-returns-in-Need-clause-held g c = refl
+pub returns-in-Need-clause-stays : goal.returns-in-Need-clause-stays
+returns-in-Need-clause-stays g c = looked
 
 pub returns-in-Need-clause-causes : goal.returns-in-Need-clause-causes
 returns-in-Need-clause-causes g c = tt

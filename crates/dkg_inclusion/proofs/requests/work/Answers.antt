@@ -9,12 +9,12 @@ use Rattle.dkg_dealing.specs.LiveOf.{live_of}
 use Rattle.dkg_inclusion.proofs.Asking.{MakesOver, TellsOver, joined_as, makes_joins, tells_joins, works_by}
 use Rattle.dkg_dealing.proofs.Blamed.{blamed_behind}
 use Rattle.dkg_dealing.proofs.Burning.{makes_nothing}
-use Rattle.dkg_inclusion.proofs.Caching.{same_provided}
 use Rattle.dkg_dealing.proofs.Committing.{goes_told}
 use Rattle.dkg_dealing.proofs.Kept.{moved_none, moved_then}
 use Rattle.dkg_inclusion.proofs.Staying.{includes_on}
 use Rattle.dkg_inclusion.proofs.Telling.{ends_beside}
 use Rattle.dkg_inclusion.proofs.Within.{within_as, within_then}
+use Rattle.dkg_inclusion.proofs.Looking.{looked, looked_then}
 use Rattle.dkg_inclusion.proofs.requests.work.Goals as goal
 
 -- NONE RUNS
@@ -43,7 +43,7 @@ returns-clause-acts g c = λ disk secrets provider fixed beside fence of reads b
     within_then beside (c.in_ok-end_verifying.ensures.acts disk secrets provider fixed beside fence of reads by includes seen)
     (λ now is made. within_as (λ i was. was) (λ later was next. joined_as (MakesOver g.D.Disk.files g.D.Disk.image g.X.SecretStore.held) {x = (c.args.devices.now, c.args.out.now.entries)} {y = (c.advance.new.devices, c.advance.new.out.entries)} (works_by fixed (option_map result_of c.args.done) (live_of beside fence c.args.life.now) true (ap (λ (j : Option core.Job). is_some j) seen.running ∙ some))
     ((makes_joins g.D.Disk.files g.D.Disk.image g.X.SecretStore.held).next (including.ends_verifying fixed (option_map result_of c.args.done) (live_of beside fence c.args.life.now)) (λ s. including.advanced fixed s) (live_of now fence c.end_verifying.new.life) _ (c.args.devices.now, c.args.out.now.entries) (c.end_verifying.new.devices, c.end_verifying.new.out.entries) (c.advance.new.devices, c.advance.new.out.entries) made next))
-    (c.advance.ensures.acts disk secrets provider fixed now fence of reads by (includes_on fixed (c.end_verifying.ensures.provider provider) includes) is))
+    (c.advance.ensures.acts disk secrets provider fixed now fence of reads by (includes_on fixed (c.end_verifying.ensures.stays.provider provider) includes) is))
 
 pub returns-clause-tells : goal.returns-clause-tells
 returns-clause-tells g c = λ provider fixed beside fence of reads by includes seen.
@@ -51,7 +51,7 @@ returns-clause-tells g c = λ provider fixed beside fence of reads by includes s
     within_then beside (c.in_ok-end_verifying.ensures.tells provider fixed beside fence of reads by includes seen)
     (λ now is made. within_as (λ i was. was) (λ later was next. joined_as TellsOver {x = c.args.out.now.entries} {y = c.advance.new.out.entries} (works_by fixed (option_map result_of c.args.done) (live_of beside fence c.args.life.now) true (ap (λ (j : Option core.Job). is_some j) seen.running ∙ some))
     (tells_joins.next (including.ends_verifying fixed (option_map result_of c.args.done) (live_of beside fence c.args.life.now)) (λ s. including.advanced fixed s) (live_of now fence c.end_verifying.new.life) _ c.args.out.now.entries c.end_verifying.new.out.entries c.advance.new.out.entries made next))
-    (c.advance.ensures.tells provider fixed now fence of reads by (includes_on fixed (c.end_verifying.ensures.provider provider) includes) is))
+    (c.advance.ensures.tells provider fixed now fence of reads by (includes_on fixed (c.end_verifying.ensures.stays.provider provider) includes) is))
 
 pub returns-clause-moved : goal.returns-clause-moved
 returns-clause-moved g c = moved_then g.D.Disk.tells g.D.Disk.made g.X.SecretStore.made g.D.Disk.faults g.X.SecretStore.faults g.met.D.Disk.made_more g.met.X.SecretStore.made_more _ _ _ c.end_verifying.ensures.moved c.advance.ensures.moved
@@ -65,17 +65,8 @@ returns-clause-ready g c = c.advance.ensures.ready
 pub returns-clause-including : goal.returns-clause-including
 returns-clause-including g c = c.advance.ensures.including
 
-pub returns-clause-same : goal.returns-clause-same
-returns-clause-same g c = c.advance.ensures.same ∙ c.end_verifying.ensures.same
-
-pub returns-clause-provider : goal.returns-clause-provider
-returns-clause-provider g c = λ provider. same_provided (c.end_verifying.ensures.provider provider) (c.advance.ensures.provider provider)
-
-pub returns-clause-disk : goal.returns-clause-disk
-returns-clause-disk g c = c.advance.ensures.disk ∙ c.end_verifying.ensures.disk
-
-pub returns-clause-held : goal.returns-clause-held
-returns-clause-held g c = c.advance.ensures.held ∙ c.end_verifying.ensures.held
+pub returns-clause-stays : goal.returns-clause-stays
+returns-clause-stays g c = looked_then c.end_verifying.ensures.stays c.advance.ensures.stays
 
 pub end_verifying-requires-clause-ready : goal.end_verifying-requires-clause-ready
 end_verifying-requires-clause-ready g c = c.requires.ready
@@ -117,17 +108,8 @@ returns-in_err-end_verifying-clause-including g c =
     let p = err_from_is_err_and c.from_residual.result c.from_residual.ensures.1 in
     rw p.1 tt
 
-pub returns-in_err-end_verifying-clause-same : goal.returns-in_err-end_verifying-clause-same
-returns-in_err-end_verifying-clause-same g c = c.end_verifying.ensures.same
-
-pub returns-in_err-end_verifying-clause-provider : goal.returns-in_err-end_verifying-clause-provider
-returns-in_err-end_verifying-clause-provider g c = c.end_verifying.ensures.provider
-
-pub returns-in_err-end_verifying-clause-disk : goal.returns-in_err-end_verifying-clause-disk
-returns-in_err-end_verifying-clause-disk g c = c.end_verifying.ensures.disk
-
-pub returns-in_err-end_verifying-clause-held : goal.returns-in_err-end_verifying-clause-held
-returns-in_err-end_verifying-clause-held g c = c.end_verifying.ensures.held
+pub returns-in_err-end_verifying-clause-stays : goal.returns-in_err-end_verifying-clause-stays
+returns-in_err-end_verifying-clause-stays g c = c.end_verifying.ensures.stays
 
 pub returns-in_err-end_verifying-clause-moved : goal.returns-in_err-end_verifying-clause-moved
 returns-in_err-end_verifying-clause-moved g c = c.end_verifying.ensures.moved
@@ -142,17 +124,8 @@ returns-in_err-end_verifying-clause-causes g c =
 pub returns-then-is_none-clause-ready : goal.returns-then-is_none-clause-ready
 returns-then-is_none-clause-ready g c = c.requires.ready
 
-pub returns-then-is_none-clause-same : goal.returns-then-is_none-clause-same
-returns-then-is_none-clause-same g c = refl
-
-pub returns-then-is_none-clause-provider : goal.returns-then-is_none-clause-provider
-returns-then-is_none-clause-provider g c = λ provider. (λ epoch. refl, λ epoch peers. refl)
-
-pub returns-then-is_none-clause-disk : goal.returns-then-is_none-clause-disk
-returns-then-is_none-clause-disk g c = refl
-
-pub returns-then-is_none-clause-held : goal.returns-then-is_none-clause-held
-returns-then-is_none-clause-held g c = refl
+pub returns-then-is_none-clause-stays : goal.returns-then-is_none-clause-stays
+returns-then-is_none-clause-stays g c = looked
 
 pub returns-then-is_none-clause-causes : goal.returns-then-is_none-clause-causes
 returns-then-is_none-clause-causes g c = tt

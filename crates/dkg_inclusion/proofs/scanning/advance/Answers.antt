@@ -7,13 +7,13 @@ use Rattle.dkg_dealing.specs.LiveOf.{live_of}
 use Rattle.dkg_inclusion.proofs.Asking.{MakesOver, TellsOver, behind_length, front_length, makes_joins, no_more, one_more, stopped_at, tells_joins}
 use Rattle.dkg_dealing.proofs.Blamed.{caused_behind}
 use Rattle.dkg_dealing.proofs.Burning.{makes_nothing}
-use Rattle.dkg_inclusion.proofs.Caching.{same_provided}
 use Rattle.dkg_dealing.proofs.Committing.{goes_told}
 use Rattle.dkg_dealing.proofs.Kept.{moved_none, moved_then}
 use Rattle.dkg_inclusion.proofs.Requesting.{settled_waits}
 use Rattle.dkg_inclusion.proofs.Staying.{includes_on}
 use Rattle.dkg_inclusion.proofs.Telling.{ends_beside}
 use Rattle.dkg_inclusion.proofs.Within.{within_as, within_then}
+use Rattle.dkg_inclusion.proofs.Looking.{looked, looked_then}
 use Rattle.dkg_inclusion.proofs.scanning.advance.Goals as goal
 
 -- NOTHING WAS READ YET
@@ -22,10 +22,7 @@ pub loop-turn-init : goal.loop-turn-init
 loop-turn-init g c = record {
   ready = c.requires.ready;
   including = c.requires.including;
-  same = refl;
-  provider = λ provider. (λ epoch. refl, λ epoch peers. refl);
-  disk = refl;
-  held = refl;
+  stays = looked;
   left = λ some. omega (arith, c.len-count.ensures);
   acts = λ disk secrets provider fixed beside fence of reads by includes seen.
       ends_beside beside seen refl (makes_nothing (g.D.Disk.files c.args.devices.now.disk.now) (g.D.Disk.image c.args.devices.now.disk.now) _ refl);
@@ -39,20 +36,17 @@ pub loop-turn-preserved : goal.loop-turn-preserved
 loop-turn-preserved g c = record {
   ready = c.in_ok-read_first.ensures.ready;
   including = c.in_ok-read_first.ensures.including;
-  same = c.read_first.ensures.same ∙ c.loop-turn.invariant.same;
-  provider = λ provider. same_provided (c.loop-turn.invariant.provider provider) (c.read_first.ensures.provider provider);
-  disk = c.read_first.ensures.disk ∙ c.loop-turn.invariant.disk;
-  held = c.read_first.ensures.held ∙ c.loop-turn.invariant.held;
-  left = λ some. let here = subst (λ l. IsSome l.round) c.read_first.ensures.same some in
+  stays = looked_then c.loop-turn.invariant.stays c.read_first.ensures.stays;
+  left = λ some. let here = subst (λ l. IsSome l.round) c.read_first.ensures.stays.same some in
       behind_length c.loop-turn.inclusion.requests c.read_first.new.inclusion.requests c.loop-turn._turn c.len-count.result (c.in_ok-read_first.ensures.left here) (c.loop-turn.invariant.left here) c.loop-turn-test.true;
   acts = λ disk secrets provider fixed beside fence of reads by includes seen.
       within_then beside (c.loop-turn.invariant.acts disk secrets provider fixed beside fence of reads by includes seen)
       (λ now is made. within_as (λ i was. was) (λ later was next. one_more (MakesOver g.D.Disk.files g.D.Disk.image g.X.SecretStore.held) (makes_joins g.D.Disk.files g.D.Disk.image g.X.SecretStore.held) fixed c.loop-turn._turn (live_of beside fence c.args.life.now) (live_of now fence c.loop-turn.life) _ (c.args.devices.now, c.args.out.now.entries) (c.loop-turn.devices, c.loop-turn.out.entries) (c.read_first.new.devices, c.read_first.new.out.entries) made next)
-      (c.in_ok-read_first.ensures.acts disk secrets provider fixed now fence of reads by (includes_on fixed (c.loop-turn.invariant.provider provider) includes) is));
+      (c.in_ok-read_first.ensures.acts disk secrets provider fixed now fence of reads by (includes_on fixed (c.loop-turn.invariant.stays.provider provider) includes) is));
   tells = λ provider fixed beside fence of reads by includes seen.
       within_then beside (c.loop-turn.invariant.tells provider fixed beside fence of reads by includes seen)
       (λ now is made. within_as (λ i was. was) (λ later was next. one_more TellsOver tells_joins fixed c.loop-turn._turn (live_of beside fence c.args.life.now) (live_of now fence c.loop-turn.life) _ c.args.out.now.entries c.loop-turn.out.entries c.read_first.new.out.entries made next)
-      (c.in_ok-read_first.ensures.tells provider fixed now fence of reads by (includes_on fixed (c.loop-turn.invariant.provider provider) includes) is));
+      (c.in_ok-read_first.ensures.tells provider fixed now fence of reads by (includes_on fixed (c.loop-turn.invariant.stays.provider provider) includes) is));
   moved = moved_then g.D.Disk.tells g.D.Disk.made g.X.SecretStore.made g.D.Disk.faults g.X.SecretStore.faults g.met.D.Disk.made_more g.met.X.SecretStore.made_more _ _ _ c.loop-turn.invariant.moved c.read_first.ensures.moved;
 }
 
@@ -74,17 +68,8 @@ returns-then-not-may_read-clause-including g c = (record { ready = c.loop-turn.i
 pub returns-then-not-may_read-clause-ready : goal.returns-then-not-may_read-clause-ready
 returns-then-not-may_read-clause-ready g c = c.loop-turn.invariant.ready
 
-pub returns-then-not-may_read-clause-same : goal.returns-then-not-may_read-clause-same
-returns-then-not-may_read-clause-same g c = c.loop-turn.invariant.same
-
-pub returns-then-not-may_read-clause-provider : goal.returns-then-not-may_read-clause-provider
-returns-then-not-may_read-clause-provider g c = c.loop-turn.invariant.provider
-
-pub returns-then-not-may_read-clause-disk : goal.returns-then-not-may_read-clause-disk
-returns-then-not-may_read-clause-disk g c = c.loop-turn.invariant.disk
-
-pub returns-then-not-may_read-clause-held : goal.returns-then-not-may_read-clause-held
-returns-then-not-may_read-clause-held g c = c.loop-turn.invariant.held
+pub returns-then-not-may_read-clause-stays : goal.returns-then-not-may_read-clause-stays
+returns-then-not-may_read-clause-stays g c = c.loop-turn.invariant.stays
 
 pub returns-then-not-may_read-clause-moved : goal.returns-then-not-may_read-clause-moved
 returns-then-not-may_read-clause-moved g c = c.loop-turn.invariant.moved
@@ -107,17 +92,8 @@ returns-clause-including g c = (record { ready = c.loop-turn.invariant.including
 pub returns-clause-ready : goal.returns-clause-ready
 returns-clause-ready g c = c.loop-turn.invariant.ready
 
-pub returns-clause-same : goal.returns-clause-same
-returns-clause-same g c = c.loop-turn.invariant.same
-
-pub returns-clause-provider : goal.returns-clause-provider
-returns-clause-provider g c = c.loop-turn.invariant.provider
-
-pub returns-clause-disk : goal.returns-clause-disk
-returns-clause-disk g c = c.loop-turn.invariant.disk
-
-pub returns-clause-held : goal.returns-clause-held
-returns-clause-held g c = c.loop-turn.invariant.held
+pub returns-clause-stays : goal.returns-clause-stays
+returns-clause-stays g c = c.loop-turn.invariant.stays
 
 pub returns-clause-moved : goal.returns-clause-moved
 returns-clause-moved g c = c.loop-turn.invariant.moved
@@ -132,7 +108,7 @@ returns-in_err-read_first-clause-acts g c = λ disk secrets provider fixed besid
     rw (p.1, p.2) (within_then beside (c.loop-turn.invariant.acts disk secrets provider fixed beside fence of reads by includes seen)
     (λ now is made. within_as (λ i was. was) (λ later was next. stopped_at (MakesOver g.D.Disk.files g.D.Disk.image g.X.SecretStore.held) (makes_joins g.D.Disk.files g.D.Disk.image g.X.SecretStore.held) fixed (c.loop-turn._turn + 1) (length beside.inclusion.queue) within (live_of beside fence c.args.life.now) c.in_err-read_first.field-0.0 (c.args.devices.now, c.args.out.now.entries) (c.read_first.new.devices, c.read_first.new.out.entries)
     (one_more (MakesOver g.D.Disk.files g.D.Disk.image g.X.SecretStore.held) (makes_joins g.D.Disk.files g.D.Disk.image g.X.SecretStore.held) fixed c.loop-turn._turn (live_of beside fence c.args.life.now) (live_of now fence c.loop-turn.life) _ (c.args.devices.now, c.args.out.now.entries) (c.loop-turn.devices, c.loop-turn.out.entries) (c.read_first.new.devices, c.read_first.new.out.entries) made next))
-    (c.in_err-read_first.ensures.acts disk secrets provider fixed now fence of reads by (includes_on fixed (c.loop-turn.invariant.provider provider) includes) is)))
+    (c.in_err-read_first.ensures.acts disk secrets provider fixed now fence of reads by (includes_on fixed (c.loop-turn.invariant.stays.provider provider) includes) is)))
 
 pub returns-in_err-read_first-clause-tells : goal.returns-in_err-read_first-clause-tells
 returns-in_err-read_first-clause-tells g c = λ provider fixed beside fence of reads by includes seen.
@@ -142,7 +118,7 @@ returns-in_err-read_first-clause-tells g c = λ provider fixed beside fence of r
     rw (p.1, p.2) (within_then beside (c.loop-turn.invariant.tells provider fixed beside fence of reads by includes seen)
     (λ now is made. within_as (λ i was. was) (λ later was next. stopped_at TellsOver tells_joins fixed (c.loop-turn._turn + 1) (length beside.inclusion.queue) within (live_of beside fence c.args.life.now) c.in_err-read_first.field-0.0 c.args.out.now.entries c.read_first.new.out.entries
     (one_more TellsOver tells_joins fixed c.loop-turn._turn (live_of beside fence c.args.life.now) (live_of now fence c.loop-turn.life) _ c.args.out.now.entries c.loop-turn.out.entries c.read_first.new.out.entries made next))
-    (c.in_err-read_first.ensures.tells provider fixed now fence of reads by (includes_on fixed (c.loop-turn.invariant.provider provider) includes) is)))
+    (c.in_err-read_first.ensures.tells provider fixed now fence of reads by (includes_on fixed (c.loop-turn.invariant.stays.provider provider) includes) is)))
 
 pub returns-in_err-read_first-clause-ready : goal.returns-in_err-read_first-clause-ready
 returns-in_err-read_first-clause-ready g c =
@@ -154,17 +130,8 @@ returns-in_err-read_first-clause-including g c =
     let p = err_from_is_err_and c.from_residual.result c.from_residual.ensures.1 in
     rw p.1 tt
 
-pub returns-in_err-read_first-clause-same : goal.returns-in_err-read_first-clause-same
-returns-in_err-read_first-clause-same g c = c.read_first.ensures.same ∙ c.loop-turn.invariant.same
-
-pub returns-in_err-read_first-clause-provider : goal.returns-in_err-read_first-clause-provider
-returns-in_err-read_first-clause-provider g c = λ provider. same_provided (c.loop-turn.invariant.provider provider) (c.read_first.ensures.provider provider)
-
-pub returns-in_err-read_first-clause-disk : goal.returns-in_err-read_first-clause-disk
-returns-in_err-read_first-clause-disk g c = c.read_first.ensures.disk ∙ c.loop-turn.invariant.disk
-
-pub returns-in_err-read_first-clause-held : goal.returns-in_err-read_first-clause-held
-returns-in_err-read_first-clause-held g c = c.read_first.ensures.held ∙ c.loop-turn.invariant.held
+pub returns-in_err-read_first-clause-stays : goal.returns-in_err-read_first-clause-stays
+returns-in_err-read_first-clause-stays g c = looked_then c.loop-turn.invariant.stays c.read_first.ensures.stays
 
 pub returns-in_err-read_first-clause-moved : goal.returns-in_err-read_first-clause-moved
 returns-in_err-read_first-clause-moved g c = moved_then g.D.Disk.tells g.D.Disk.made g.X.SecretStore.made g.D.Disk.faults g.X.SecretStore.faults g.met.D.Disk.made_more g.met.X.SecretStore.made_more _ _ _ c.loop-turn.invariant.moved c.read_first.ensures.moved

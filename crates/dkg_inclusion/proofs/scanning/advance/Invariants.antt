@@ -1,4 +1,4 @@
-use Rattle.std.proofs.Common.{◌≡◌, ◌+◌, ◌≤◌, length}
+use Rattle.std.proofs.Common.{◌+◌, ◌≤◌, length}
 use Rattle.std.specs.Prelude.{IsSome, IsTrue}
 use Rattle.std.specs.Int.NonZero.{non_zero_u64_get}
 use Rattle.dkg_fence.specs.Readiness.{Readiness}
@@ -11,7 +11,8 @@ use Rattle.dkg_inclusion.specs.InclusionOf.{IsReadyInclusion, IsSeen}
 use Rattle.dkg_dealing.specs.LiveOf.{Beside, EndsWith, live_of}
 use Rattle.dkg_dealing.specs.Made.{Makes, Tells}
 use Rattle.dkg_dealing.specs.Moved.{Moved}
-use Rattle.dkg_dealing.specs.Rules.{IncludesBy, IsRuledBy, SameProvided}
+use Rattle.dkg_dealing.specs.Rules.{IncludesBy, IsRuledBy}
+use Rattle.dkg_inclusion.specs.Looks.{OnlyLooks}
 use Rattle.dkg_inclusion.proofs.Within.{NoMore}
 use Rattle.dkg_inclusion.proofs.scanning.advance.Given as goal
 
@@ -19,11 +20,9 @@ abbrev pub invariant-loop-turn : goal.invariant-loop-turn
 invariant-loop-turn g l = record {
   ready : IsReadyLife g.D.Disk.tells g.D.Disk.files g.D.Disk.image g.C.Ceremony.ack_of g.C.Ceremony.deal_of g.C.Ceremony.check_ack_of l.terms l.life l.devices;
   including : IsReadyInclusion g.C.Ceremony.check_log_of g.C.Ceremony.dealing_of g.C.Ceremony.finish_of (non_zero_u64_get l.terms.blocks_per_epoch) l.life l.inclusion;
-  same : l.life ≡ l.initial.life;
-  provider : IsTrue g.P.ParticipantsProvider.tells → SameProvided (g.P.ParticipantsProvider.participants_of l.initial.provider) (g.P.ParticipantsProvider.participants_of l.provider)
+  stays : OnlyLooks l.initial.life l.life g.X.SecretStore.held l.initial.devices l.devices g.P.ParticipantsProvider.tells
+      (g.P.ParticipantsProvider.participants_of l.initial.provider) (g.P.ParticipantsProvider.participants_of l.provider)
       (g.P.ParticipantsProvider.directory_of l.initial.provider) (g.P.ParticipantsProvider.directory_of l.provider);
-  disk : l.devices.disk.now ≡ l.initial.devices.disk.now;
-  held : g.X.SecretStore.held l.devices.secrets.now ≡ g.X.SecretStore.held l.initial.devices.secrets.now;
   left : IsSome l.life.round → length l.inclusion.requests + l._turn ≤ l.count;
   acts : IsTrue g.D.Disk.tells → IsTrue g.X.SecretStore.tells → IsTrue g.P.ParticipantsProvider.tells → (c : Fixed g.row.Dir.Denot) (beside : Beside g.row.Dir.Denot) (fence : Readiness) → IsOf l.terms c → ReadsPlanless c
       → IsRuledBy g.C.Ceremony.round_of g.C.Ceremony.deal_of g.C.Ceremony.dealing_of g.C.Ceremony.ack_of g.C.Ceremony.check_ack_of g.C.Ceremony.sign_log_of g.C.Ceremony.bears_ack_of g.C.Ceremony.share_public_of

@@ -17,6 +17,7 @@ use Rattle.dkg_dealing.proofs.Kept.{moved_none}
 use Rattle.dkg_dealing.proofs.Said.{speaks_tells}
 use Rattle.dkg_inclusion.proofs.Staying.{nothing_blames, ready_answered, ready_on, ready_verifying, some_value, verifying_rest, want_blames}
 use Rattle.dkg_inclusion.proofs.Within.{within_as}
+use Rattle.dkg_inclusion.proofs.Looking.{looked}
 use Rattle.dkg_inclusion.proofs.scanning.ask_for.Goals as goal
 
 -- FROM THE CACHE
@@ -84,8 +85,13 @@ pub returns-in-Some-ready-clause-including : goal.returns-in-Some-ready-clause-i
 returns-in-Some-ready-clause-including g c =
     rw c.answer_by.ensures.store (in_any c.answer_by.result (ready_answered g.C.Ceremony.check_log_of g.C.Ceremony.dealing_of g.C.Ceremony.finish_of (non_zero_u64_get c.args.terms.now.blocks_per_epoch) c.args.life.now c.args.inclusion.now c.answer_by.new.cache c.answer_by.new.told c.requires.including))
 
-pub returns-in-Some-ready-clause-same : goal.returns-in-Some-ready-clause-same
-returns-in-Some-ready-clause-same g c = rw c.answer_by.ensures.store refl
+pub returns-in-Some-ready-clause-stays : goal.returns-in-Some-ready-clause-stays
+returns-in-Some-ready-clause-stays g c = record {
+  same = rw c.answer_by.ensures.store refl;
+  disk = c.answer_by.ensures.disk;
+  held = c.answer_by.ensures.held;
+  provider = c.answer_by.ensures.provider;
+}
 
 pub returns-in-Some-ready-clause-moved : goal.returns-in-Some-ready-clause-moved
 returns-in-Some-ready-clause-moved g c = c.answer_by.ensures.moved
@@ -132,17 +138,8 @@ returns-clause-causes g c = nothing_blames _ _ _ c.start_verifying.result c.star
 
 -- WHAT STAYS
 
-pub returns-in-Some-clause-same : goal.returns-in-Some-clause-same
-returns-in-Some-clause-same g c = refl
-
-pub returns-in-Some-clause-provider : goal.returns-in-Some-clause-provider
-returns-in-Some-clause-provider g c = λ provider. (λ epoch. refl, λ epoch peers. refl)
-
-pub returns-in-Some-clause-disk : goal.returns-in-Some-clause-disk
-returns-in-Some-clause-disk g c = refl
-
-pub returns-in-Some-clause-held : goal.returns-in-Some-clause-held
-returns-in-Some-clause-held g c = refl
+pub returns-in-Some-clause-stays : goal.returns-in-Some-clause-stays
+returns-in-Some-clause-stays g c = looked
 
 pub returns-in-Some-clause-rest : goal.returns-in-Some-clause-rest
 returns-in-Some-clause-rest g c = refl
@@ -150,23 +147,5 @@ returns-in-Some-clause-rest g c = refl
 pub returns-in-Some-ready-clause-rest : goal.returns-in-Some-ready-clause-rest
 returns-in-Some-ready-clause-rest g c = refl
 
-pub returns-in-Some-ready-clause-provider : goal.returns-in-Some-ready-clause-provider
-returns-in-Some-ready-clause-provider g c = c.answer_by.ensures.provider
-
-pub returns-in-Some-ready-clause-disk : goal.returns-in-Some-ready-clause-disk
-returns-in-Some-ready-clause-disk g c = c.answer_by.ensures.disk
-
-pub returns-in-Some-ready-clause-held : goal.returns-in-Some-ready-clause-held
-returns-in-Some-ready-clause-held g c = c.answer_by.ensures.held
-
-pub returns-clause-same : goal.returns-clause-same
-returns-clause-same g c = refl
-
-pub returns-clause-provider : goal.returns-clause-provider
-returns-clause-provider g c = λ provider. (λ epoch. refl, λ epoch peers. refl)
-
-pub returns-clause-disk : goal.returns-clause-disk
-returns-clause-disk g c = refl
-
-pub returns-clause-held : goal.returns-clause-held
-returns-clause-held g c = refl
+pub returns-clause-stays : goal.returns-clause-stays
+returns-clause-stays g c = looked

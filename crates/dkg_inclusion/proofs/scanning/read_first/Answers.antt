@@ -18,6 +18,7 @@ use Rattle.dkg_inclusion.proofs.Scans.{needs_is}
 use Rattle.dkg_inclusion.proofs.Staying.{at_none, none_of, ready_held, ready_requests, some_is, unless_none}
 use Rattle.dkg_inclusion.proofs.Telling.{ends_beside}
 use Rattle.dkg_inclusion.proofs.Within.{within_as, within_behind}
+use Rattle.dkg_inclusion.proofs.Looking.{looked}
 use Rattle.dkg_inclusion.proofs.scanning.read_first.Goals as goal
 
 -- THERE IS NO ROUND
@@ -121,17 +122,8 @@ returns-clause-ready g c = c.take_answer.ensures.ready
 pub returns-clause-including : goal.returns-clause-including
 returns-clause-including g c = c.take_answer.ensures.including
 
-pub returns-clause-same : goal.returns-clause-same
-returns-clause-same g c = c.take_answer.ensures.same
-
-pub returns-clause-provider : goal.returns-clause-provider
-returns-clause-provider g c = c.take_answer.ensures.provider
-
-pub returns-clause-disk : goal.returns-clause-disk
-returns-clause-disk g c = c.take_answer.ensures.disk
-
-pub returns-clause-held : goal.returns-clause-held
-returns-clause-held g c = c.take_answer.ensures.held
+pub returns-clause-stays : goal.returns-clause-stays
+returns-clause-stays g c = c.take_answer.ensures.stays
 
 pub returns-clause-moved : goal.returns-clause-moved
 returns-clause-moved g c = c.take_answer.ensures.moved
@@ -169,17 +161,8 @@ returns-in_default-clause-including g c = c.requires.including
 pub returns-in_default-clause-causes : goal.returns-in_default-clause-causes
 returns-in_default-clause-causes g c = tt
 
-pub returns-in_default-clause-same : goal.returns-in_default-clause-same
-returns-in_default-clause-same g c = refl
-
-pub returns-in_default-clause-provider : goal.returns-in_default-clause-provider
-returns-in_default-clause-provider g c = λ provider. (λ epoch. refl, λ epoch peers. refl)
-
-pub returns-in_default-clause-disk : goal.returns-in_default-clause-disk
-returns-in_default-clause-disk g c = refl
-
-pub returns-in_default-clause-held : goal.returns-in_default-clause-held
-returns-in_default-clause-held g c = refl
+pub returns-in_default-clause-stays : goal.returns-in_default-clause-stays
+returns-in_default-clause-stays g c = looked
 
 pub returns-in_default-pop-clause-ready : goal.returns-in_default-pop-clause-ready
 returns-in_default-pop-clause-ready g c = c.requires.ready
@@ -187,17 +170,8 @@ returns-in_default-pop-clause-ready g c = c.requires.ready
 pub returns-in_default-pop-clause-causes : goal.returns-in_default-pop-clause-causes
 returns-in_default-pop-clause-causes g c = tt
 
-pub returns-in_default-pop-clause-same : goal.returns-in_default-pop-clause-same
-returns-in_default-pop-clause-same g c = refl
-
-pub returns-in_default-pop-clause-provider : goal.returns-in_default-pop-clause-provider
-returns-in_default-pop-clause-provider g c = λ provider. (λ epoch. refl, λ epoch peers. refl)
-
-pub returns-in_default-pop-clause-disk : goal.returns-in_default-pop-clause-disk
-returns-in_default-pop-clause-disk g c = refl
-
-pub returns-in_default-pop-clause-held : goal.returns-in_default-pop-clause-held
-returns-in_default-pop-clause-held g c = refl
+pub returns-in_default-pop-clause-stays : goal.returns-in_default-pop-clause-stays
+returns-in_default-pop-clause-stays g c = looked
 
 pub returns-in_err-scan-clause-ready : goal.returns-in_err-scan-clause-ready
 returns-in_err-scan-clause-ready g c =
@@ -214,17 +188,8 @@ returns-in_err-scan-clause-left g c =
     let p = err_from_is_err_and c.from_residual.result c.from_residual.ensures.1 in
     rw p.1 tt
 
-pub returns-in_err-scan-clause-same : goal.returns-in_err-scan-clause-same
-returns-in_err-scan-clause-same g c = refl
-
-pub returns-in_err-scan-clause-provider : goal.returns-in_err-scan-clause-provider
-returns-in_err-scan-clause-provider g c = λ provider. (λ epoch. refl, λ epoch peers. refl)
-
-pub returns-in_err-scan-clause-disk : goal.returns-in_err-scan-clause-disk
-returns-in_err-scan-clause-disk g c = refl
-
-pub returns-in_err-scan-clause-held : goal.returns-in_err-scan-clause-held
-returns-in_err-scan-clause-held g c = refl
+pub returns-in_err-scan-clause-stays : goal.returns-in_err-scan-clause-stays
+returns-in_err-scan-clause-stays g c = looked
 
 pub returns-then-is_need-clause-ready : goal.returns-then-is_need-clause-ready
 returns-then-is_need-clause-ready g c = c.requires.ready
@@ -232,14 +197,5 @@ returns-then-is_need-clause-ready g c = c.requires.ready
 pub returns-then-is_need-clause-causes : goal.returns-then-is_need-clause-causes
 returns-then-is_need-clause-causes g c = tt
 
-pub returns-then-is_need-clause-same : goal.returns-then-is_need-clause-same
-returns-then-is_need-clause-same g c = refl
-
-pub returns-then-is_need-clause-provider : goal.returns-then-is_need-clause-provider
-returns-then-is_need-clause-provider g c = λ provider. (λ epoch. refl, λ epoch peers. refl)
-
-pub returns-then-is_need-clause-disk : goal.returns-then-is_need-clause-disk
-returns-then-is_need-clause-disk g c = refl
-
-pub returns-then-is_need-clause-held : goal.returns-then-is_need-clause-held
-returns-then-is_need-clause-held g c = refl
+pub returns-then-is_need-clause-stays : goal.returns-then-is_need-clause-stays
+returns-then-is_need-clause-stays g c = looked

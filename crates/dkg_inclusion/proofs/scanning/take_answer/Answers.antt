@@ -20,6 +20,7 @@ use Rattle.dkg_dealing.proofs.Said.{said_none, speaks_tells}
 use Rattle.dkg_inclusion.proofs.Staying.{middle_of, ready_answered, want_blames}
 use Rattle.dkg_inclusion.proofs.Telling.{ends_beside}
 use Rattle.dkg_inclusion.proofs.Within.{within_as}
+use Rattle.dkg_inclusion.proofs.Looking.{looked}
 use Rattle.dkg_inclusion.proofs.scanning.take_answer.Goals as goal
 
 -- IT NEEDS MORE
@@ -139,17 +140,8 @@ returns-in_ok-logs-in-Logs-clause-ready g c = c.ask_for.ensures.ready
 pub returns-in_ok-logs-in-Logs-clause-including : goal.returns-in_ok-logs-in-Logs-clause-including
 returns-in_ok-logs-in-Logs-clause-including g c = c.ask_for.ensures.including
 
-pub returns-in_ok-logs-in-Logs-clause-provider : goal.returns-in_ok-logs-in-Logs-clause-provider
-returns-in_ok-logs-in-Logs-clause-provider g c = c.ask_for.ensures.provider
-
-pub returns-in_ok-logs-in-Logs-clause-disk : goal.returns-in_ok-logs-in-Logs-clause-disk
-returns-in_ok-logs-in-Logs-clause-disk g c = c.ask_for.ensures.disk
-
-pub returns-in_ok-logs-in-Logs-clause-held : goal.returns-in_ok-logs-in-Logs-clause-held
-returns-in_ok-logs-in-Logs-clause-held g c = c.ask_for.ensures.held
-
-pub returns-in_ok-logs-in-Logs-clause-same : goal.returns-in_ok-logs-in-Logs-clause-same
-returns-in_ok-logs-in-Logs-clause-same g c = c.ask_for.ensures.same
+pub returns-in_ok-logs-in-Logs-clause-stays : goal.returns-in_ok-logs-in-Logs-clause-stays
+returns-in_ok-logs-in-Logs-clause-stays g c = c.ask_for.ensures.stays
 
 pub returns-in_ok-logs-in-Logs-clause-rest : goal.returns-in_ok-logs-in-Logs-clause-rest
 returns-in_ok-logs-in-Logs-clause-rest g c = c.ask_for.ensures.rest
@@ -180,32 +172,14 @@ returns-in-Need-clause-including g c = c.requires.including
 pub returns-in-Need-clause-causes : goal.returns-in-Need-clause-causes
 returns-in-Need-clause-causes g c = tt
 
-pub returns-in-Need-clause-same : goal.returns-in-Need-clause-same
-returns-in-Need-clause-same g c = refl
-
-pub returns-in-Need-clause-provider : goal.returns-in-Need-clause-provider
-returns-in-Need-clause-provider g c = λ provider. (λ epoch. refl, λ epoch peers. refl)
-
-pub returns-in-Need-clause-disk : goal.returns-in-Need-clause-disk
-returns-in-Need-clause-disk g c = refl
-
-pub returns-in-Need-clause-held : goal.returns-in-Need-clause-held
-returns-in-Need-clause-held g c = refl
+pub returns-in-Need-clause-stays : goal.returns-in-Need-clause-stays
+returns-in-Need-clause-stays g c = looked
 
 pub returns-in-Need-clause-rest : goal.returns-in-Need-clause-rest
 returns-in-Need-clause-rest g c = refl
 
-pub returns-in-Unavailable-clause-same : goal.returns-in-Unavailable-clause-same
-returns-in-Unavailable-clause-same g c = refl
-
-pub returns-in-Unavailable-clause-provider : goal.returns-in-Unavailable-clause-provider
-returns-in-Unavailable-clause-provider g c = λ provider. (λ epoch. refl, λ epoch peers. refl)
-
-pub returns-in-Unavailable-clause-disk : goal.returns-in-Unavailable-clause-disk
-returns-in-Unavailable-clause-disk g c = refl
-
-pub returns-in-Unavailable-clause-held : goal.returns-in-Unavailable-clause-held
-returns-in-Unavailable-clause-held g c = refl
+pub returns-in-Unavailable-clause-stays : goal.returns-in-Unavailable-clause-stays
+returns-in-Unavailable-clause-stays g c = looked
 
 pub returns-in-Unavailable-clause-rest : goal.returns-in-Unavailable-clause-rest
 returns-in-Unavailable-clause-rest g c = refl
@@ -220,17 +194,8 @@ returns-in_err-canonical-in-Logs-clause-including g c =
     let p = err_from_is_err_and c.from_residual.result c.from_residual.ensures.1 in
     rw p.1 tt
 
-pub returns-in_err-canonical-in-Logs-clause-same : goal.returns-in_err-canonical-in-Logs-clause-same
-returns-in_err-canonical-in-Logs-clause-same g c = refl
-
-pub returns-in_err-canonical-in-Logs-clause-provider : goal.returns-in_err-canonical-in-Logs-clause-provider
-returns-in_err-canonical-in-Logs-clause-provider g c = λ provider. (λ epoch. refl, λ epoch peers. refl)
-
-pub returns-in_err-canonical-in-Logs-clause-disk : goal.returns-in_err-canonical-in-Logs-clause-disk
-returns-in_err-canonical-in-Logs-clause-disk g c = refl
-
-pub returns-in_err-canonical-in-Logs-clause-held : goal.returns-in_err-canonical-in-Logs-clause-held
-returns-in_err-canonical-in-Logs-clause-held g c = refl
+pub returns-in_err-canonical-in-Logs-clause-stays : goal.returns-in_err-canonical-in-Logs-clause-stays
+returns-in_err-canonical-in-Logs-clause-stays g c = looked
 
 pub returns-in_err-canonical-in-Logs-clause-rest : goal.returns-in_err-canonical-in-Logs-clause-rest
 returns-in_err-canonical-in-Logs-clause-rest g c = refl
@@ -245,17 +210,8 @@ returns-in_err-logs-in-Logs-clause-including g c =
     let p = err_from_is_err_and c.from_residual-in_err-logs-in-Logs.result c.from_residual-in_err-logs-in-Logs.ensures.1 in
     rw p.1 tt
 
-pub returns-in_err-logs-in-Logs-clause-same : goal.returns-in_err-logs-in-Logs-clause-same
-returns-in_err-logs-in-Logs-clause-same g c = refl
-
-pub returns-in_err-logs-in-Logs-clause-provider : goal.returns-in_err-logs-in-Logs-clause-provider
-returns-in_err-logs-in-Logs-clause-provider g c = λ provider. (λ epoch. refl, λ epoch peers. refl)
-
-pub returns-in_err-logs-in-Logs-clause-disk : goal.returns-in_err-logs-in-Logs-clause-disk
-returns-in_err-logs-in-Logs-clause-disk g c = refl
-
-pub returns-in_err-logs-in-Logs-clause-held : goal.returns-in_err-logs-in-Logs-clause-held
-returns-in_err-logs-in-Logs-clause-held g c = refl
+pub returns-in_err-logs-in-Logs-clause-stays : goal.returns-in_err-logs-in-Logs-clause-stays
+returns-in_err-logs-in-Logs-clause-stays g c = looked
 
 pub returns-in_err-logs-in-Logs-clause-rest : goal.returns-in_err-logs-in-Logs-clause-rest
 returns-in_err-logs-in-Logs-clause-rest g c = refl

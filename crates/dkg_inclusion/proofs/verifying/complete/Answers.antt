@@ -17,6 +17,7 @@ use Rattle.dkg_dealing.proofs.Said.{speaks_tells}
 use Rattle.dkg_dealing.proofs.Speaking.{wants_speaks}
 use Rattle.dkg_inclusion.proofs.Telling.{ends_beside}
 use Rattle.dkg_inclusion.proofs.Within.{within_as}
+use Rattle.dkg_inclusion.proofs.Looking.{looked}
 use Rattle.dkg_inclusion.proofs.verifying.complete.Goals as goal
 
 pub returns-in_err-retain-clause-acts : goal.returns-in_err-retain-clause-acts
@@ -33,6 +34,9 @@ returns-in_err-retain-clause-tells g c = λ provided fixed beside fence of reads
 
 pub returns-in_err-retain-clause-moved : goal.returns-in_err-retain-clause-moved
 returns-in_err-retain-clause-moved g c = moved_none g.D.Disk.tells g.D.Disk.made g.X.SecretStore.made g.D.Disk.faults g.X.SecretStore.faults g.met.D.Disk.made_none g.met.X.SecretStore.made_none c.args.devices.now
+
+pub returns-in_err-retain-clause-stays : goal.returns-in_err-retain-clause-stays
+returns-in_err-retain-clause-stays g c = looked
 
 pub returns-in_default-clause-moved : goal.returns-in_default-clause-moved
 returns-in_default-clause-moved g c = moved_none g.D.Disk.tells g.D.Disk.made g.X.SecretStore.made g.D.Disk.faults g.X.SecretStore.faults g.met.D.Disk.made_none g.met.X.SecretStore.made_none c.args.devices.now
@@ -55,6 +59,9 @@ returns-in_default-clause-tells g c = λ provided fixed beside fence of reads by
     within_as (λ i is. is) (λ now is says. speaks_tells course (went (live_of now fence c.args.life.now)) says)
     (alone_speaks fixed of.reshare (result_of c.args.verified) beside fence c.args.life.now (seen.waiter ∙ c.in_default.is) (c.in_ok-retain.ensures.kept fixed beside fence middle seen) c.args.out.now.entries)
 
+pub returns-in_default-clause-stays : goal.returns-in_default-clause-stays
+returns-in_default-clause-stays g c = looked
+
 pub returns-in_err-answer_by-clause-acts : goal.returns-in_err-answer_by-clause-acts
 returns-in_err-answer_by-clause-acts g c = λ disk secrets provided fixed beside fence of reads by provides seen.
     let p = err_from_is_err_and c.from_residual-in_err-answer_by.result c.from_residual-in_err-answer_by.ensures.1 in
@@ -68,6 +75,14 @@ returns-in_err-answer_by-clause-tells g c = λ provided fixed beside fence of re
     rw (p.1, p.2) (unanswered_told fixed of.reshare (result_of c.args.verified) beside fence c.args.life.now c.in-Some.request (seen.waiter ∙ c.in-Some.is) c.answer_by.new.cache c.in_err-answer_by.field-0.0
     c.args.out.now.entries c.answer_by.new.out.entries tt (c.in_err-answer_by.ensures.tells provided fixed (live_of beside fence c.args.life.now) of reads provides refl seen.cached))
 
+pub returns-in_err-answer_by-clause-stays : goal.returns-in_err-answer_by-clause-stays
+returns-in_err-answer_by-clause-stays g c = record {
+  same = λ i. record c.args.life.now { store = c.answer_by.ensures.store i };
+  disk = c.answer_by.ensures.disk;
+  held = c.answer_by.ensures.held;
+  provider = c.answer_by.ensures.provider;
+}
+
 pub returns-in_err-retain-2-clause-acts : goal.returns-in_err-retain-2-clause-acts
 returns-in_err-retain-2-clause-acts g c = λ disk secrets provided fixed beside fence of reads by provides seen.
     let p = err_from_is_err_and c.from_residual-in_err-retain-2.result c.from_residual-in_err-retain-2.ensures.1 in
@@ -80,6 +95,14 @@ returns-in_err-retain-2-clause-tells g c = λ provided fixed beside fence of rea
     let p = err_from_is_err_and c.from_residual-in_err-retain-2.result c.from_residual-in_err-retain-2.ensures.1 in
     rw (p.1, p.2) (forgotten_told fixed of.reshare (result_of c.args.verified) beside fence c.args.life.now c.in-Some.request (seen.waiter ∙ c.in-Some.is) c.answer_by.new.cache (Faulted NoMemory) refl
     c.args.out.now.entries c.answer_by.new.out.entries tt (c.in_ok-answer_by.ensures.tells provided fixed (live_of beside fence c.args.life.now) of reads provides refl seen.cached))
+
+pub returns-in_err-retain-2-clause-stays : goal.returns-in_err-retain-2-clause-stays
+returns-in_err-retain-2-clause-stays g c = record {
+  same = λ i. record c.args.life.now { store = c.answer_by.ensures.store i };
+  disk = c.answer_by.ensures.disk;
+  held = c.answer_by.ensures.held;
+  provider = c.answer_by.ensures.provider;
+}
 
 pub returns-clause-acts : goal.returns-clause-acts
 returns-clause-acts g c = λ disk secrets provided fixed beside fence of reads by provides seen.
@@ -108,3 +131,11 @@ returns-clause-tells g c = λ provided fixed beside fence of reads by provides s
     ended_told fixed of.reshare (result_of c.args.verified) beside fence c.args.life.now (record c.args.life.now { store = c.answer_by.new.store }) same c.in-Some.request (seen.waiter ∙ c.in-Some.is) c.answer_by.new.cache c.retain-2.new.inclusion
     c.args.out.now.entries c.answer_by.new.out.entries kept
     (c.in_ok-answer_by.ensures.tells provided fixed (live_of beside fence c.args.life.now) of reads provides refl seen.cached)
+
+pub returns-clause-stays : goal.returns-clause-stays
+returns-clause-stays g c = record {
+  same = λ i. record c.args.life.now { store = c.answer_by.ensures.store i };
+  disk = c.answer_by.ensures.disk;
+  held = c.answer_by.ensures.held;
+  provider = c.answer_by.ensures.provider;
+}

@@ -17,11 +17,15 @@ use Rattle.dkg_dealing.proofs.Speaking.{wants_speaks}
 use Rattle.dkg_inclusion.proofs.Telling.{ends_beside}
 use Rattle.dkg_inclusion.proofs.Verified.{result_is}
 use Rattle.dkg_inclusion.proofs.Within.{within_as}
+use Rattle.dkg_inclusion.proofs.Looking.{looked}
 use Rattle.dkg_inclusion.proofs.verifying.end_verifying.Goals as goal
 
 pub returns-in_default-clause-moved : goal.returns-in_default-clause-moved
 returns-in_default-clause-moved g c =
     moved_none g.D.Disk.tells g.D.Disk.made g.X.SecretStore.made g.D.Disk.faults g.X.SecretStore.faults g.met.D.Disk.made_none g.met.X.SecretStore.made_none c.args.devices.now
+
+pub returns-in_default-clause-stays : goal.returns-in_default-clause-stays
+returns-in_default-clause-stays g c = looked
 
 pub returns-in_err-verified-clause-moved : goal.returns-in_err-verified-clause-moved
 returns-in_err-verified-clause-moved g c =
@@ -39,6 +43,9 @@ returns-in_err-verified-clause-tells g c = λ provided fixed beside fence of rea
     let course = including.ends_verifying fixed (option_map result_of c.args.done) (live_of beside fence c.args.life.now) in
     rw (p.1, p.2) (ends_beside beside tt refl (speaks_tells course (by_stop (Faulted NoMemory)) (wants_speaks course (Faulted NoMemory) refl _ _ refl)))
 
+pub returns-in_err-verified-clause-stays : goal.returns-in_err-verified-clause-stays
+returns-in_err-verified-clause-stays g c = looked
+
 pub returns-clause-acts : goal.returns-clause-acts
 returns-clause-acts g c = λ disk secrets provided fixed beside fence of reads by provides seen.
     let its = sym c.running.ensures ∙ ap option_copied c.in-Some.is in
@@ -54,3 +61,6 @@ returns-clause-tells g c = λ provided fixed beside fence of reads by provides s
     (result_is fixed g.C.Ceremony.outcome_of g.C.Ceremony.finish_of provides.outcome provides.finish c.in-Some.job.now c.args.done c.in_ok-verified.verified c.in_ok-verified.ensures.handed
     c.in_ok-verified.ensures.own) in
     within_as (λ i is. is) (λ now is told. same_told course told) (c.complete.ensures.tells provided fixed beside fence of reads by provides seen)
+
+pub returns-clause-stays : goal.returns-clause-stays
+returns-clause-stays g c = c.complete.ensures.stays

@@ -190,10 +190,10 @@ pub returns-in-EpochInfo-clause-causes : goal.returns-in-EpochInfo-clause-causes
 returns-in-EpochInfo-clause-causes g c = result_caused g.D.Disk.tells (λ x. x) (λ x. x) (λ x. x) c.ask.result c.ask.ensures.causes
 
 pub returns-in-EpochInfo-clause-word : goal.returns-in-EpochInfo-clause-word
-returns-in-EpochInfo-clause-word g c = ap (λ (l : Life g.row.Dir.Denot). l.word) c.ask.ensures.same
+returns-in-EpochInfo-clause-word g c = ap (λ (l : Life g.row.Dir.Denot). l.word) c.ask.ensures.stays.same
 
 pub returns-in-EpochInfo-clause-fit : goal.returns-in-EpochInfo-clause-fit
-returns-in-EpochInfo-clause-fit g c = λ told fit. rw c.ask.ensures.disk fit
+returns-in-EpochInfo-clause-fit g c = λ told fit. rw c.ask.ensures.stays.disk fit
 
 pub returns-in-EpochInfo-clause-ready : goal.returns-in-EpochInfo-clause-ready
 returns-in-EpochInfo-clause-ready g c = c.ask.ensures.ready
@@ -202,7 +202,7 @@ pub returns-in-EpochInfo-clause-including : goal.returns-in-EpochInfo-clause-inc
 returns-in-EpochInfo-clause-including g c = c.ask.ensures.including
 
 pub returns-in-EpochInfo-clause-provider : goal.returns-in-EpochInfo-clause-provider
-returns-in-EpochInfo-clause-provider g c = c.ask.ensures.provider
+returns-in-EpochInfo-clause-provider g c = c.ask.ensures.stays.provider
 
 pub returns-in-EpochInfo-clause-moved : goal.returns-in-EpochInfo-clause-moved
 returns-in-EpochInfo-clause-moved g c = c.ask.ensures.moved
@@ -227,10 +227,10 @@ pub returns-in-Feed-clause-causes : goal.returns-in-Feed-clause-causes
 returns-in-Feed-clause-causes g c = result_caused g.D.Disk.tells (λ x. x) (λ x. x) (λ x. x) c.feed.result c.feed.ensures.causes
 
 pub returns-in-Feed-clause-word : goal.returns-in-Feed-clause-word
-returns-in-Feed-clause-word g c = ap (λ (l : Life g.row.Dir.Denot). l.word) c.feed.ensures.same
+returns-in-Feed-clause-word g c = ap (λ (l : Life g.row.Dir.Denot). l.word) c.feed.ensures.stays.same
 
 pub returns-in-Feed-clause-fit : goal.returns-in-Feed-clause-fit
-returns-in-Feed-clause-fit g c = λ told fit. rw c.feed.ensures.disk fit
+returns-in-Feed-clause-fit g c = λ told fit. rw c.feed.ensures.stays.disk fit
 
 pub returns-in-Feed-clause-ready : goal.returns-in-Feed-clause-ready
 returns-in-Feed-clause-ready g c = c.feed.ensures.ready
@@ -239,7 +239,7 @@ pub returns-in-Feed-clause-including : goal.returns-in-Feed-clause-including
 returns-in-Feed-clause-including g c = c.feed.ensures.including
 
 pub returns-in-Feed-clause-provider : goal.returns-in-Feed-clause-provider
-returns-in-Feed-clause-provider g c = c.feed.ensures.provider
+returns-in-Feed-clause-provider g c = c.feed.ensures.stays.provider
 
 pub returns-in-Feed-clause-moved : goal.returns-in-Feed-clause-moved
 returns-in-Feed-clause-moved g c = c.feed.ensures.moved
@@ -264,10 +264,10 @@ pub returns-in-Over-clause-causes : goal.returns-in-Over-clause-causes
 returns-in-Over-clause-causes g c = result_caused g.D.Disk.tells (λ x. x) (λ x. x) (λ x. x) c.end.result c.end.ensures.causes
 
 pub returns-in-Over-clause-word : goal.returns-in-Over-clause-word
-returns-in-Over-clause-word g c = ap (λ (l : Life g.row.Dir.Denot). l.word) c.end.ensures.same
+returns-in-Over-clause-word g c = ap (λ (l : Life g.row.Dir.Denot). l.word) c.end.ensures.stays.same
 
 pub returns-in-Over-clause-fit : goal.returns-in-Over-clause-fit
-returns-in-Over-clause-fit g c = λ told fit. rw c.end.ensures.disk fit
+returns-in-Over-clause-fit g c = λ told fit. rw c.end.ensures.stays.disk fit
 
 pub returns-in-Over-clause-ready : goal.returns-in-Over-clause-ready
 returns-in-Over-clause-ready g c = c.end.ensures.ready
@@ -276,7 +276,7 @@ pub returns-in-Over-clause-including : goal.returns-in-Over-clause-including
 returns-in-Over-clause-including g c = c.end.ensures.including
 
 pub returns-in-Over-clause-provider : goal.returns-in-Over-clause-provider
-returns-in-Over-clause-provider g c = c.end.ensures.provider
+returns-in-Over-clause-provider g c = c.end.ensures.stays.provider
 
 pub returns-in-Over-clause-moved : goal.returns-in-Over-clause-moved
 returns-in-Over-clause-moved g c = c.end.ensures.moved
@@ -301,10 +301,10 @@ pub returns-in-Cancel-clause-causes : goal.returns-in-Cancel-clause-causes
 returns-in-Cancel-clause-causes g c = result_caused g.D.Disk.tells (λ x. x) (λ x. x) (λ x. x) c.cancel.result c.cancel.ensures.causes
 
 pub returns-in-Cancel-clause-word : goal.returns-in-Cancel-clause-word
-returns-in-Cancel-clause-word g c = ap (λ (l : Life g.row.Dir.Denot). l.word) c.cancel.ensures.same
+returns-in-Cancel-clause-word g c = ap (λ (l : Life g.row.Dir.Denot). l.word) c.cancel.ensures.stays.same
 
 pub returns-in-Cancel-clause-fit : goal.returns-in-Cancel-clause-fit
-returns-in-Cancel-clause-fit g c = λ told fit. rw c.cancel.ensures.disk fit
+returns-in-Cancel-clause-fit g c = λ told fit. rw c.cancel.ensures.stays.disk fit
 
 pub returns-in-Cancel-clause-ready : goal.returns-in-Cancel-clause-ready
 returns-in-Cancel-clause-ready g c = c.cancel.ensures.ready
@@ -313,7 +313,7 @@ pub returns-in-Cancel-clause-including : goal.returns-in-Cancel-clause-including
 returns-in-Cancel-clause-including g c = c.cancel.ensures.including
 
 pub returns-in-Cancel-clause-provider : goal.returns-in-Cancel-clause-provider
-returns-in-Cancel-clause-provider g c = c.cancel.ensures.provider
+returns-in-Cancel-clause-provider g c = c.cancel.ensures.stays.provider
 
 pub returns-in-Cancel-clause-moved : goal.returns-in-Cancel-clause-moved
 returns-in-Cancel-clause-moved g c = c.cancel.ensures.moved
@@ -338,10 +338,10 @@ pub returns-in-Work-clause-causes : goal.returns-in-Work-clause-causes
 returns-in-Work-clause-causes g c = result_caused g.D.Disk.tells (λ x. x) (λ x. x) (λ x. x) c.work.result c.work.ensures.causes
 
 pub returns-in-Work-clause-word : goal.returns-in-Work-clause-word
-returns-in-Work-clause-word g c = ap (λ (l : Life g.row.Dir.Denot). l.word) c.work.ensures.same
+returns-in-Work-clause-word g c = ap (λ (l : Life g.row.Dir.Denot). l.word) c.work.ensures.stays.same
 
 pub returns-in-Work-clause-fit : goal.returns-in-Work-clause-fit
-returns-in-Work-clause-fit g c = λ told fit. rw c.work.ensures.disk fit
+returns-in-Work-clause-fit g c = λ told fit. rw c.work.ensures.stays.disk fit
 
 pub returns-in-Work-clause-ready : goal.returns-in-Work-clause-ready
 returns-in-Work-clause-ready g c = c.work.ensures.ready
@@ -350,7 +350,7 @@ pub returns-in-Work-clause-including : goal.returns-in-Work-clause-including
 returns-in-Work-clause-including g c = c.work.ensures.including
 
 pub returns-in-Work-clause-provider : goal.returns-in-Work-clause-provider
-returns-in-Work-clause-provider g c = c.work.ensures.provider
+returns-in-Work-clause-provider g c = c.work.ensures.stays.provider
 
 pub returns-in-Work-clause-moved : goal.returns-in-Work-clause-moved
 returns-in-Work-clause-moved g c = c.work.ensures.moved

@@ -122,7 +122,7 @@ pub returns-then-ends_dealing-clause-including : goal.returns-then-ends_dealing-
 returns-then-ends_dealing-clause-including g c = c.advance.ensures.including
 
 pub returns-then-ends_dealing-clause-provider : goal.returns-then-ends_dealing-clause-provider
-returns-then-ends_dealing-clause-provider g c = c.advance.ensures.provider
+returns-then-ends_dealing-clause-provider g c = c.advance.ensures.stays.provider
 
 pub returns-then-ends_dealing-clause-moved : goal.returns-then-ends_dealing-clause-moved
 returns-then-ends_dealing-clause-moved g c = moved_then g.D.Disk.tells g.D.Disk.made g.X.SecretStore.made g.D.Disk.faults g.X.SecretStore.faults g.met.D.Disk.made_more g.met.X.SecretStore.made_more _ _ _ c.deal.ensures.moved c.advance.ensures.moved
@@ -132,10 +132,10 @@ returns-then-ends_dealing-clause-causes g c =
     blamed_behind g.D.Disk.tells g.D.Disk.made g.X.SecretStore.made g.D.Disk.faults g.X.SecretStore.faults _ _ _ c.deal.ensures.moved c.advance.ensures.moved c.advance.result c.advance.ensures.causes
 
 pub returns-then-ends_dealing-clause-word : goal.returns-then-ends_dealing-clause-word
-returns-then-ends_dealing-clause-word g c = ap (λ (l : Life g.row.Dir.Denot). l.word) c.advance.ensures.same ∙ ap (λ (l : Life g.row.Dir.Denot). l.word) c.begin_inclusion.ensures.rest ∙ ap (λ (l : Life g.row.Dir.Denot). l.word) c.deal.ensures.rest
+returns-then-ends_dealing-clause-word g c = ap (λ (l : Life g.row.Dir.Denot). l.word) c.advance.ensures.stays.same ∙ ap (λ (l : Life g.row.Dir.Denot). l.word) c.begin_inclusion.ensures.rest ∙ ap (λ (l : Life g.row.Dir.Denot). l.word) c.deal.ensures.rest
 
 pub returns-then-ends_dealing-clause-fit : goal.returns-then-ends_dealing-clause-fit
-returns-then-ends_dealing-clause-fit g c = λ told fit. rw c.advance.ensures.disk (c.deal.ensures.fit told fit)
+returns-then-ends_dealing-clause-fit g c = λ told fit. rw c.advance.ensures.stays.disk (c.deal.ensures.fit told fit)
 
 -- IT GOES ON
 

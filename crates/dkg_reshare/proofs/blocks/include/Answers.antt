@@ -99,10 +99,10 @@ pub returns-clause-including : goal.returns-clause-including
 returns-clause-including g c = c.advance.ensures.including
 
 pub returns-clause-word : goal.returns-clause-word
-returns-clause-word g c = ap (λ (l : Life g.row.Dir.Denot). l.word) c.advance.ensures.same ∙ ap (λ (l : Life g.row.Dir.Denot). l.word) c.observe.ensures.rest
+returns-clause-word g c = ap (λ (l : Life g.row.Dir.Denot). l.word) c.advance.ensures.stays.same ∙ ap (λ (l : Life g.row.Dir.Denot). l.word) c.observe.ensures.rest
 
 pub returns-clause-provider : goal.returns-clause-provider
-returns-clause-provider g c = c.advance.ensures.provider
+returns-clause-provider g c = c.advance.ensures.stays.provider
 
 pub returns-clause-moved : goal.returns-clause-moved
 returns-clause-moved g c = moved_then g.D.Disk.tells g.D.Disk.made g.X.SecretStore.made g.D.Disk.faults g.X.SecretStore.faults g.met.D.Disk.made_more g.met.X.SecretStore.made_more _ _ _ c.observe.ensures.moved c.advance.ensures.moved
@@ -111,4 +111,4 @@ pub returns-clause-causes : goal.returns-clause-causes
 returns-clause-causes g c = blamed_behind g.D.Disk.tells g.D.Disk.made g.X.SecretStore.made g.D.Disk.faults g.X.SecretStore.faults _ _ _ c.observe.ensures.moved c.advance.ensures.moved c.advance.result c.advance.ensures.causes
 
 pub returns-clause-fit : goal.returns-clause-fit
-returns-clause-fit g c = λ told fit. rw c.advance.ensures.disk (c.observe.ensures.fit told (non_zero_u32_get c.args.terms.now.limit) c.requires.within fit)
+returns-clause-fit g c = λ told fit. rw c.advance.ensures.stays.disk (c.observe.ensures.fit told (non_zero_u32_get c.args.terms.now.limit) c.requires.within fit)

@@ -47,16 +47,16 @@ returns-in_err-artifact-clause-causes g c =
     rw (p.1, p.2) (caused_around g.D.Disk.tells (λ x. x) (λ x. x) (λ x. x) c.in_err-artifact.field-0.0 c.in_err-artifact.ensures.causes)
 
 pub returns-in_err-artifact-clause-word : goal.returns-in_err-artifact-clause-word
-returns-in_err-artifact-clause-word g c = ap (λ (l : Life g.row.Dir.Denot). l.word) c.derive.ensures.same
+returns-in_err-artifact-clause-word g c = ap (λ (l : Life g.row.Dir.Denot). l.word) c.derive.ensures.stays.same
 
 pub returns-in_err-artifact-clause-provider : goal.returns-in_err-artifact-clause-provider
-returns-in_err-artifact-clause-provider g c = c.derive.ensures.provider
+returns-in_err-artifact-clause-provider g c = c.derive.ensures.stays.provider
 
 pub returns-in_err-artifact-clause-moved : goal.returns-in_err-artifact-clause-moved
 returns-in_err-artifact-clause-moved g c = c.derive.ensures.moved
 
 pub returns-in_err-artifact-clause-fit : goal.returns-in_err-artifact-clause-fit
-returns-in_err-artifact-clause-fit g c = λ told fit. rw c.derive.ensures.disk fit
+returns-in_err-artifact-clause-fit g c = λ told fit. rw c.derive.ensures.stays.disk fit
 
 -- NO INFO
 
@@ -92,16 +92,16 @@ returns-in_err-info-clause-causes g c =
     (carried_caused c.args.block.now c.args.bounds.now.epoch c.in_err-info.field-0.0 c.in_err-info.ensures.err))
 
 pub returns-in_err-info-clause-word : goal.returns-in_err-info-clause-word
-returns-in_err-info-clause-word g c = ap (λ (l : Life g.row.Dir.Denot). l.word) c.derive.ensures.same
+returns-in_err-info-clause-word g c = ap (λ (l : Life g.row.Dir.Denot). l.word) c.derive.ensures.stays.same
 
 pub returns-in_err-info-clause-provider : goal.returns-in_err-info-clause-provider
-returns-in_err-info-clause-provider g c = c.derive.ensures.provider
+returns-in_err-info-clause-provider g c = c.derive.ensures.stays.provider
 
 pub returns-in_err-info-clause-moved : goal.returns-in_err-info-clause-moved
 returns-in_err-info-clause-moved g c = c.derive.ensures.moved
 
 pub returns-in_err-info-clause-fit : goal.returns-in_err-info-clause-fit
-returns-in_err-info-clause-fit g c = λ told fit. rw c.derive.ensures.disk fit
+returns-in_err-info-clause-fit g c = λ told fit. rw c.derive.ensures.stays.disk fit
 
 -- INTO THE NEXT EPOCH
 
@@ -125,7 +125,7 @@ pub take_over-requires-clause-me : goal.take_over-requires-clause-me
 take_over-requires-clause-me g c = c.requires.me
 
 pub take_over-requires-clause-ready : goal.take_over-requires-clause-ready
-take_over-requires-clause-ready g c = ready_still g.D.Disk.tells g.D.Disk.files g.D.Disk.image g.C.Ceremony.ack_of g.C.Ceremony.deal_of g.C.Ceremony.check_ack_of c.args.terms.now c.args.life.now c.derive.new.life c.derive.ensures.same c.args.devices.now c.derive.new.devices c.derive.ensures.disk c.requires.ready
+take_over-requires-clause-ready g c = ready_still g.D.Disk.tells g.D.Disk.files g.D.Disk.image g.C.Ceremony.ack_of g.C.Ceremony.deal_of g.C.Ceremony.check_ack_of c.args.terms.now c.args.life.now c.derive.new.life c.derive.ensures.stays.same c.args.devices.now c.derive.new.devices c.derive.ensures.stays.disk c.requires.ready
 
 pub take_over-requires-clause-including : goal.take_over-requires-clause-including
 take_over-requires-clause-including g c = c.in_ok-artifact.ensures.including
@@ -137,7 +137,7 @@ returns-clause-acts g c = λ disk secrets provided fixed round beside of reads b
     (λ last taken. makes_as (final_block_is fixed of.of.reshare round c.args.block.now (live_of beside c.args.fence.now c.args.life.now)) _ (then_makes (derives_final fixed round (live_of beside c.args.fence.now c.args.life.now)) (λ it. blocks.concludes fixed c.args.block.now it.0 it.1) (artifact_of c.in_ok-artifact.artifact, live_of now c.args.fence.now c.derive.new.life) (ends_in (live_of last c.take_over.new.fence c.take_over.new.life) c.take_over.result) made
     (makes_as (concluded_well fixed c.args.block.now (non_zero_u64_get c.args.terms.now.blocks_per_epoch) of.of.blocks of.of.reshare c.args.bounds.now c.requires.bounds (artifact_of c.in_ok-artifact.artifact) (live_of now c.args.fence.now c.derive.new.life) c.in_ok-info.info.now c.in_ok-info.ensures.ok) _ taken)))
     (λ i is. is)
-    (c.take_over.ensures.acts disk secrets fixed now (in_word c.args.terms.now c.args.life.now.word c.derive.new.life.word fixed (ap (λ (l : Life g.row.Dir.Denot). l.word) c.derive.ensures.same) of) reads by provides.spelling_is its))
+    (c.take_over.ensures.acts disk secrets fixed now (in_word c.args.terms.now c.args.life.now.word c.derive.new.life.word fixed (ap (λ (l : Life g.row.Dir.Denot). l.word) c.derive.ensures.stays.same) of) reads by provides.spelling_is its))
 
 pub returns-clause-tells : goal.returns-clause-tells
 returns-clause-tells g c = λ provided fixed round beside of reads by provides has seen.
@@ -146,7 +146,7 @@ returns-clause-tells g c = λ provided fixed round beside of reads by provides h
     (λ last taken. tells_as (final_block_is fixed of.of.reshare round c.args.block.now (live_of beside c.args.fence.now c.args.life.now)) _ (then_told (derives_final fixed round (live_of beside c.args.fence.now c.args.life.now)) (λ it. blocks.concludes fixed c.args.block.now it.0 it.1) (artifact_of c.in_ok-artifact.artifact, live_of now c.args.fence.now c.derive.new.life) (ends_in (live_of last c.take_over.new.fence c.take_over.new.life) c.take_over.result) told
     (tells_as (concluded_well fixed c.args.block.now (non_zero_u64_get c.args.terms.now.blocks_per_epoch) of.of.blocks of.of.reshare c.args.bounds.now c.requires.bounds (artifact_of c.in_ok-artifact.artifact) (live_of now c.args.fence.now c.derive.new.life) c.in_ok-info.info.now c.in_ok-info.ensures.ok) _ taken)))
     (λ i is. is)
-    (c.take_over.ensures.tells fixed now (in_word c.args.terms.now c.args.life.now.word c.derive.new.life.word fixed (ap (λ (l : Life g.row.Dir.Denot). l.word) c.derive.ensures.same) of) reads by provides.spelling_is its))
+    (c.take_over.ensures.tells fixed now (in_word c.args.terms.now c.args.life.now.word c.derive.new.life.word fixed (ap (λ (l : Life g.row.Dir.Denot). l.word) c.derive.ensures.stays.same) of) reads by provides.spelling_is its))
 
 pub returns-clause-ready : goal.returns-clause-ready
 returns-clause-ready g c = c.take_over.ensures.ready
@@ -155,10 +155,10 @@ pub returns-clause-including : goal.returns-clause-including
 returns-clause-including g c = c.take_over.ensures.including
 
 pub returns-clause-word : goal.returns-clause-word
-returns-clause-word g c = c.take_over.ensures.word ∙ ap (λ (l : Life g.row.Dir.Denot). l.word) c.derive.ensures.same
+returns-clause-word g c = c.take_over.ensures.word ∙ ap (λ (l : Life g.row.Dir.Denot). l.word) c.derive.ensures.stays.same
 
 pub returns-clause-provider : goal.returns-clause-provider
-returns-clause-provider g c = c.derive.ensures.provider
+returns-clause-provider g c = c.derive.ensures.stays.provider
 
 pub returns-clause-moved : goal.returns-clause-moved
 returns-clause-moved g c = moved_then g.D.Disk.tells g.D.Disk.made g.X.SecretStore.made g.D.Disk.faults g.X.SecretStore.faults g.met.D.Disk.made_more g.met.X.SecretStore.made_more _ _ _ c.derive.ensures.moved c.take_over.ensures.moved
@@ -170,4 +170,4 @@ returns-clause-causes g c =
     (λ x. reached_behind _ _ _ c.derive.ensures.moved.counts x) c.take_over.result c.take_over.ensures.causes
 
 pub returns-clause-fit : goal.returns-clause-fit
-returns-clause-fit g c = λ told fit. c.take_over.ensures.fit told (rw c.derive.ensures.disk fit)
+returns-clause-fit g c = λ told fit. c.take_over.ensures.fit told (rw c.derive.ensures.stays.disk fit)

@@ -14,6 +14,7 @@ use Rattle.dkg_dealing.proofs.Said.{speaks_tells}
 use Rattle.dkg_dealing.proofs.Speaking.{wants_speaks}
 use Rattle.dkg_inclusion.proofs.Telling.{ends_beside}
 use Rattle.dkg_inclusion.proofs.Within.{within_as}
+use Rattle.dkg_inclusion.proofs.Looking.{looked}
 use Rattle.dkg_reshare.proofs.final_block.artifact_by.Goals as goal
 
 -- IT WAS CACHED BEFORE
@@ -31,8 +32,8 @@ returns-in-Some-clause-tells g c = λ provided fixed round beside fence out of r
 pub returns-in-Some-clause-moved : goal.returns-in-Some-clause-moved
 returns-in-Some-clause-moved g c = moved_none g.D.Disk.tells g.D.Disk.made g.X.SecretStore.made g.D.Disk.faults g.X.SecretStore.faults g.met.D.Disk.made_none g.met.X.SecretStore.made_none c.args.devices.now
 
-pub returns-in-Some-clause-provider : goal.returns-in-Some-clause-provider
-returns-in-Some-clause-provider g c = λ told. (λ epoch. refl, λ epoch peers. refl)
+pub returns-in-Some-clause-stays : goal.returns-in-Some-clause-stays
+returns-in-Some-clause-stays g c = looked
 
 pub returns-in-Some-clause-idle : goal.returns-in-Some-clause-idle
 returns-in-Some-clause-idle g c = c.requires.idle
@@ -53,8 +54,8 @@ returns-in_err-kept-clause-tells g c = λ provided fixed round beside fence out 
 pub returns-in_err-kept-clause-moved : goal.returns-in_err-kept-clause-moved
 returns-in_err-kept-clause-moved g c = moved_none g.D.Disk.tells g.D.Disk.made g.X.SecretStore.made g.D.Disk.faults g.X.SecretStore.faults g.met.D.Disk.made_none g.met.X.SecretStore.made_none c.args.devices.now
 
-pub returns-in_err-kept-clause-provider : goal.returns-in_err-kept-clause-provider
-returns-in_err-kept-clause-provider g c = λ told. (λ epoch. refl, λ epoch peers. refl)
+pub returns-in_err-kept-clause-stays : goal.returns-in_err-kept-clause-stays
+returns-in_err-kept-clause-stays g c = looked
 
 -- IT IS CACHED NOW
 
@@ -73,8 +74,8 @@ returns-in-Some-kept-clause-tells g c = λ provided fixed round beside fence out
 pub returns-in-Some-kept-clause-moved : goal.returns-in-Some-kept-clause-moved
 returns-in-Some-kept-clause-moved g c = moved_none g.D.Disk.tells g.D.Disk.made g.X.SecretStore.made g.D.Disk.faults g.X.SecretStore.faults g.met.D.Disk.made_none g.met.X.SecretStore.made_none c.args.devices.now
 
-pub returns-in-Some-kept-clause-provider : goal.returns-in-Some-kept-clause-provider
-returns-in-Some-kept-clause-provider g c = λ told. (λ epoch. refl, λ epoch peers. refl)
+pub returns-in-Some-kept-clause-stays : goal.returns-in-Some-kept-clause-stays
+returns-in-Some-kept-clause-stays g c = looked
 
 pub returns-in-Some-kept-clause-idle : goal.returns-in-Some-kept-clause-idle
 returns-in-Some-kept-clause-idle g c = c.requires.idle
@@ -108,8 +109,8 @@ returns-clause-moved g c = c.derive_now.ensures.moved
 pub returns-clause-causes : goal.returns-clause-causes
 returns-clause-causes g c = c.derive_now.ensures.causes
 
-pub returns-clause-provider : goal.returns-clause-provider
-returns-clause-provider g c = c.derive_now.ensures.provider
+pub returns-clause-stays : goal.returns-clause-stays
+returns-clause-stays g c = c.derive_now.ensures.stays
 
 pub returns-clause-rest : goal.returns-clause-rest
 returns-clause-rest g c = c.derive_now.ensures.rest

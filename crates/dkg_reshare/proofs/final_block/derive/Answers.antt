@@ -13,7 +13,6 @@ use Rattle.dkg_dealing.specs.declared.life.Life.{Life}
 use Rattle.dkg_dealing.proofs.OpeningCourses.{makes_as, tells_as}
 use Rattle.dkg_dealing.proofs.Beside.{then_well, with_then}
 use Rattle.dkg_dealing.proofs.Blamed.{blamed_behind}
-use Rattle.dkg_inclusion.proofs.Caching.{same_provided}
 use Rattle.dkg_dealing.proofs.Chained.{early_makes, early_told, then_makes, then_told}
 use Rattle.dkg_reshare.proofs.Concluding.{derived_ready, final_as, middle_in, not_following, provides_then, wants_makes}
 use Rattle.dkg_dealing.proofs.Kept.{moved_none, moved_then}
@@ -21,6 +20,7 @@ use Rattle.dkg_dealing.proofs.Said.{speaks_tells}
 use Rattle.dkg_dealing.proofs.Speaking.{wants_speaks}
 use Rattle.dkg_inclusion.proofs.Telling.{ends_beside}
 use Rattle.dkg_inclusion.proofs.Within.{within_as}
+use Rattle.dkg_inclusion.proofs.Looking.{looked, looked_then}
 use Rattle.dkg_reshare.proofs.final_block.derive.Goals as goal
 
 -- NO MEMORY
@@ -39,8 +39,8 @@ returns-in_err-logs-clause-tells g c = λ provided fixed round beside fence of r
 pub returns-in_err-logs-clause-moved : goal.returns-in_err-logs-clause-moved
 returns-in_err-logs-clause-moved g c = moved_none g.D.Disk.tells g.D.Disk.made g.X.SecretStore.made g.D.Disk.faults g.X.SecretStore.faults g.met.D.Disk.made_none g.met.X.SecretStore.made_none c.args.devices.now
 
-pub returns-in_err-logs-clause-provider : goal.returns-in_err-logs-clause-provider
-returns-in_err-logs-clause-provider g c = λ told. (λ epoch. refl, λ epoch peers. refl)
+pub returns-in_err-logs-clause-stays : goal.returns-in_err-logs-clause-stays
+returns-in_err-logs-clause-stays g c = looked
 
 pub returns-in_err-before-clause-acts : goal.returns-in_err-before-clause-acts
 returns-in_err-before-clause-acts g c = λ disk secrets provided fixed round beside fence of reads by provides has seen.
@@ -56,8 +56,8 @@ returns-in_err-before-clause-tells g c = λ provided fixed round beside fence of
 pub returns-in_err-before-clause-moved : goal.returns-in_err-before-clause-moved
 returns-in_err-before-clause-moved g c = moved_none g.D.Disk.tells g.D.Disk.made g.X.SecretStore.made g.D.Disk.faults g.X.SecretStore.faults g.met.D.Disk.made_none g.met.X.SecretStore.made_none c.args.devices.now
 
-pub returns-in_err-before-clause-provider : goal.returns-in_err-before-clause-provider
-returns-in_err-before-clause-provider g c = λ told. (λ epoch. refl, λ epoch peers. refl)
+pub returns-in_err-before-clause-stays : goal.returns-in_err-before-clause-stays
+returns-in_err-before-clause-stays g c = looked
 
 -- THE VERIFICATION DOESN'T END
 
@@ -92,8 +92,8 @@ returns-in_err-end_verifying-clause-causes g c =
     let p = err_from_is_err_and c.from_residual-in_err-end_verifying.result c.from_residual-in_err-end_verifying.ensures.1 in
     rw (p.1, p.2) c.in_err-end_verifying.ensures.causes
 
-pub returns-in_err-end_verifying-clause-provider : goal.returns-in_err-end_verifying-clause-provider
-returns-in_err-end_verifying-clause-provider g c = c.end_verifying.ensures.provider
+pub returns-in_err-end_verifying-clause-stays : goal.returns-in_err-end_verifying-clause-stays
+returns-in_err-end_verifying-clause-stays g c = c.end_verifying.ensures.stays
 
 pub returns-in_err-end_verifying-clause-hand : goal.returns-in_err-end_verifying-clause-hand
 returns-in_err-end_verifying-clause-hand g c = ap (λ its. its.hand) c.end_verifying.ensures.rest
@@ -103,9 +103,9 @@ returns-in_err-end_verifying-clause-hand g c = ap (λ its. its.hand) c.end_verif
 pub artifact_by-requires : goal.artifact_by-requires
 artifact_by-requires g c = record {
   ready = c.in_ok-end_verifying.ensures.ready;
-  current = subst (λ (l : Life g.row.Dir.Denot). IsSome l.store.current) (sym c.end_verifying.ensures.same) (c.requires.including.current (not_following (non_zero_u64_get c.args.terms.now.blocks_per_epoch) c.args.life.now c.requires.includes c.requires.ready.placed));
-  includes = ap (λ (l : Life g.row.Dir.Denot). l.stage) c.end_verifying.ensures.same ∙ c.requires.includes;
-  canonical = rw c.end_verifying.ensures.same c.in_ok-logs.ensures.logs;
+  current = subst (λ (l : Life g.row.Dir.Denot). IsSome l.store.current) (sym c.end_verifying.ensures.stays.same) (c.requires.including.current (not_following (non_zero_u64_get c.args.terms.now.blocks_per_epoch) c.args.life.now c.requires.includes c.requires.ready.placed));
+  includes = ap (λ (l : Life g.row.Dir.Denot). l.stage) c.end_verifying.ensures.stays.same ∙ c.requires.includes;
+  canonical = rw c.end_verifying.ensures.stays.same c.in_ok-logs.ensures.logs;
   idle = c.in_ok-end_verifying.ensures.idle;
 }
 
@@ -118,8 +118,8 @@ returns-clause-acts g c = λ disk secrets provided fixed round beside fence of r
     (λ now then made. makes_as (final_as fixed round st c.in_ok-logs.logs (c.in_ok-logs.ensures.canonical fixed beside fence middle) c.args.inclusion.now.cache seen.cached c.in_ok-before.before c.in_ok-before.ensures) _
     (then_makes (including.ends_verifying fixed None st) (λ s. derives_by fixed round c.in_ok-logs.logs (option_map artifact_of c.in_ok-before.before) s)
     (live_of mid fence c.end_verifying.new.life) _ ended made))
-    (c.artifact_by.ensures.acts disk secrets provided fixed round mid fence c.end_verifying.new.out.entries of reads by (provides_then fixed (c.end_verifying.ensures.provider provided) provides)
-    (ap (λ (l : Life g.row.Dir.Denot). l.round) c.end_verifying.ensures.same ∙ has) known))
+    (c.artifact_by.ensures.acts disk secrets provided fixed round mid fence c.end_verifying.new.out.entries of reads by (provides_then fixed (c.end_verifying.ensures.stays.provider provided) provides)
+    (ap (λ (l : Life g.row.Dir.Denot). l.round) c.end_verifying.ensures.stays.same ∙ has) known))
 
 pub returns-clause-tells : goal.returns-clause-tells
 returns-clause-tells g c = λ provided fixed round beside fence of reads by provides has seen.
@@ -129,23 +129,14 @@ returns-clause-tells g c = λ provided fixed round beside fence of reads by prov
     (λ mid known ended. within_as (λ i seen. seen)
     (λ now then told. tells_as (final_as fixed round st c.in_ok-logs.logs (c.in_ok-logs.ensures.canonical fixed beside fence middle) c.args.inclusion.now.cache seen.cached c.in_ok-before.before c.in_ok-before.ensures) _
     (then_told (including.ends_verifying fixed None st) (λ s. derives_by fixed round c.in_ok-logs.logs (option_map artifact_of c.in_ok-before.before) s) (live_of mid fence c.end_verifying.new.life) _ ended told))
-    (c.artifact_by.ensures.tells provided fixed round mid fence c.end_verifying.new.out.entries of reads by (provides_then fixed (c.end_verifying.ensures.provider provided) provides)
-    (ap (λ (l : Life g.row.Dir.Denot). l.round) c.end_verifying.ensures.same ∙ has) known))
+    (c.artifact_by.ensures.tells provided fixed round mid fence c.end_verifying.new.out.entries of reads by (provides_then fixed (c.end_verifying.ensures.stays.provider provided) provides)
+    (ap (λ (l : Life g.row.Dir.Denot). l.round) c.end_verifying.ensures.stays.same ∙ has) known))
 
-pub returns-clause-same : goal.returns-clause-same
-returns-clause-same g c = c.artifact_by.ensures.same ∙ c.end_verifying.ensures.same
-
-pub returns-clause-disk : goal.returns-clause-disk
-returns-clause-disk g c = c.artifact_by.ensures.disk ∙ c.end_verifying.ensures.disk
-
-pub returns-clause-held : goal.returns-clause-held
-returns-clause-held g c = c.artifact_by.ensures.held ∙ c.end_verifying.ensures.held
+pub returns-clause-stays : goal.returns-clause-stays
+returns-clause-stays g c = looked_then c.end_verifying.ensures.stays c.artifact_by.ensures.stays
 
 pub returns-clause-hand : goal.returns-clause-hand
 returns-clause-hand g c = ap (λ its. its.hand) c.artifact_by.ensures.rest ∙ ap (λ its. its.hand) c.end_verifying.ensures.rest
-
-pub returns-clause-provider : goal.returns-clause-provider
-returns-clause-provider g c = λ provided. same_provided (c.end_verifying.ensures.provider provided) (c.artifact_by.ensures.provider provided)
 
 pub returns-clause-moved : goal.returns-clause-moved
 returns-clause-moved g c =
@@ -158,5 +149,5 @@ returns-clause-causes g c =
 
 pub returns-clause-including : goal.returns-clause-including
 returns-clause-including g c =
-    then_well c.artifact_by.result (λ idle. derived_ready g.C.Ceremony.check_log_of g.C.Ceremony.dealing_of g.C.Ceremony.finish_of (non_zero_u64_get c.args.terms.now.blocks_per_epoch) c.end_verifying.new.life c.artifact_by.new.life c.artifact_by.ensures.same
+    then_well c.artifact_by.result (λ idle. derived_ready g.C.Ceremony.check_log_of g.C.Ceremony.dealing_of g.C.Ceremony.finish_of (non_zero_u64_get c.args.terms.now.blocks_per_epoch) c.end_verifying.new.life c.artifact_by.new.life c.artifact_by.ensures.stays.same
     c.end_verifying.new.inclusion c.artifact_by.new.inclusion c.artifact_by.ensures.rest idle c.in_ok-end_verifying.ensures.including) c.artifact_by.ensures.idle

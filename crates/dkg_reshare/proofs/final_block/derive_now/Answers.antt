@@ -17,6 +17,7 @@ use Rattle.dkg_dealing.proofs.Kept.{moved_none}
 use Rattle.dkg_inclusion.proofs.Keeping.{cached_there}
 use Rattle.dkg_inclusion.proofs.Telling.{ends_with, seen_cached}
 use Rattle.dkg_inclusion.proofs.Within.{within_as}
+use Rattle.dkg_inclusion.proofs.Looking.{looked}
 use Rattle.dkg_reshare.proofs.final_block.derive_now.Goals as goal
 
 pub see_verified-requires : goal.see_verified-requires
@@ -61,6 +62,9 @@ returns-in_err-see_verified-clause-rest g c =
       cache = (sym c.see_verified.ensures.rest i).cache;
     })
 
+pub returns-in_err-see_verified-clause-stays : goal.returns-in_err-see_verified-clause-stays
+returns-in_err-see_verified-clause-stays g c = looked
+
 pub unreachable-requires : goal.unreachable-requires
 unreachable-requires g c = none_apart c.ready.result c.in_default.is (c.ready.ensures.exactly.1 c.in_ok-see_verified.ensures.ready)
 
@@ -99,8 +103,13 @@ returns-in_err-keep_artifact-clause-causes g c =
     let p = err_from_is_err_and c.from_residual-in_err-keep_artifact.result c.from_residual-in_err-keep_artifact.ensures.1 in
     rw (p.1, p.2) c.in_err-keep_artifact.ensures.causes
 
-pub returns-in_err-keep_artifact-clause-same : goal.returns-in_err-keep_artifact-clause-same
-returns-in_err-keep_artifact-clause-same g c = λ i. record c.args.life.now { store = c.keep_artifact.ensures.store i }
+pub returns-in_err-keep_artifact-clause-stays : goal.returns-in_err-keep_artifact-clause-stays
+returns-in_err-keep_artifact-clause-stays g c = record {
+  same = λ i. record c.args.life.now { store = c.keep_artifact.ensures.store i };
+  disk = c.keep_artifact.ensures.disk;
+  held = c.keep_artifact.ensures.held;
+  provider = c.keep_artifact.ensures.provider;
+}
 
 -- NO COPY
 
@@ -129,8 +138,13 @@ returns-in_err-kept-clause-tells g c = λ provided fixed round beside fence out 
 pub returns-in_err-kept-clause-moved : goal.returns-in_err-kept-clause-moved
 returns-in_err-kept-clause-moved g c = c.keep_artifact.ensures.moved
 
-pub returns-in_err-kept-clause-same : goal.returns-in_err-kept-clause-same
-returns-in_err-kept-clause-same g c = λ i. record c.args.life.now { store = c.keep_artifact.ensures.store i }
+pub returns-in_err-kept-clause-stays : goal.returns-in_err-kept-clause-stays
+returns-in_err-kept-clause-stays g c = record {
+  same = λ i. record c.args.life.now { store = c.keep_artifact.ensures.store i };
+  disk = c.keep_artifact.ensures.disk;
+  held = c.keep_artifact.ensures.held;
+  provider = c.keep_artifact.ensures.provider;
+}
 
 -- IT IS MADE
 
@@ -167,8 +181,13 @@ returns-clause-tells g c = λ provided fixed round beside fence out of reads by 
 pub returns-clause-moved : goal.returns-clause-moved
 returns-clause-moved g c = c.keep_artifact.ensures.moved
 
-pub returns-clause-same : goal.returns-clause-same
-returns-clause-same g c = λ i. record c.args.life.now { store = c.keep_artifact.ensures.store i }
+pub returns-clause-stays : goal.returns-clause-stays
+returns-clause-stays g c = record {
+  same = λ i. record c.args.life.now { store = c.keep_artifact.ensures.store i };
+  disk = c.keep_artifact.ensures.disk;
+  held = c.keep_artifact.ensures.held;
+  provider = c.keep_artifact.ensures.provider;
+}
 
 -- There is one.
 pub unreachable-requires-in-None : goal.unreachable-requires-in-None

@@ -75,9 +75,9 @@ returns-in-Ok-clause-ends g c = c.in-Ok.ensures.ready
 
 pub returns-in-Ok-clause-stays : goal.returns-in-Ok-clause-stays
 returns-in-Ok-clause-stays g c = record {
-  word = rw c.in-Living.is (ap (λ (l : Life g.row.Dir.Denot). l.word) c.work.ensures.same);
+  word = rw c.in-Living.is (ap (λ (l : Life g.row.Dir.Denot). l.word) c.work.ensures.stays.same);
   rest = (refl, refl, refl, refl);
-  provider = c.work.ensures.provider;
+  provider = c.work.ensures.stays.provider;
 }
 
 pub returns-in-Ok-clause-fails : goal.returns-in-Ok-clause-fails
@@ -93,7 +93,7 @@ pub returns-in-Ok-clause-causes : goal.returns-in-Ok-clause-causes
 returns-in-Ok-clause-causes g c = tt
 
 pub returns-in-Ok-clause-fit : goal.returns-in-Ok-clause-fit
-returns-in-Ok-clause-fit g c = λ told fit. rw c.work.ensures.disk fit
+returns-in-Ok-clause-fit g c = λ told fit. rw c.work.ensures.stays.disk fit
 
 pub returns-in-Err-clause-including : goal.returns-in-Err-clause-including
 returns-in-Err-clause-including g c = tt
@@ -113,7 +113,7 @@ pub returns-in-Err-clause-stays : goal.returns-in-Err-clause-stays
 returns-in-Err-clause-stays g c = record {
   word = rw (c.in-Living.is, c.fail.ensures.failed) tt;
   rest = c.fail.ensures.rest;
-  provider = rw c.fail.ensures.provider c.work.ensures.provider;
+  provider = rw c.fail.ensures.provider c.work.ensures.stays.provider;
 }
 
 pub returns-in-Err-clause-fails : goal.returns-in-Err-clause-fails
@@ -129,4 +129,4 @@ pub returns-in-Err-clause-causes : goal.returns-in-Err-clause-causes
 returns-in-Err-clause-causes g c = caused_in_step g.D.Disk.tells _ _ _ c.in-Err.why (caused_around g.D.Disk.tells (λ x. x) (λ x. x) (λ x. x) c.in-Err.why c.in-Err.ensures.causes)
 
 pub returns-in-Err-clause-fit : goal.returns-in-Err-clause-fit
-returns-in-Err-clause-fit g c = λ told fit. rw c.work.ensures.disk fit
+returns-in-Err-clause-fit g c = λ told fit. rw c.work.ensures.stays.disk fit
