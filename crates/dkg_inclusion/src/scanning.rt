@@ -171,8 +171,7 @@ fn ask_for<
 ) -> Result<(), Stop>
     requires ready { IsReadyLife D.tells D.files D.image C.ack_of C.deal_of C.check_ack_of terms.now life.old devices.old }
     requires including { IsReadyInclusion C.check_log_of C.dealing_of C.finish_of (non_zero_u64_get terms.now.blocks_per_epoch) life.old inclusion.old }
-    requires includes { life.old.stage ≡ Including }
-    requires free { (inclusion.old.hand ≡ None) × (inclusion.old.verification.running ≡ None) }
+    requires may { (life.old.stage ≡ Including) × (inclusion.old.hand ≡ None) × (inclusion.old.verification.running ≡ None) }
     requires round { IsSome life.old.round }
     ensures rest { inclusion.new ≡ record inclusion.old {
       verification = inclusion.new.verification;
@@ -249,8 +248,7 @@ pub(crate) fn take_answer<
 ) -> Result<(), Stop>
     requires ready { IsReadyLife D.tells D.files D.image C.ack_of C.deal_of C.check_ack_of terms.now life.old devices.old }
     requires including { IsReadyInclusion C.check_log_of C.dealing_of C.finish_of (non_zero_u64_get terms.now.blocks_per_epoch) life.old inclusion.old }
-    requires includes { life.old.stage ≡ Including }
-    requires free { (inclusion.old.hand ≡ None) × (inclusion.old.verification.running ≡ None) }
+    requires may { (life.old.stage ≡ Including) × (inclusion.old.hand ≡ None) × (inclusion.old.verification.running ≡ None) }
     requires round { IsSome life.old.round }
     ensures rest { inclusion.new ≡ record inclusion.old {
       verification = inclusion.new.verification;

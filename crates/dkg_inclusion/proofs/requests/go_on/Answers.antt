@@ -76,11 +76,8 @@ returns-in_ok-take_answer-in_default-clause-stays g c = looked_then c.take_answe
 pub take_answer-requires-clause-ready : goal.take_answer-requires-clause-ready
 take_answer-requires-clause-ready g c = c.requires.ready
 
-pub take_answer-requires-clause-includes : goal.take_answer-requires-clause-includes
-take_answer-requires-clause-includes g c = (c.requires.hand c.in_default.not-Need).includes
-
-pub take_answer-requires-clause-free : goal.take_answer-requires-clause-free
-take_answer-requires-clause-free g c = (refl, (c.requires.hand c.in_default.not-Need).free)
+pub take_answer-requires-clause-may : goal.take_answer-requires-clause-may
+take_answer-requires-clause-may g c = ((c.requires.hand c.in_default.not-Need).includes, refl, (c.requires.hand c.in_default.not-Need).free)
 
 pub take_answer-requires-clause-round : goal.take_answer-requires-clause-round
 take_answer-requires-clause-round g c = (c.requires.hand c.in_default.not-Need).round

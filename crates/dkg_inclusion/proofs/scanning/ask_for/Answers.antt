@@ -125,7 +125,7 @@ returns-clause-ready g c = in_any c.start_verifying.result c.requires.ready
 pub returns-clause-including : goal.returns-clause-including
 returns-clause-including g c =
     then_well c.start_verifying.result (λ runs. ready_verifying g.C.Ceremony.check_log_of g.C.Ceremony.dealing_of g.C.Ceremony.finish_of (non_zero_u64_get c.args.terms.now.blocks_per_epoch) c.args.life.now c.args.inclusion.now c.start_verifying.new.inclusion
-    c.start_verifying.ensures.rest c.requires.free.0 c.requires.includes c.in-Some-round.round c.in-Some-round.is runs c.requires.including) c.start_verifying.ensures.runs
+    c.start_verifying.ensures.rest c.requires.may.1 c.requires.may.0 c.in-Some-round.round c.in-Some-round.is runs c.requires.including) c.start_verifying.ensures.runs
 
 pub returns-clause-rest : goal.returns-clause-rest
 returns-clause-rest g c = verifying_rest c.args.inclusion.now c.start_verifying.new.inclusion c.start_verifying.ensures.rest

@@ -141,11 +141,8 @@ take_answer-requires-clause-ready g c = c.requires.ready
 pub take_answer-requires-clause-including : goal.take_answer-requires-clause-including
 take_answer-requires-clause-including g c = ready_requests g.C.Ceremony.check_log_of g.C.Ceremony.dealing_of g.C.Ceremony.finish_of (non_zero_u64_get c.args.terms.now.blocks_per_epoch) c.args.life.now c.args.inclusion.now c.requires.may.0 c.requires.including c.pop.new.self
 
-pub take_answer-requires-clause-includes : goal.take_answer-requires-clause-includes
-take_answer-requires-clause-includes g c = c.requires.may.0
-
-pub take_answer-requires-clause-free : goal.take_answer-requires-clause-free
-take_answer-requires-clause-free g c = (c.requires.may.1, c.requires.may.2)
+pub take_answer-requires-clause-may : goal.take_answer-requires-clause-may
+take_answer-requires-clause-may g c = c.requires.may
 
 pub take_answer-requires-clause-round : goal.take_answer-requires-clause-round
 take_answer-requires-clause-round g c = some_is c.args.life.now.round c.in-Some.round c.in-Some.is
