@@ -6,9 +6,13 @@ use Rattle.dkg_ceremony.specs.Schedule.{epoch_of, midpoint}
 use Rattle.dkg_ceremony.specs.declared.mode.Mode.{Mode}
 use Rattle.dkg_ceremony.specs.declared.mode.ModeVersion.{ModeVersion}
 use Rattle.dkg_ceremony.specs.declared.mode.Reveal.{Reveal}
+use Rattle.dkg_journal.specs.DeviceCall.{DeviceCall}
 use Rattle.dkg_journal.specs.Names.{Files}
+use Rattle.dkg_journal.specs.declared.disk.Op.{Op}
 use Rattle.dkg_store.specs.Acts.{Ended, went, broken, by_want, held_in}
 use Rattle.dkg_secrets.specs.Secrets.{Secrets}
+use Rattle.dkg_secrets.specs.declared.secrets.SecretOp.{SecretOp}
+use Rattle.dkg_store.specs.Corrupt.{AreFit}
 use Rattle.dkg_store.specs.declared.devices.Devices.{Devices}
 use Rattle.dkg_types.specs.Blocks.{Block}
 use Rattle.dkg_types.specs.declared.fault.Fault.{Fault}
@@ -34,6 +38,7 @@ use Rattle.dkg_dealing.specs.declared.tip.Judged.TheVariants.{New as IsNewBlock}
 use Rattle.dkg_reshare.specs.CarriedLogs.{CarriesWithin}
 use Rattle.dkg_dealing.specs.Judged.{judged}
 use Rattle.dkg_dealing.specs.LiveOf.{records_of}
+use Rattle.dkg_dealing.specs.Moved.{Moved}
 use Rattle.dkg_dealing.specs.Ready.{IsReadyLife}
 use Rattle.dkg_dealing.specs.Rules.{AckOf, DealOf, CheckAckOf, SameProvided}
 
@@ -113,6 +118,13 @@ pub record Stays {C Dir Signer Cfg : Type 0} (old new : State C Dir Signer Cfg) 
   pub word : IfLiving old (λ life. IfLiving new (λ now. now.word ≡ life.word))
   pub rest : same
   pub provider : IsTrue tells → SameProvided participants participants_now directory directory_now
+
+-- .. and of a life and its devices over a part of a step: its random word, what is lent, and that no record which a crash leaves is out of its grammar, or past this limit.
+pub record MovesOn {D X Dir : Type 0} (was now : Life Dir) (tells : Bool) (made_disk : D → D → List (DeviceCall Op) → Type 0) (made_secrets : X → X → List (DeviceCall SecretOp) → Type 0)
+    (disk_faults : D → ℕ) (secret_faults : X → ℕ) (image : D → Files → Type 0) (limit : ℕ) (old new : Devices D X) : Type 0 where
+  pub word : now.word ≡ was.word
+  pub moved : Moved tells made_disk made_secrets disk_faults secret_faults old new
+  pub fit : IsTrue tells → AreFit limit (image old.disk.now) → AreFit limit (image new.disk.now)
 
 -- MESSAGES
 

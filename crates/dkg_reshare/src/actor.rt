@@ -20,7 +20,7 @@ ghost use Rattle.dkg_dealing.specs.Opened.{IsInGrammar, IsOpeningOf, OpensReadab
 ghost use Rattle.dkg_dealing.specs.Rules.{IncludesBy, IsRuledBy, SameProvided};
 ghost use Rattle.dkg_dealing.specs.Planless.{IsBareOpening};
 ghost use Rattle.dkg_inclusion.specs.InclusionOf.{IsSeen, IsSettledInclusion, result_of};
-ghost use Rattle.dkg_reshare.specs.Actors.{AreTerms, BringsWithin, EndsAt, FailsStop, IfIncluding, IfLiving, IsAgreed, IsOpenedOn, IsNew, Stays, lives, message_of, running_in, told_in};
+ghost use Rattle.dkg_reshare.specs.Actors.{AreTerms, BringsWithin, EndsAt, FailsStop, IfIncluding, IfLiving, IsAgreed, IsOpenedOn, IsNew, MovesOn, Stays, lives, message_of, running_in, told_in};
 ghost use Rattle.dkg_reshare.specs.CarriedLogs.{CarriesWithin};
 
 use crate::blocks::take_block;
@@ -84,12 +84,9 @@ fn take<
     requires within { BringsWithin (non_zero_u32_get terms.now.limit) message }
     requires including { IsSettledInclusion C.check_log_of C.dealing_of C.finish_of (non_zero_u64_get terms.now.blocks_per_epoch) life.old inclusion.old }
     ensures ready { OnOk result (IsReadyLife D.tells D.files D.image C.ack_of C.deal_of C.check_ack_of terms.now life.new devices.new) }
-    ensures word { life.new.word ≡ life.old.word }
-    ensures moved { Moved D.tells D.made X.made D.faults X.faults devices.old devices.new }
+    ensures moves { MovesOn life.old life.new D.tells D.made X.made D.faults X.faults D.image (non_zero_u32_get terms.now.limit) devices.old devices.new }
     ensures causes { IfErr result (λ stop. IsCausedBy D.tells stop (Rose (D.faults devices.old.disk.now) (D.faults devices.new.disk.now))
         (Rose (X.faults devices.old.secrets.now) (X.faults devices.new.secrets.now)) (Reached devices.old.fuse devices.new.fuse)) }
-    ensures fit { IsTrue D.tells → AreFit (non_zero_u32_get terms.now.limit) (D.image devices.old.disk.now)
-        → AreFit (non_zero_u32_get terms.now.limit) (D.image devices.new.disk.now) }
     ensures including { OnOk result (IsSettledInclusion C.check_log_of C.dealing_of C.finish_of (non_zero_u64_get terms.now.blocks_per_epoch) life.new
         inclusion.new) }
     ensures provider { IsTrue P.tells → SameProvided (P.participants_of provider.old) (P.participants_of provider.new)

@@ -9,7 +9,6 @@ ghost use Rattle.dkg_ceremony.specs.declared.round.RoundParts.{RoundParts as Rou
 ghost use Rattle.dkg_fence.specs.Readiness.{Readiness};
 ghost use Rattle.dkg_journal.specs.Disk.{Rose};
 ghost use Rattle.dkg_journal.specs.Fuse.{Reached};
-ghost use Rattle.dkg_store.specs.Corrupt.{AreFit};
 ghost use Rattle.dkg_core.specs.Blocks as blocks;
 ghost use Rattle.dkg_core.specs.Fixed.{Fixed};
 ghost use Rattle.dkg_dealing.specs.Ready.{IsReadyLife};
@@ -17,13 +16,12 @@ ghost use Rattle.dkg_dealing.specs.Ends.{IsCaused, IsCausedBy, ends_in};
 ghost use Rattle.dkg_dealing.specs.Given.{IsIn, IsOf, ReadsPlanless};
 ghost use Rattle.dkg_dealing.specs.LiveOf.{Beside, EndsBeside, EndsWith, IsFresh, TookSchemes, live_of};
 ghost use Rattle.dkg_dealing.specs.Made.{Makes, Tells};
-ghost use Rattle.dkg_dealing.specs.Moved.{Moved};
 ghost use Rattle.dkg_dealing.specs.Rules.{IncludesBy, IsRuledBy, SameProvided};
 ghost use Rattle.dkg_dealing.specs.Steps.{AreBoundsAt, carried_in};
 ghost use Rattle.dkg_dealing.specs.declared.life.Stage.TheVariants.{Including};
 ghost use Rattle.dkg_inclusion.specs.Including.{IsNextBlock, applies_included};
 ghost use Rattle.dkg_inclusion.specs.InclusionOf.{IsReadyInclusion, IsSeen, IsSettledInclusion};
-ghost use Rattle.dkg_reshare.specs.Actors.{IsApplied, is_in_window_by};
+ghost use Rattle.dkg_reshare.specs.Actors.{IsApplied, MovesOn, is_in_window_by};
 ghost use Rattle.dkg_reshare.specs.CarriedLogs.{CarriesWithin};
 
 use crate::final_block::{derive, take_over};
@@ -86,12 +84,9 @@ fn apply_dealing<
     requires ready { IsReadyLife D.tells D.files D.image C.ack_of C.deal_of C.check_ack_of terms.now life.old devices.old }
     requires including { IsReadyInclusion C.check_log_of C.dealing_of C.finish_of (non_zero_u64_get terms.now.blocks_per_epoch) life.old inclusion.old }
     ensures ready { OnOk result (IsReadyLife D.tells D.files D.image C.ack_of C.deal_of C.check_ack_of terms.now life.new devices.new) }
-    ensures word { life.new.word ≡ life.old.word }
-    ensures moved { Moved D.tells D.made X.made D.faults X.faults devices.old devices.new }
+    ensures moves { MovesOn life.old life.new D.tells D.made X.made D.faults X.faults D.image (non_zero_u32_get terms.now.limit) devices.old devices.new }
     ensures causes { IfErr result (λ stop. IsCaused stop (Rose (D.faults devices.old.disk.now) (D.faults devices.new.disk.now))
         (Rose (X.faults devices.old.secrets.now) (X.faults devices.new.secrets.now)) (Reached devices.old.fuse devices.new.fuse)) }
-    ensures fit { IsTrue D.tells → AreFit (non_zero_u32_get terms.now.limit) (D.image devices.old.disk.now)
-        → AreFit (non_zero_u32_get terms.now.limit) (D.image devices.new.disk.now) }
     ensures including { OnOk result (IsSettledInclusion C.check_log_of C.dealing_of C.finish_of (non_zero_u64_get terms.now.blocks_per_epoch) life.new
         inclusion.new) }
     ensures provider { IsTrue P.tells → SameProvided (P.participants_of provider.old) (P.participants_of provider.new)
@@ -167,7 +162,7 @@ fn follow_into<C: Ceremony, R: Registrar, Dir: Directory + Drop, D: Disk, X: Sec
     requires me { terms.now.me ≡ C.Signer.key_of signer.now }
     requires ready { IsReadyLife D.tells D.files D.image C.ack_of C.deal_of C.check_ack_of terms.now life.old devices.old }
     ensures ready { OnOk result (IsReadyLife D.tells D.files D.image C.ack_of C.deal_of C.check_ack_of terms.now life.new devices.new) }
-    ensures word { life.new.word ≡ life.old.word }
+    ensures moves { MovesOn life.old life.new D.tells D.made X.made D.faults X.faults D.image (non_zero_u32_get terms.now.limit) devices.old devices.new }
     ensures current { OnOk result (IsSome life.new.store.current) }
     ensures acts { IsTrue D.tells → IsTrue X.tells → (c : Fixed Dir) (beside : Beside Dir) → IsFresh beside.inclusion → IsIn terms.now life.old.word c
         → ReadsPlanless c
@@ -181,11 +176,8 @@ fn follow_into<C: Ceremony, R: Registrar, Dir: Directory + Drop, D: Disk, X: Sec
         → EndsBeside beside (λ more. OnOk result (TookSchemes R.tells (R.taken registrar.old) (R.taken registrar.new) more))
         (λ now. Tells (blocks.follows_into c block.now info.now (live_of beside fence.old life.old)) (ends_in (live_of now fence.new life.new) result)
         out.old.entries out.new.entries) }
-    ensures moved { Moved D.tells D.made X.made D.faults X.faults devices.old devices.new }
     ensures causes { IfErr result (λ stop. IsCausedBy D.tells stop (Rose (D.faults devices.old.disk.now) (D.faults devices.new.disk.now))
         (Rose (X.faults devices.old.secrets.now) (X.faults devices.new.secrets.now)) (Reached devices.old.fuse devices.new.fuse)) }
-    ensures fit { IsTrue D.tells → AreFit (non_zero_u32_get terms.now.limit) (D.image devices.old.disk.now)
-        → AreFit (non_zero_u32_get terms.now.limit) (D.image devices.new.disk.now) }
 {
     let me = terms.me;
     let secrets = secrets_of(alloc, ceremony, me, life, devices, info)?;
@@ -219,12 +211,9 @@ fn follow_block<C: Ceremony + Drop, R: Registrar, Dir: Directory + Drop, D: Disk
     requires ready { IsReadyLife D.tells D.files D.image C.ack_of C.deal_of C.check_ack_of terms.now life.old devices.old }
     requires including { IsReadyInclusion C.check_log_of C.dealing_of C.finish_of (non_zero_u64_get terms.now.blocks_per_epoch) life.old inclusion.old }
     ensures ready { OnOk result (IsReadyLife D.tells D.files D.image C.ack_of C.deal_of C.check_ack_of terms.now life.new devices.new) }
-    ensures word { life.new.word ≡ life.old.word }
-    ensures moved { Moved D.tells D.made X.made D.faults X.faults devices.old devices.new }
+    ensures moves { MovesOn life.old life.new D.tells D.made X.made D.faults X.faults D.image (non_zero_u32_get terms.now.limit) devices.old devices.new }
     ensures causes { IfErr result (λ stop. IsCausedBy D.tells stop (Rose (D.faults devices.old.disk.now) (D.faults devices.new.disk.now))
         (Rose (X.faults devices.old.secrets.now) (X.faults devices.new.secrets.now)) (Reached devices.old.fuse devices.new.fuse)) }
-    ensures fit { IsTrue D.tells → AreFit (non_zero_u32_get terms.now.limit) (D.image devices.old.disk.now)
-        → AreFit (non_zero_u32_get terms.now.limit) (D.image devices.new.disk.now) }
     ensures including { OnOk result (IsSettledInclusion C.check_log_of C.dealing_of C.finish_of (non_zero_u64_get terms.now.blocks_per_epoch) life.new
         inclusion.new) }
     ensures acts { IsTrue D.tells → IsTrue X.tells → (c : Fixed Dir) (beside : Beside Dir) → IsIn terms.now life.old.word c → ReadsPlanless c
@@ -281,7 +270,7 @@ fn include<
     ensures ready { OnOk result (IsReadyLife D.tells D.files D.image C.ack_of C.deal_of C.check_ack_of terms.now life.new devices.new) }
     ensures including { OnOk result (IsSettledInclusion C.check_log_of C.dealing_of C.finish_of (non_zero_u64_get terms.now.blocks_per_epoch) life.new
         inclusion.new) }
-    ensures word { life.new.word ≡ life.old.word }
+    ensures moves { MovesOn life.old life.new D.tells D.made X.made D.faults X.faults D.image (non_zero_u32_get terms.now.limit) devices.old devices.new }
     ensures provider { IsTrue P.tells → SameProvided (P.participants_of provider.old) (P.participants_of provider.new)
         (P.directory_of provider.old) (P.directory_of provider.new) }
     ensures acts { IsTrue D.tells → IsTrue X.tells → IsTrue P.tells → (c : Fixed Dir) (round : Round) (beside : Beside Dir) (fence : Readiness)
@@ -297,11 +286,8 @@ fn include<
         → life.old.round ≡ Some round → IsSeen inclusion.old beside.inclusion → EndsWith beside (λ i. OnOk result (IsSeen inclusion.new i)) (λ more. more ≡ [])
         (λ now. Tells (blocks.includes c round block.now (live_of beside fence life.old)) (ends_in
         (live_of now fence life.new) result) out.old.entries out.new.entries) }
-    ensures moved { Moved D.tells D.made X.made D.faults X.faults devices.old devices.new }
     ensures causes { IfErr result (λ stop. IsCaused stop (Rose (D.faults devices.old.disk.now) (D.faults devices.new.disk.now))
         (Rose (X.faults devices.old.secrets.now) (X.faults devices.new.secrets.now)) (Reached devices.old.fuse devices.new.fuse)) }
-    ensures fit { IsTrue D.tells → AreFit (non_zero_u32_get terms.now.limit) (D.image devices.old.disk.now)
-        → AreFit (non_zero_u32_get terms.now.limit) (D.image devices.new.disk.now) }
 {
     observe(alloc, ceremony, terms, life, devices, block)?;
     unserve(inclusion, block.height());
@@ -345,7 +331,7 @@ fn take_final_block<
     ensures ready { OnOk result (IsReadyLife D.tells D.files D.image C.ack_of C.deal_of C.check_ack_of terms.now life.new devices.new) }
     ensures including { OnOk result (IsSettledInclusion C.check_log_of C.dealing_of C.finish_of (non_zero_u64_get terms.now.blocks_per_epoch) life.new
         inclusion.new) }
-    ensures word { life.new.word ≡ life.old.word }
+    ensures moves { MovesOn life.old life.new D.tells D.made X.made D.faults X.faults D.image (non_zero_u32_get terms.now.limit) devices.old devices.new }
     ensures provider { IsTrue P.tells → SameProvided (P.participants_of provider.old) (P.participants_of provider.new)
         (P.directory_of provider.old) (P.directory_of provider.new) }
     ensures acts { IsTrue D.tells → IsTrue X.tells → IsTrue P.tells → (c : Fixed Dir) (round : Round) (beside : Beside Dir) → IsIn terms.now life.old.word c
@@ -364,11 +350,8 @@ fn take_final_block<
         (λ more. OnOk result (TookSchemes R.tells (R.taken registrar.old) (R.taken registrar.new) more))
         (λ now. Tells (blocks.final_block c round block.now (live_of beside fence.old life.old)) (ends_in (live_of now fence.new life.new) result)
         out.old.entries out.new.entries) }
-    ensures moved { Moved D.tells D.made X.made D.faults X.faults devices.old devices.new }
     ensures causes { IfErr result (λ stop. IsCausedBy D.tells stop (Rose (D.faults devices.old.disk.now) (D.faults devices.new.disk.now))
         (Rose (X.faults devices.old.secrets.now) (X.faults devices.new.secrets.now)) (Reached devices.old.fuse devices.new.fuse)) }
-    ensures fit { IsTrue D.tells → AreFit (non_zero_u32_get terms.now.limit) (D.image devices.old.disk.now)
-        → AreFit (non_zero_u32_get terms.now.limit) (D.image devices.new.disk.now) }
 {
     let artifact = derive(
         alloc, ceremony, provider, terms, life, inclusion, devices, out,
@@ -413,7 +396,7 @@ fn apply_included<
     ensures ready { OnOk result (IsReadyLife D.tells D.files D.image C.ack_of C.deal_of C.check_ack_of terms.now life.new devices.new) }
     ensures including { OnOk result (IsSettledInclusion C.check_log_of C.dealing_of C.finish_of (non_zero_u64_get terms.now.blocks_per_epoch) life.new
         inclusion.new) }
-    ensures word { life.new.word ≡ life.old.word }
+    ensures moves { MovesOn life.old life.new D.tells D.made X.made D.faults X.faults D.image (non_zero_u32_get terms.now.limit) devices.old devices.new }
     ensures provider { IsTrue P.tells → SameProvided (P.participants_of provider.old) (P.participants_of provider.new)
         (P.directory_of provider.old) (P.directory_of provider.new) }
     ensures acts { IsTrue D.tells → IsTrue X.tells → IsTrue P.tells → (c : Fixed Dir) (beside : Beside Dir) → IsIn terms.now life.old.word c → ReadsPlanless c
@@ -431,11 +414,8 @@ fn apply_included<
         (λ more. OnOk result (TookSchemes R.tells (R.taken registrar.old) (R.taken registrar.new) more))
         (λ now. Tells (applies_included c block.now (live_of beside fence.old life.old)) (ends_in (live_of now fence.new life.new) result)
         out.old.entries out.new.entries) }
-    ensures moved { Moved D.tells D.made X.made D.faults X.faults devices.old devices.new }
     ensures causes { IfErr result (λ stop. IsCausedBy D.tells stop (Rose (D.faults devices.old.disk.now) (D.faults devices.new.disk.now))
         (Rose (X.faults devices.old.secrets.now) (X.faults devices.new.secrets.now)) (Reached devices.old.fuse devices.new.fuse)) }
-    ensures fit { IsTrue D.tells → AreFit (non_zero_u32_get terms.now.limit) (D.image devices.old.disk.now)
-        → AreFit (non_zero_u32_get terms.now.limit) (D.image devices.new.disk.now) }
 {
     inclusion.put_back()?;
     if block.height() == bounds.last {
@@ -479,12 +459,9 @@ fn apply<
     requires ready { IsReadyLife D.tells D.files D.image C.ack_of C.deal_of C.check_ack_of terms.now life.old devices.old }
     requires including { IsReadyInclusion C.check_log_of C.dealing_of C.finish_of (non_zero_u64_get terms.now.blocks_per_epoch) life.old inclusion.old }
     ensures ready { OnOk result (IsReadyLife D.tells D.files D.image C.ack_of C.deal_of C.check_ack_of terms.now life.new devices.new) }
-    ensures word { life.new.word ≡ life.old.word }
-    ensures moved { Moved D.tells D.made X.made D.faults X.faults devices.old devices.new }
+    ensures moves { MovesOn life.old life.new D.tells D.made X.made D.faults X.faults D.image (non_zero_u32_get terms.now.limit) devices.old devices.new }
     ensures causes { IfErr result (λ stop. IsCausedBy D.tells stop (Rose (D.faults devices.old.disk.now) (D.faults devices.new.disk.now))
         (Rose (X.faults devices.old.secrets.now) (X.faults devices.new.secrets.now)) (Reached devices.old.fuse devices.new.fuse)) }
-    ensures fit { IsTrue D.tells → AreFit (non_zero_u32_get terms.now.limit) (D.image devices.old.disk.now)
-        → AreFit (non_zero_u32_get terms.now.limit) (D.image devices.new.disk.now) }
     ensures including { OnOk result (IsSettledInclusion C.check_log_of C.dealing_of C.finish_of (non_zero_u64_get terms.now.blocks_per_epoch) life.new
         inclusion.new) }
     ensures provider { IsTrue P.tells → SameProvided (P.participants_of provider.old) (P.participants_of provider.new)
@@ -553,12 +530,9 @@ pub(crate) fn take_block<
     requires within { CarriesWithin (non_zero_u32_get terms.now.limit) block.now }
     requires including { IsSettledInclusion C.check_log_of C.dealing_of C.finish_of (non_zero_u64_get terms.now.blocks_per_epoch) life.old inclusion.old }
     ensures ready { OnOk result (IsReadyLife D.tells D.files D.image C.ack_of C.deal_of C.check_ack_of terms.now life.new devices.new) }
-    ensures word { life.new.word ≡ life.old.word }
-    ensures moved { Moved D.tells D.made X.made D.faults X.faults devices.old devices.new }
+    ensures moves { MovesOn life.old life.new D.tells D.made X.made D.faults X.faults D.image (non_zero_u32_get terms.now.limit) devices.old devices.new }
     ensures causes { IfErr result (λ stop. IsCausedBy D.tells stop (Rose (D.faults devices.old.disk.now) (D.faults devices.new.disk.now))
         (Rose (X.faults devices.old.secrets.now) (X.faults devices.new.secrets.now)) (Reached devices.old.fuse devices.new.fuse)) }
-    ensures fit { IsTrue D.tells → AreFit (non_zero_u32_get terms.now.limit) (D.image devices.old.disk.now)
-        → AreFit (non_zero_u32_get terms.now.limit) (D.image devices.new.disk.now) }
     ensures including { OnOk result (IsSettledInclusion C.check_log_of C.dealing_of C.finish_of (non_zero_u64_get terms.now.blocks_per_epoch) life.new
         inclusion.new) }
     ensures provider { IsTrue P.tells → SameProvided (P.participants_of provider.old) (P.participants_of provider.new)

@@ -15,7 +15,6 @@ ghost use Rattle.dkg_ceremony.specs.Schedule.{epoch_of, midpoint};
 ghost use Rattle.dkg_types.specs.declared.entry.Entry.{Entry as Line};
 ghost use Rattle.dkg_types.specs.declared.fault.Fault.TheVariants.{NoMemory as OutOfMemory};
 ghost use Rattle.dkg_core.specs.Same.{same_info};
-ghost use Rattle.dkg_store.specs.Corrupt.{AreFit};
 ghost use Rattle.dkg_core.specs.Blocks as blocks;
 ghost use Rattle.dkg_dealing.specs.Ready.{IsReadyLife};
 ghost use Rattle.dkg_dealing.specs.Ends.{IsCaused, ends_in};
@@ -35,6 +34,7 @@ ghost use Rattle.dkg_inclusion.specs.Concluded.{FindsBy, HaveSameParts, canonica
 ghost use Rattle.dkg_inclusion.specs.Including.{derives_by, derives_final, derives_now};
 ghost use Rattle.dkg_inclusion.specs.InclusionOf.{IsReadyInclusion, IsSeen, IsSettledInclusion, artifact_of, cached_of};
 ghost use Rattle.dkg_inclusion.specs.Looks.{OnlyLooks};
+ghost use Rattle.dkg_reshare.specs.Actors.{MovesOn};
 
 use dkg_artifact::{Artifact, ArtifactCache};
 use dkg_ceremony::{Ceremony, DealerLog, Share, encode};
@@ -402,7 +402,7 @@ fn pass_on<C: Ceremony + Drop, R: Registrar, Dir: Directory + Drop, D: Disk, X: 
     ensures ready { OnOk result (IsReadyLife D.tells D.files D.image C.ack_of C.deal_of C.check_ack_of terms.now life.new devices.new) }
     ensures including { OnOk result (IsSettledInclusion C.check_log_of C.dealing_of C.finish_of (non_zero_u64_get terms.now.blocks_per_epoch) life.new
         inclusion.new) }
-    ensures word { life.new.word ≡ life.old.word }
+    ensures moves { MovesOn life.old life.new D.tells D.made X.made D.faults X.faults D.image (non_zero_u32_get terms.now.limit) devices.old devices.new }
     ensures acts { IsTrue D.tells → IsTrue X.tells → (c : Fixed Dir) (beside : Beside Dir) → IsIn terms.now life.old.word c → ReadsPlanless c
         → IsRuledBy C.round_of C.deal_of C.dealing_of C.ack_of C.check_ack_of C.sign_log_of C.bears_ack_of C.share_public_of C.partial_public_of c.rules
         → IsSeen inclusion.old beside.inclusion → EndsWith beside (λ i. OnOk result (IsSeen inclusion.new i))
@@ -416,11 +416,8 @@ fn pass_on<C: Ceremony + Drop, R: Registrar, Dir: Directory + Drop, D: Disk, X: 
         (λ more. OnOk result (TookSchemes R.tells (R.taken registrar.old) (R.taken registrar.new) more))
         (λ now. Tells (blocks.passes_on c block.now (Some info.now) (live_of beside fence.old life.old)) (ends_in (live_of now fence.new life.new) result)
         out.old.entries out.new.entries) }
-    ensures moved { Moved D.tells D.made X.made D.faults X.faults devices.old devices.new }
     ensures causes { IfErr result (λ stop. IsCausedBy D.tells stop (Rose (D.faults devices.old.disk.now) (D.faults devices.new.disk.now))
         (Rose (X.faults devices.old.secrets.now) (X.faults devices.new.secrets.now)) (Reached devices.old.fuse devices.new.fuse)) }
-    ensures fit { IsTrue D.tells → AreFit (non_zero_u32_get terms.now.limit) (D.image devices.old.disk.now)
-        → AreFit (non_zero_u32_get terms.now.limit) (D.image devices.new.disk.now) }
 {
     life.tip = Some(tip_of(block));
     answer_all(alloc, inclusion, out)?;
@@ -461,7 +458,7 @@ pub(crate) fn take_over<
     ensures ready { OnOk result (IsReadyLife D.tells D.files D.image C.ack_of C.deal_of C.check_ack_of terms.now life.new devices.new) }
     ensures including { OnOk result (IsSettledInclusion C.check_log_of C.dealing_of C.finish_of (non_zero_u64_get terms.now.blocks_per_epoch) life.new
         inclusion.new) }
-    ensures word { life.new.word ≡ life.old.word }
+    ensures moves { MovesOn life.old life.new D.tells D.made X.made D.faults X.faults D.image (non_zero_u32_get terms.now.limit) devices.old devices.new }
     ensures acts { IsTrue D.tells → IsTrue X.tells → (c : Fixed Dir) (beside : Beside Dir) → IsIn terms.now life.old.word c → ReadsPlanless c
         → IsRuledBy C.round_of C.deal_of C.dealing_of C.ack_of C.check_ack_of C.sign_log_of C.bears_ack_of C.share_public_of C.partial_public_of c.rules
         → c.directories.spelling ≡ Dir.spelling → IsSeen inclusion.old beside.inclusion → EndsWith beside (λ i. OnOk result (IsSeen inclusion.new i))
@@ -476,11 +473,8 @@ pub(crate) fn take_over<
         (λ now. Tells (blocks.takes_over c block.now info.now (blocks.share_for c info.now (artifact_of artifact.now)) (live_of beside fence.old life.old))
         (ends_in (live_of now fence.new life.new) result)
         out.old.entries out.new.entries) }
-    ensures moved { Moved D.tells D.made X.made D.faults X.faults devices.old devices.new }
     ensures causes { IfErr result (λ stop. IsCausedBy D.tells stop (Rose (D.faults devices.old.disk.now) (D.faults devices.new.disk.now))
         (Rose (X.faults devices.old.secrets.now) (X.faults devices.new.secrets.now)) (Reached devices.old.fuse devices.new.fuse)) }
-    ensures fit { IsTrue D.tells → AreFit (non_zero_u32_get terms.now.limit) (D.image devices.old.disk.now)
-        → AreFit (non_zero_u32_get terms.now.limit) (D.image devices.new.disk.now) }
 {
     let share = share_for(alloc, info, artifact)?;
     let secrets: EpochSecrets = secrets_with(alloc, life, devices, info, share)?;

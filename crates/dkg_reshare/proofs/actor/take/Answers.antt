@@ -46,14 +46,12 @@ returns-in-Peer-clause-provider g c = λ provided. (λ epoch. refl, λ epoch pee
 pub returns-in-Peer-clause-ready : goal.returns-in-Peer-clause-ready
 returns-in-Peer-clause-ready g c = c.hear_peer.ensures.ready
 
-pub returns-in-Peer-clause-word : goal.returns-in-Peer-clause-word
-returns-in-Peer-clause-word g c = c.hear_peer.ensures.word
-
-pub returns-in-Peer-clause-moved : goal.returns-in-Peer-clause-moved
-returns-in-Peer-clause-moved g c = c.hear_peer.ensures.moved
-
-pub returns-in-Peer-clause-fit : goal.returns-in-Peer-clause-fit
-returns-in-Peer-clause-fit g c = c.hear_peer.ensures.fit
+pub returns-in-Peer-clause-moves : goal.returns-in-Peer-clause-moves
+returns-in-Peer-clause-moves g c = record {
+  word = c.hear_peer.ensures.word;
+  moved = c.hear_peer.ensures.moved;
+  fit = c.hear_peer.ensures.fit;
+}
 
 pub hear_peer-requires-clause-me : goal.hear_peer-requires-clause-me
 hear_peer-requires-clause-me g c = c.requires.me
@@ -87,20 +85,14 @@ returns-in-Finalized-clause-ready g c = c.take_block.ensures.ready
 pub returns-in-Finalized-clause-including : goal.returns-in-Finalized-clause-including
 returns-in-Finalized-clause-including g c = c.take_block.ensures.including
 
-pub returns-in-Finalized-clause-word : goal.returns-in-Finalized-clause-word
-returns-in-Finalized-clause-word g c = c.take_block.ensures.word
+pub returns-in-Finalized-clause-moves : goal.returns-in-Finalized-clause-moves
+returns-in-Finalized-clause-moves g c = c.take_block.ensures.moves
 
 pub returns-in-Finalized-clause-provider : goal.returns-in-Finalized-clause-provider
 returns-in-Finalized-clause-provider g c = c.take_block.ensures.provider
 
-pub returns-in-Finalized-clause-moved : goal.returns-in-Finalized-clause-moved
-returns-in-Finalized-clause-moved g c = c.take_block.ensures.moved
-
 pub returns-in-Finalized-clause-causes : goal.returns-in-Finalized-clause-causes
 returns-in-Finalized-clause-causes g c = c.take_block.ensures.causes
-
-pub returns-in-Finalized-clause-fit : goal.returns-in-Finalized-clause-fit
-returns-in-Finalized-clause-fit g c = c.take_block.ensures.fit
 
 pub returns-in-NextLog-clause-acts : goal.returns-in-NextLog-clause-acts
 returns-in-NextLog-clause-acts g c = λ disk secrets provided fixed beside of reads by provides seen.
@@ -124,17 +116,15 @@ pub returns-in-NextLog-clause-including : goal.returns-in-NextLog-clause-includi
 returns-in-NextLog-clause-including g c =
     on_ok c.serve.result (served_settled g.C.Ceremony.check_log_of g.C.Ceremony.dealing_of g.C.Ceremony.finish_of (non_zero_u64_get c.args.terms.now.blocks_per_epoch) c.args.life.now c.args.inclusion.now c.requires.including.ready c.serve.new.inclusion c.serve.ensures.rest c.serve.ensures.unserved c.requires.including)
 
-pub returns-in-NextLog-clause-word : goal.returns-in-NextLog-clause-word
-returns-in-NextLog-clause-word g c = refl
+pub returns-in-NextLog-clause-moves : goal.returns-in-NextLog-clause-moves
+returns-in-NextLog-clause-moves g c = record {
+  word = refl;
+  moved = moved_none g.D.Disk.tells g.D.Disk.made g.X.SecretStore.made g.D.Disk.faults g.X.SecretStore.faults g.met.D.Disk.made_none g.met.X.SecretStore.made_none c.args.devices.now;
+  fit = λ told fit. fit;
+}
 
 pub returns-in-NextLog-clause-provider : goal.returns-in-NextLog-clause-provider
 returns-in-NextLog-clause-provider g c = λ provided. (λ epoch. refl, λ epoch peers. refl)
-
-pub returns-in-NextLog-clause-moved : goal.returns-in-NextLog-clause-moved
-returns-in-NextLog-clause-moved g c = moved_none g.D.Disk.tells g.D.Disk.made g.X.SecretStore.made g.D.Disk.faults g.X.SecretStore.faults g.met.D.Disk.made_none g.met.X.SecretStore.made_none c.args.devices.now
-
-pub returns-in-NextLog-clause-fit : goal.returns-in-NextLog-clause-fit
-returns-in-NextLog-clause-fit g c = λ told fit. fit
 
 pub returns-in-ReleaseLog-clause-acts : goal.returns-in-ReleaseLog-clause-acts
 returns-in-ReleaseLog-clause-acts g c = λ disk secrets provided fixed beside of reads by provides seen.
@@ -158,17 +148,15 @@ pub returns-in-ReleaseLog-clause-including : goal.returns-in-ReleaseLog-clause-i
 returns-in-ReleaseLog-clause-including g c =
     released_settled g.C.Ceremony.check_log_of g.C.Ceremony.dealing_of g.C.Ceremony.finish_of (non_zero_u64_get c.args.terms.now.blocks_per_epoch) c.args.life.now c.args.inclusion.now c.requires.including.ready c.release.new.inclusion c.release.ensures.rest c.release.ensures.unserved c.requires.including
 
-pub returns-in-ReleaseLog-clause-word : goal.returns-in-ReleaseLog-clause-word
-returns-in-ReleaseLog-clause-word g c = refl
+pub returns-in-ReleaseLog-clause-moves : goal.returns-in-ReleaseLog-clause-moves
+returns-in-ReleaseLog-clause-moves g c = record {
+  word = refl;
+  moved = moved_none g.D.Disk.tells g.D.Disk.made g.X.SecretStore.made g.D.Disk.faults g.X.SecretStore.faults g.met.D.Disk.made_none g.met.X.SecretStore.made_none c.args.devices.now;
+  fit = λ told fit. fit;
+}
 
 pub returns-in-ReleaseLog-clause-provider : goal.returns-in-ReleaseLog-clause-provider
 returns-in-ReleaseLog-clause-provider g c = λ provided. (λ epoch. refl, λ epoch peers. refl)
-
-pub returns-in-ReleaseLog-clause-moved : goal.returns-in-ReleaseLog-clause-moved
-returns-in-ReleaseLog-clause-moved g c = moved_none g.D.Disk.tells g.D.Disk.made g.X.SecretStore.made g.D.Disk.faults g.X.SecretStore.faults g.met.D.Disk.made_none g.met.X.SecretStore.made_none c.args.devices.now
-
-pub returns-in-ReleaseLog-clause-fit : goal.returns-in-ReleaseLog-clause-fit
-returns-in-ReleaseLog-clause-fit g c = λ told fit. fit
 
 pub ask-requires-clause-ready : goal.ask-requires-clause-ready
 ask-requires-clause-ready g c = c.requires.ready
@@ -189,11 +177,12 @@ returns-in-EpochInfo-clause-tells g c = λ provided fixed beside of reads by pro
 pub returns-in-EpochInfo-clause-causes : goal.returns-in-EpochInfo-clause-causes
 returns-in-EpochInfo-clause-causes g c = result_caused g.D.Disk.tells (λ x. x) (λ x. x) (λ x. x) c.ask.result c.ask.ensures.causes
 
-pub returns-in-EpochInfo-clause-word : goal.returns-in-EpochInfo-clause-word
-returns-in-EpochInfo-clause-word g c = ap (λ (l : Life g.row.Dir.Denot). l.word) c.ask.ensures.stays.same
-
-pub returns-in-EpochInfo-clause-fit : goal.returns-in-EpochInfo-clause-fit
-returns-in-EpochInfo-clause-fit g c = λ told fit. rw c.ask.ensures.stays.disk fit
+pub returns-in-EpochInfo-clause-moves : goal.returns-in-EpochInfo-clause-moves
+returns-in-EpochInfo-clause-moves g c = record {
+  word = ap (λ (l : Life g.row.Dir.Denot). l.word) c.ask.ensures.stays.same;
+  moved = c.ask.ensures.moved;
+  fit = λ told fit. rw c.ask.ensures.stays.disk fit;
+}
 
 pub returns-in-EpochInfo-clause-ready : goal.returns-in-EpochInfo-clause-ready
 returns-in-EpochInfo-clause-ready g c = c.ask.ensures.ready
@@ -203,9 +192,6 @@ returns-in-EpochInfo-clause-including g c = c.ask.ensures.including
 
 pub returns-in-EpochInfo-clause-provider : goal.returns-in-EpochInfo-clause-provider
 returns-in-EpochInfo-clause-provider g c = c.ask.ensures.stays.provider
-
-pub returns-in-EpochInfo-clause-moved : goal.returns-in-EpochInfo-clause-moved
-returns-in-EpochInfo-clause-moved g c = c.ask.ensures.moved
 
 pub feed-requires-clause-ready : goal.feed-requires-clause-ready
 feed-requires-clause-ready g c = c.requires.ready
@@ -226,11 +212,12 @@ returns-in-Feed-clause-tells g c = λ provided fixed beside of reads by provides
 pub returns-in-Feed-clause-causes : goal.returns-in-Feed-clause-causes
 returns-in-Feed-clause-causes g c = result_caused g.D.Disk.tells (λ x. x) (λ x. x) (λ x. x) c.feed.result c.feed.ensures.causes
 
-pub returns-in-Feed-clause-word : goal.returns-in-Feed-clause-word
-returns-in-Feed-clause-word g c = ap (λ (l : Life g.row.Dir.Denot). l.word) c.feed.ensures.stays.same
-
-pub returns-in-Feed-clause-fit : goal.returns-in-Feed-clause-fit
-returns-in-Feed-clause-fit g c = λ told fit. rw c.feed.ensures.stays.disk fit
+pub returns-in-Feed-clause-moves : goal.returns-in-Feed-clause-moves
+returns-in-Feed-clause-moves g c = record {
+  word = ap (λ (l : Life g.row.Dir.Denot). l.word) c.feed.ensures.stays.same;
+  moved = c.feed.ensures.moved;
+  fit = λ told fit. rw c.feed.ensures.stays.disk fit;
+}
 
 pub returns-in-Feed-clause-ready : goal.returns-in-Feed-clause-ready
 returns-in-Feed-clause-ready g c = c.feed.ensures.ready
@@ -240,9 +227,6 @@ returns-in-Feed-clause-including g c = c.feed.ensures.including
 
 pub returns-in-Feed-clause-provider : goal.returns-in-Feed-clause-provider
 returns-in-Feed-clause-provider g c = c.feed.ensures.stays.provider
-
-pub returns-in-Feed-clause-moved : goal.returns-in-Feed-clause-moved
-returns-in-Feed-clause-moved g c = c.feed.ensures.moved
 
 pub end-requires-clause-ready : goal.end-requires-clause-ready
 end-requires-clause-ready g c = c.requires.ready
@@ -263,11 +247,12 @@ returns-in-Over-clause-tells g c = λ provided fixed beside of reads by provides
 pub returns-in-Over-clause-causes : goal.returns-in-Over-clause-causes
 returns-in-Over-clause-causes g c = result_caused g.D.Disk.tells (λ x. x) (λ x. x) (λ x. x) c.end.result c.end.ensures.causes
 
-pub returns-in-Over-clause-word : goal.returns-in-Over-clause-word
-returns-in-Over-clause-word g c = ap (λ (l : Life g.row.Dir.Denot). l.word) c.end.ensures.stays.same
-
-pub returns-in-Over-clause-fit : goal.returns-in-Over-clause-fit
-returns-in-Over-clause-fit g c = λ told fit. rw c.end.ensures.stays.disk fit
+pub returns-in-Over-clause-moves : goal.returns-in-Over-clause-moves
+returns-in-Over-clause-moves g c = record {
+  word = ap (λ (l : Life g.row.Dir.Denot). l.word) c.end.ensures.stays.same;
+  moved = c.end.ensures.moved;
+  fit = λ told fit. rw c.end.ensures.stays.disk fit;
+}
 
 pub returns-in-Over-clause-ready : goal.returns-in-Over-clause-ready
 returns-in-Over-clause-ready g c = c.end.ensures.ready
@@ -277,9 +262,6 @@ returns-in-Over-clause-including g c = c.end.ensures.including
 
 pub returns-in-Over-clause-provider : goal.returns-in-Over-clause-provider
 returns-in-Over-clause-provider g c = c.end.ensures.stays.provider
-
-pub returns-in-Over-clause-moved : goal.returns-in-Over-clause-moved
-returns-in-Over-clause-moved g c = c.end.ensures.moved
 
 pub cancel-requires-clause-ready : goal.cancel-requires-clause-ready
 cancel-requires-clause-ready g c = c.requires.ready
@@ -300,11 +282,12 @@ returns-in-Cancel-clause-tells g c = λ provided fixed beside of reads by provid
 pub returns-in-Cancel-clause-causes : goal.returns-in-Cancel-clause-causes
 returns-in-Cancel-clause-causes g c = result_caused g.D.Disk.tells (λ x. x) (λ x. x) (λ x. x) c.cancel.result c.cancel.ensures.causes
 
-pub returns-in-Cancel-clause-word : goal.returns-in-Cancel-clause-word
-returns-in-Cancel-clause-word g c = ap (λ (l : Life g.row.Dir.Denot). l.word) c.cancel.ensures.stays.same
-
-pub returns-in-Cancel-clause-fit : goal.returns-in-Cancel-clause-fit
-returns-in-Cancel-clause-fit g c = λ told fit. rw c.cancel.ensures.stays.disk fit
+pub returns-in-Cancel-clause-moves : goal.returns-in-Cancel-clause-moves
+returns-in-Cancel-clause-moves g c = record {
+  word = ap (λ (l : Life g.row.Dir.Denot). l.word) c.cancel.ensures.stays.same;
+  moved = c.cancel.ensures.moved;
+  fit = λ told fit. rw c.cancel.ensures.stays.disk fit;
+}
 
 pub returns-in-Cancel-clause-ready : goal.returns-in-Cancel-clause-ready
 returns-in-Cancel-clause-ready g c = c.cancel.ensures.ready
@@ -314,9 +297,6 @@ returns-in-Cancel-clause-including g c = c.cancel.ensures.including
 
 pub returns-in-Cancel-clause-provider : goal.returns-in-Cancel-clause-provider
 returns-in-Cancel-clause-provider g c = c.cancel.ensures.stays.provider
-
-pub returns-in-Cancel-clause-moved : goal.returns-in-Cancel-clause-moved
-returns-in-Cancel-clause-moved g c = c.cancel.ensures.moved
 
 pub work-requires-clause-ready : goal.work-requires-clause-ready
 work-requires-clause-ready g c = c.requires.ready
@@ -337,11 +317,12 @@ returns-in-Work-clause-tells g c = λ provided fixed beside of reads by provides
 pub returns-in-Work-clause-causes : goal.returns-in-Work-clause-causes
 returns-in-Work-clause-causes g c = result_caused g.D.Disk.tells (λ x. x) (λ x. x) (λ x. x) c.work.result c.work.ensures.causes
 
-pub returns-in-Work-clause-word : goal.returns-in-Work-clause-word
-returns-in-Work-clause-word g c = ap (λ (l : Life g.row.Dir.Denot). l.word) c.work.ensures.stays.same
-
-pub returns-in-Work-clause-fit : goal.returns-in-Work-clause-fit
-returns-in-Work-clause-fit g c = λ told fit. rw c.work.ensures.stays.disk fit
+pub returns-in-Work-clause-moves : goal.returns-in-Work-clause-moves
+returns-in-Work-clause-moves g c = record {
+  word = ap (λ (l : Life g.row.Dir.Denot). l.word) c.work.ensures.stays.same;
+  moved = c.work.ensures.moved;
+  fit = λ told fit. rw c.work.ensures.stays.disk fit;
+}
 
 pub returns-in-Work-clause-ready : goal.returns-in-Work-clause-ready
 returns-in-Work-clause-ready g c = c.work.ensures.ready
@@ -351,6 +332,3 @@ returns-in-Work-clause-including g c = c.work.ensures.including
 
 pub returns-in-Work-clause-provider : goal.returns-in-Work-clause-provider
 returns-in-Work-clause-provider g c = c.work.ensures.stays.provider
-
-pub returns-in-Work-clause-moved : goal.returns-in-Work-clause-moved
-returns-in-Work-clause-moved g c = c.work.ensures.moved

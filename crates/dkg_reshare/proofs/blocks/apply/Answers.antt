@@ -108,17 +108,11 @@ returns-in-Dealing-clause-ready g c = c.apply_dealing.ensures.ready
 pub returns-in-Dealing-clause-including : goal.returns-in-Dealing-clause-including
 returns-in-Dealing-clause-including g c = c.apply_dealing.ensures.including
 
-pub returns-in-Dealing-clause-word : goal.returns-in-Dealing-clause-word
-returns-in-Dealing-clause-word g c = c.apply_dealing.ensures.word
+pub returns-in-Dealing-clause-moves : goal.returns-in-Dealing-clause-moves
+returns-in-Dealing-clause-moves g c = c.apply_dealing.ensures.moves
 
 pub returns-in-Dealing-clause-provider : goal.returns-in-Dealing-clause-provider
 returns-in-Dealing-clause-provider g c = c.apply_dealing.ensures.provider
-
-pub returns-in-Dealing-clause-moved : goal.returns-in-Dealing-clause-moved
-returns-in-Dealing-clause-moved g c = c.apply_dealing.ensures.moved
-
-pub returns-in-Dealing-clause-fit : goal.returns-in-Dealing-clause-fit
-returns-in-Dealing-clause-fit g c = c.apply_dealing.ensures.fit
 
 pub returns-in-Including-clause-ready : goal.returns-in-Including-clause-ready
 returns-in-Including-clause-ready g c = c.apply_included.ensures.ready
@@ -126,20 +120,14 @@ returns-in-Including-clause-ready g c = c.apply_included.ensures.ready
 pub returns-in-Including-clause-including : goal.returns-in-Including-clause-including
 returns-in-Including-clause-including g c = c.apply_included.ensures.including
 
-pub returns-in-Including-clause-word : goal.returns-in-Including-clause-word
-returns-in-Including-clause-word g c = c.apply_included.ensures.word
+pub returns-in-Including-clause-moves : goal.returns-in-Including-clause-moves
+returns-in-Including-clause-moves g c = c.apply_included.ensures.moves
 
 pub returns-in-Including-clause-provider : goal.returns-in-Including-clause-provider
 returns-in-Including-clause-provider g c = c.apply_included.ensures.provider
 
-pub returns-in-Including-clause-moved : goal.returns-in-Including-clause-moved
-returns-in-Including-clause-moved g c = c.apply_included.ensures.moved
-
 pub returns-in-Including-clause-causes : goal.returns-in-Including-clause-causes
 returns-in-Including-clause-causes g c = c.apply_included.ensures.causes
-
-pub returns-in-Including-clause-fit : goal.returns-in-Including-clause-fit
-returns-in-Including-clause-fit g c = c.apply_included.ensures.fit
 
 pub returns-in-Following-clause-ready : goal.returns-in-Following-clause-ready
 returns-in-Following-clause-ready g c = c.follow_block.ensures.ready
@@ -147,14 +135,8 @@ returns-in-Following-clause-ready g c = c.follow_block.ensures.ready
 pub returns-in-Following-clause-including : goal.returns-in-Following-clause-including
 returns-in-Following-clause-including g c = c.follow_block.ensures.including
 
-pub returns-in-Following-clause-word : goal.returns-in-Following-clause-word
-returns-in-Following-clause-word g c = c.follow_block.ensures.word
-
-pub returns-in-Following-clause-moved : goal.returns-in-Following-clause-moved
-returns-in-Following-clause-moved g c = c.follow_block.ensures.moved
+pub returns-in-Following-clause-moves : goal.returns-in-Following-clause-moves
+returns-in-Following-clause-moves g c = c.follow_block.ensures.moves
 
 pub returns-in-Following-clause-causes : goal.returns-in-Following-clause-causes
 returns-in-Following-clause-causes g c = c.follow_block.ensures.causes
-
-pub returns-in-Following-clause-fit : goal.returns-in-Following-clause-fit
-returns-in-Following-clause-fit g c = c.follow_block.ensures.fit

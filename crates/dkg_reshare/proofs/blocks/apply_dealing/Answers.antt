@@ -65,14 +65,12 @@ returns-in_err-begin_inclusion-clause-causes g c =
     let p = err_from_is_err_and c.from_residual-in_err-begin_inclusion.result c.from_residual-in_err-begin_inclusion.ensures.1 in
     rw (p.1, p.2) (rw c.in_err-begin_inclusion.ensures.memory tt)
 
-pub returns-in_err-begin_inclusion-clause-word : goal.returns-in_err-begin_inclusion-clause-word
-returns-in_err-begin_inclusion-clause-word g c = ap (λ (l : Life g.row.Dir.Denot). l.word) c.begin_inclusion.ensures.rest ∙ ap (λ (l : Life g.row.Dir.Denot). l.word) c.deal.ensures.rest
-
-pub returns-in_err-begin_inclusion-clause-moved : goal.returns-in_err-begin_inclusion-clause-moved
-returns-in_err-begin_inclusion-clause-moved g c = c.deal.ensures.moved
-
-pub returns-in_err-begin_inclusion-clause-fit : goal.returns-in_err-begin_inclusion-clause-fit
-returns-in_err-begin_inclusion-clause-fit g c = c.deal.ensures.fit
+pub returns-in_err-begin_inclusion-clause-moves : goal.returns-in_err-begin_inclusion-clause-moves
+returns-in_err-begin_inclusion-clause-moves g c = record {
+  word = ap (λ (l : Life g.row.Dir.Denot). l.word) c.begin_inclusion.ensures.rest ∙ ap (λ (l : Life g.row.Dir.Denot). l.word) c.deal.ensures.rest;
+  moved = c.deal.ensures.moved;
+  fit = c.deal.ensures.fit;
+}
 
 pub returns-in_err-begin_inclusion-clause-provider : goal.returns-in_err-begin_inclusion-clause-provider
 returns-in_err-begin_inclusion-clause-provider g c = λ provided. (λ epoch. refl, λ epoch peers. refl)
@@ -124,18 +122,16 @@ returns-then-ends_dealing-clause-including g c = c.advance.ensures.including
 pub returns-then-ends_dealing-clause-provider : goal.returns-then-ends_dealing-clause-provider
 returns-then-ends_dealing-clause-provider g c = c.advance.ensures.stays.provider
 
-pub returns-then-ends_dealing-clause-moved : goal.returns-then-ends_dealing-clause-moved
-returns-then-ends_dealing-clause-moved g c = moved_then g.D.Disk.tells g.D.Disk.made g.X.SecretStore.made g.D.Disk.faults g.X.SecretStore.faults g.met.D.Disk.made_more g.met.X.SecretStore.made_more _ _ _ c.deal.ensures.moved c.advance.ensures.moved
+pub returns-then-ends_dealing-clause-moves : goal.returns-then-ends_dealing-clause-moves
+returns-then-ends_dealing-clause-moves g c = record {
+  word = ap (λ (l : Life g.row.Dir.Denot). l.word) c.advance.ensures.stays.same ∙ ap (λ (l : Life g.row.Dir.Denot). l.word) c.begin_inclusion.ensures.rest ∙ ap (λ (l : Life g.row.Dir.Denot). l.word) c.deal.ensures.rest;
+  moved = moved_then g.D.Disk.tells g.D.Disk.made g.X.SecretStore.made g.D.Disk.faults g.X.SecretStore.faults g.met.D.Disk.made_more g.met.X.SecretStore.made_more _ _ _ c.deal.ensures.moved c.advance.ensures.moved;
+  fit = λ told fit. rw c.advance.ensures.stays.disk (c.deal.ensures.fit told fit);
+}
 
 pub returns-then-ends_dealing-clause-causes : goal.returns-then-ends_dealing-clause-causes
 returns-then-ends_dealing-clause-causes g c =
     blamed_behind g.D.Disk.tells g.D.Disk.made g.X.SecretStore.made g.D.Disk.faults g.X.SecretStore.faults _ _ _ c.deal.ensures.moved c.advance.ensures.moved c.advance.result c.advance.ensures.causes
-
-pub returns-then-ends_dealing-clause-word : goal.returns-then-ends_dealing-clause-word
-returns-then-ends_dealing-clause-word g c = ap (λ (l : Life g.row.Dir.Denot). l.word) c.advance.ensures.stays.same ∙ ap (λ (l : Life g.row.Dir.Denot). l.word) c.begin_inclusion.ensures.rest ∙ ap (λ (l : Life g.row.Dir.Denot). l.word) c.deal.ensures.rest
-
-pub returns-then-ends_dealing-clause-fit : goal.returns-then-ends_dealing-clause-fit
-returns-then-ends_dealing-clause-fit g c = λ told fit. rw c.advance.ensures.stays.disk (c.deal.ensures.fit told fit)
 
 -- IT GOES ON
 
@@ -173,8 +169,12 @@ returns-clause-ready g c =
     (c.requires.next ∙ sym (ap (λ (l : Life g.row.Dir.Denot). l.epoch) c.deal.ensures.rest)) (subst (λ (m : ℕ). c.args.block.now.height < m) (sym (ap (λ (l : Life g.row.Dir.Denot). l.midpoint) c.deal.ensures.rest)) c.requires.early)
     c.tip_of.result c.tip_of.ensures (ap (λ (h : ℕ). h + 1 == c.deal.new.life.midpoint) (sym c.height.ensures) ∙ sym c.ends_dealing.ensures ∙ c.if-ends_dealing.false)
 
-pub returns-clause-word : goal.returns-clause-word
-returns-clause-word g c = ap (λ (l : Life g.row.Dir.Denot). l.word) c.deal.ensures.rest
+pub returns-clause-moves : goal.returns-clause-moves
+returns-clause-moves g c = record {
+  word = ap (λ (l : Life g.row.Dir.Denot). l.word) c.deal.ensures.rest;
+  moved = c.deal.ensures.moved;
+  fit = c.deal.ensures.fit;
+}
 
 pub deal-requires-clause-dealing : goal.deal-requires-clause-dealing
 deal-requires-clause-dealing g c = c.requires.dealing
@@ -185,17 +185,9 @@ deal-requires-clause-me g c = c.requires.me
 pub deal-requires-clause-ready : goal.deal-requires-clause-ready
 deal-requires-clause-ready g c = c.requires.ready
 
-pub returns-in_err-deal-clause-word : goal.returns-in_err-deal-clause-word
-returns-in_err-deal-clause-word g c = ap (λ (l : Life g.row.Dir.Denot). l.word) c.deal.ensures.rest
-
-pub returns-in_err-deal-clause-moved : goal.returns-in_err-deal-clause-moved
-returns-in_err-deal-clause-moved g c = c.deal.ensures.moved
-
-pub returns-in_err-deal-clause-fit : goal.returns-in_err-deal-clause-fit
-returns-in_err-deal-clause-fit g c = c.deal.ensures.fit
-
-pub returns-clause-moved : goal.returns-clause-moved
-returns-clause-moved g c = c.deal.ensures.moved
-
-pub returns-clause-fit : goal.returns-clause-fit
-returns-clause-fit g c = c.deal.ensures.fit
+pub returns-in_err-deal-clause-moves : goal.returns-in_err-deal-clause-moves
+returns-in_err-deal-clause-moves g c = record {
+  word = ap (λ (l : Life g.row.Dir.Denot). l.word) c.deal.ensures.rest;
+  moved = c.deal.ensures.moved;
+  fit = c.deal.ensures.fit;
+}

@@ -33,14 +33,12 @@ returns-in_err-put_back-clause-tells g c = λ provided fixed beside of reads by 
     let p = err_from_is_err_and c.from_residual.result c.from_residual.ensures.1 in
     rw (p.1, p.2) (none_with beside _ _ _ beside.inclusion tt tt (said_none _ Wanting tt refl))
 
-pub returns-in_err-put_back-clause-moved : goal.returns-in_err-put_back-clause-moved
-returns-in_err-put_back-clause-moved g c = moved_none g.D.Disk.tells g.D.Disk.made g.X.SecretStore.made g.D.Disk.faults g.X.SecretStore.faults g.met.D.Disk.made_none g.met.X.SecretStore.made_none c.args.devices.now
-
-pub returns-in_err-put_back-clause-word : goal.returns-in_err-put_back-clause-word
-returns-in_err-put_back-clause-word g c = refl
-
-pub returns-in_err-put_back-clause-fit : goal.returns-in_err-put_back-clause-fit
-returns-in_err-put_back-clause-fit g c = λ told fit. fit
+pub returns-in_err-put_back-clause-moves : goal.returns-in_err-put_back-clause-moves
+returns-in_err-put_back-clause-moves g c = record {
+  word = refl;
+  moved = moved_none g.D.Disk.tells g.D.Disk.made g.X.SecretStore.made g.D.Disk.faults g.X.SecretStore.faults g.met.D.Disk.made_none g.met.X.SecretStore.made_none c.args.devices.now;
+  fit = λ told fit. fit;
+}
 
 pub returns-in_err-put_back-clause-provider : goal.returns-in_err-put_back-clause-provider
 returns-in_err-put_back-clause-provider g c = λ provided. (λ epoch. refl, λ epoch peers. refl)
@@ -65,20 +63,14 @@ returns-then-eq-clause-ready g c = c.take_final_block.ensures.ready
 pub returns-then-eq-clause-including : goal.returns-then-eq-clause-including
 returns-then-eq-clause-including g c = c.take_final_block.ensures.including
 
-pub returns-then-eq-clause-word : goal.returns-then-eq-clause-word
-returns-then-eq-clause-word g c = c.take_final_block.ensures.word
+pub returns-then-eq-clause-moves : goal.returns-then-eq-clause-moves
+returns-then-eq-clause-moves g c = c.take_final_block.ensures.moves
 
 pub returns-then-eq-clause-provider : goal.returns-then-eq-clause-provider
 returns-then-eq-clause-provider g c = c.take_final_block.ensures.provider
 
-pub returns-then-eq-clause-moved : goal.returns-then-eq-clause-moved
-returns-then-eq-clause-moved g c = c.take_final_block.ensures.moved
-
 pub returns-then-eq-clause-causes : goal.returns-then-eq-clause-causes
 returns-then-eq-clause-causes g c = c.take_final_block.ensures.causes
-
-pub returns-then-eq-clause-fit : goal.returns-then-eq-clause-fit
-returns-then-eq-clause-fit g c = c.take_final_block.ensures.fit
 
 pub take_final_block-requires-clause-me : goal.take_final_block-requires-clause-me
 take_final_block-requires-clause-me g c = c.requires.me
@@ -153,14 +145,8 @@ returns-clause-ready g c = c.include.ensures.ready
 pub returns-clause-including : goal.returns-clause-including
 returns-clause-including g c = c.include.ensures.including
 
-pub returns-clause-word : goal.returns-clause-word
-returns-clause-word g c = c.include.ensures.word
+pub returns-clause-moves : goal.returns-clause-moves
+returns-clause-moves g c = c.include.ensures.moves
 
 pub returns-clause-provider : goal.returns-clause-provider
 returns-clause-provider g c = c.include.ensures.provider
-
-pub returns-clause-moved : goal.returns-clause-moved
-returns-clause-moved g c = c.include.ensures.moved
-
-pub returns-clause-fit : goal.returns-clause-fit
-returns-clause-fit g c = c.include.ensures.fit

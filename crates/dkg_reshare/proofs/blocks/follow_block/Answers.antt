@@ -41,8 +41,12 @@ pub returns-then-ne-clause-ready : goal.returns-then-ne-clause-ready
 returns-then-ne-clause-ready g c =
     ready_following g.D.Disk.tells g.D.Disk.files g.D.Disk.image g.C.Ceremony.ack_of g.C.Ceremony.deal_of g.C.Ceremony.check_ack_of c.args.terms.now c.args.devices.now c.args.life.now c.requires.following c.requires.ready 0 c.tip_of.result
 
-pub returns-then-ne-clause-moved : goal.returns-then-ne-clause-moved
-returns-then-ne-clause-moved g c = moved_none g.D.Disk.tells g.D.Disk.made g.X.SecretStore.made g.D.Disk.faults g.X.SecretStore.faults g.met.D.Disk.made_none g.met.X.SecretStore.made_none c.args.devices.now
+pub returns-then-ne-clause-moves : goal.returns-then-ne-clause-moves
+returns-then-ne-clause-moves g c = record {
+  word = refl;
+  moved = moved_none g.D.Disk.tells g.D.Disk.made g.X.SecretStore.made g.D.Disk.faults g.X.SecretStore.faults g.met.D.Disk.made_none g.met.X.SecretStore.made_none c.args.devices.now;
+  fit = λ told fit. fit;
+}
 
 pub carried_info-requires : goal.carried_info-requires
 carried_info-requires g c = record { below = epoch_below (non_zero_u64_get c.args.terms.now.blocks_per_epoch) c.args.block.now.height c.args.bounds.now c.args.terms.now.long c.requires.bounds }
@@ -59,8 +63,12 @@ returns-in_err-info-clause-tells g c = λ fixed beside of reads by seen.
     let is : (c.args.block.now.height == c.args.bounds.now.last) ≡ true = grind (arith, nat_tests, common_steps) in
     rw (p.1, p.2) (none_with beside _ _ _ beside.inclusion tt tt (speaks_tells (blocks.follows_at fixed c.args.block.now (live_of beside c.args.fence.now c.args.life.now)) (by_stop (Faulted c.in_err-info.field-0.0)) (not_carried fixed c.args.block.now (live_of beside c.args.fence.now c.args.life.now) (non_zero_u64_get c.args.terms.now.blocks_per_epoch) of.of.blocks of.of.reshare c.args.bounds.now c.requires.bounds is c.in_err-info.field-0.0 c.in_err-info.ensures.err c.args.out.now.entries)))
 
-pub returns-in_err-info-clause-moved : goal.returns-in_err-info-clause-moved
-returns-in_err-info-clause-moved g c = moved_none g.D.Disk.tells g.D.Disk.made g.X.SecretStore.made g.D.Disk.faults g.X.SecretStore.faults g.met.D.Disk.made_none g.met.X.SecretStore.made_none c.args.devices.now
+pub returns-in_err-info-clause-moves : goal.returns-in_err-info-clause-moves
+returns-in_err-info-clause-moves g c = record {
+  word = refl;
+  moved = moved_none g.D.Disk.tells g.D.Disk.made g.X.SecretStore.made g.D.Disk.faults g.X.SecretStore.faults g.met.D.Disk.made_none g.met.X.SecretStore.made_none c.args.devices.now;
+  fit = λ told fit. fit;
+}
 
 pub returns-in_err-info-clause-causes : goal.returns-in_err-info-clause-causes
 returns-in_err-info-clause-causes g c =
@@ -91,32 +99,14 @@ follow_into-requires-clause-me g c = c.requires.me
 pub follow_into-requires-clause-ready : goal.follow_into-requires-clause-ready
 follow_into-requires-clause-ready g c = c.requires.ready
 
-pub returns-then-ne-clause-word : goal.returns-then-ne-clause-word
-returns-then-ne-clause-word g c = refl
-
-pub returns-then-ne-clause-fit : goal.returns-then-ne-clause-fit
-returns-then-ne-clause-fit g c = λ told fit. fit
-
-pub returns-in_err-info-clause-word : goal.returns-in_err-info-clause-word
-returns-in_err-info-clause-word g c = refl
-
-pub returns-in_err-info-clause-fit : goal.returns-in_err-info-clause-fit
-returns-in_err-info-clause-fit g c = λ told fit. fit
-
 pub returns-clause-ready : goal.returns-clause-ready
 returns-clause-ready g c = c.follow_into.ensures.ready
 
-pub returns-clause-word : goal.returns-clause-word
-returns-clause-word g c = c.follow_into.ensures.word
-
-pub returns-clause-moved : goal.returns-clause-moved
-returns-clause-moved g c = c.follow_into.ensures.moved
+pub returns-clause-moves : goal.returns-clause-moves
+returns-clause-moves g c = c.follow_into.ensures.moves
 
 pub returns-clause-causes : goal.returns-clause-causes
 returns-clause-causes g c = c.follow_into.ensures.causes
-
-pub returns-clause-fit : goal.returns-clause-fit
-returns-clause-fit g c = c.follow_into.ensures.fit
 
 pub returns-then-ne-clause-including : goal.returns-then-ne-clause-including
 returns-then-ne-clause-including g c =

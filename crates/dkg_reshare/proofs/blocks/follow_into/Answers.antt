@@ -31,8 +31,12 @@ returns-in_err-secrets-clause-causes g c =
     let p = err_from_is_err_and c.from_residual.result c.from_residual.ensures.1 in
     rw (p.1, p.2) (caused_around g.D.Disk.tells (λ x. absurd x) (λ x. x) (λ x. x) c.in_err-secrets.field-0.0 c.in_err-secrets.ensures.causes.1)
 
-pub returns-in_err-secrets-clause-fit : goal.returns-in_err-secrets-clause-fit
-returns-in_err-secrets-clause-fit g c = λ told fit. rw c.secrets_of.ensures.disk fit
+pub returns-in_err-secrets-clause-moves : goal.returns-in_err-secrets-clause-moves
+returns-in_err-secrets-clause-moves g c = record {
+  word = ap (λ (l : Life g.row.Dir.Denot). l.word) c.secrets_of.ensures.life;
+  moved = c.secrets_of.ensures.moved;
+  fit = λ told fit. rw c.secrets_of.ensures.disk fit;
+}
 
 pub returns-in_err-commit_and_register-clause-acts : goal.returns-in_err-commit_and_register-clause-acts
 returns-in_err-commit_and_register-clause-acts g c = λ disk secrets fixed beside fresh of reads by.
@@ -50,22 +54,20 @@ returns-in_err-commit_and_register-clause-tells g c = λ fixed beside fresh of r
     (secrets_told fixed c.args.info.now c.in_ok-secrets.secrets.share c.in_ok-secrets.secrets.seed c.in_ok-secrets.ensures.read.0 reads (c.in_ok-secrets.ensures.read.1 fixed of.of.me of.word_is by.shares) c.args.out.now.entries)
     c.in_err-commit_and_register.field-0.0 (c.in_err-commit_and_register.ensures.tells c.in_ok-secrets.secrets.seed fixed beside of.of.me))))
 
-pub returns-in_err-commit_and_register-clause-moved : goal.returns-in_err-commit_and_register-clause-moved
-returns-in_err-commit_and_register-clause-moved g c =
-    moved_then g.D.Disk.tells g.D.Disk.made g.X.SecretStore.made g.D.Disk.faults g.X.SecretStore.faults g.met.D.Disk.made_more g.met.X.SecretStore.made_more _ _ _ c.secrets_of.ensures.moved c.commit_and_register.ensures.moved
+pub returns-in_err-commit_and_register-clause-moves : goal.returns-in_err-commit_and_register-clause-moves
+returns-in_err-commit_and_register-clause-moves g c = record {
+  word =
+      ap (λ (l : Life g.row.Dir.Denot). l.word) c.commit_and_register.ensures.rest ∙ ap (λ (l : Life g.row.Dir.Denot). l.word) c.secrets_of.ensures.life;
+  moved =
+      moved_then g.D.Disk.tells g.D.Disk.made g.X.SecretStore.made g.D.Disk.faults g.X.SecretStore.faults g.met.D.Disk.made_more g.met.X.SecretStore.made_more _ _ _ c.secrets_of.ensures.moved c.commit_and_register.ensures.moved;
+  fit = λ told fit. rw (c.commit_and_register.ensures.disk, c.secrets_of.ensures.disk) fit;
+}
 
 pub returns-in_err-commit_and_register-clause-causes : goal.returns-in_err-commit_and_register-clause-causes
 returns-in_err-commit_and_register-clause-causes g c =
     let p = err_from_is_err_and c.from_residual-in_err-commit_and_register.result c.from_residual-in_err-commit_and_register.ensures.1 in
     rw (p.1, p.2) (caused_around g.D.Disk.tells (λ x. absurd x) (λ x. rose_around _ _ _ _ c.secrets_of.ensures.moved.later_secrets c.commit_and_register.ensures.moved.later_secrets (omega arith) x)
     (λ x. reached_behind _ _ _ c.secrets_of.ensures.moved.counts x) c.in_err-commit_and_register.field-0.0 c.in_err-commit_and_register.ensures.causes.1)
-
-pub returns-in_err-commit_and_register-clause-fit : goal.returns-in_err-commit_and_register-clause-fit
-returns-in_err-commit_and_register-clause-fit g c = λ told fit. rw (c.commit_and_register.ensures.disk, c.secrets_of.ensures.disk) fit
-
-pub returns-in_err-commit_and_register-clause-word : goal.returns-in_err-commit_and_register-clause-word
-returns-in_err-commit_and_register-clause-word g c =
-    ap (λ (l : Life g.row.Dir.Denot). l.word) c.commit_and_register.ensures.rest ∙ ap (λ (l : Life g.row.Dir.Denot). l.word) c.secrets_of.ensures.life
 
 pub set_up_committed-requires-clause-open : goal.set_up_committed-requires-clause-open
 set_up_committed-requires-clause-open g c = λ told.
@@ -107,10 +109,15 @@ returns-clause-tells g c = λ fixed beside fresh of reads by.
     (c.set_up_committed.ensures.tells.1 fixed (with_scheme_of c.args.terms.now.me c.args.info.now share beside) fresh (in_word c.args.terms.now c.args.life.now.word c.commit_and_register.new.life.word fixed word of)
     (can_read fixed c.set_up_committed.ensures.tells.0 reads) by)
 
-pub returns-clause-moved : goal.returns-clause-moved
-returns-clause-moved g c =
-    moved_then g.D.Disk.tells g.D.Disk.made g.X.SecretStore.made g.D.Disk.faults g.X.SecretStore.faults g.met.D.Disk.made_more g.met.X.SecretStore.made_more _ _ _
-    (moved_then g.D.Disk.tells g.D.Disk.made g.X.SecretStore.made g.D.Disk.faults g.X.SecretStore.faults g.met.D.Disk.made_more g.met.X.SecretStore.made_more _ _ _ c.secrets_of.ensures.moved c.commit_and_register.ensures.moved) c.set_up_committed.ensures.moved
+pub returns-clause-moves : goal.returns-clause-moves
+returns-clause-moves g c = record {
+  word = c.set_up_committed.ensures.word ∙ ap (λ (l : Life g.row.Dir.Denot). l.word) c.commit_and_register.ensures.rest ∙ ap (λ (l : Life g.row.Dir.Denot). l.word) c.secrets_of.ensures.life;
+  moved =
+      moved_then g.D.Disk.tells g.D.Disk.made g.X.SecretStore.made g.D.Disk.faults g.X.SecretStore.faults g.met.D.Disk.made_more g.met.X.SecretStore.made_more _ _ _
+      (moved_then g.D.Disk.tells g.D.Disk.made g.X.SecretStore.made g.D.Disk.faults g.X.SecretStore.faults g.met.D.Disk.made_more g.met.X.SecretStore.made_more _ _ _ c.secrets_of.ensures.moved c.commit_and_register.ensures.moved) c.set_up_committed.ensures.moved;
+  fit = λ told fit.
+      c.set_up_committed.ensures.fit told (rw (c.commit_and_register.ensures.disk, c.secrets_of.ensures.disk) fit);
+}
 
 pub returns-clause-causes : goal.returns-clause-causes
 returns-clause-causes g c =
@@ -118,13 +125,6 @@ returns-clause-causes g c =
     result_caused_by g.D.Disk.tells (λ x. rose_around _ _ _ _ before.later_disk c.set_up_committed.ensures.moved.later_disk (omega arith) x)
     (λ x. rose_around _ _ _ _ before.later_secrets c.set_up_committed.ensures.moved.later_secrets (omega arith) x)
     (λ x. reached_behind _ _ _ before.counts x) c.set_up_committed.result c.set_up_committed.ensures.causes
-
-pub returns-clause-fit : goal.returns-clause-fit
-returns-clause-fit g c = λ told fit.
-    c.set_up_committed.ensures.fit told (rw (c.commit_and_register.ensures.disk, c.secrets_of.ensures.disk) fit)
-
-pub returns-clause-word : goal.returns-clause-word
-returns-clause-word g c = c.set_up_committed.ensures.word ∙ ap (λ (l : Life g.row.Dir.Denot). l.word) c.commit_and_register.ensures.rest ∙ ap (λ (l : Life g.row.Dir.Denot). l.word) c.secrets_of.ensures.life
 
 pub returns-clause-ready : goal.returns-clause-ready
 returns-clause-ready g c = c.set_up_committed.ensures.ready
@@ -134,12 +134,6 @@ set_up_committed-requires-clause-me g c = c.requires.me
 
 pub set_up_committed-requires-clause-current : goal.set_up_committed-requires-clause-current
 set_up_committed-requires-clause-current g c = c.in_ok-commit_and_register.ensures.current
-
-pub returns-in_err-secrets-clause-moved : goal.returns-in_err-secrets-clause-moved
-returns-in_err-secrets-clause-moved g c = c.secrets_of.ensures.moved
-
-pub returns-in_err-secrets-clause-word : goal.returns-in_err-secrets-clause-word
-returns-in_err-secrets-clause-word g c = ap (λ (l : Life g.row.Dir.Denot). l.word) c.secrets_of.ensures.life
 
 pub returns-clause-current : goal.returns-clause-current
 returns-clause-current g c = c.set_up_committed.ensures.current

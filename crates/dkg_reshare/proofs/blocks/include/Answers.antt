@@ -42,14 +42,12 @@ returns-in_err-observe-clause-causes g c =
     let p = err_from_is_err_and c.from_residual.result c.from_residual.ensures.1 in
     rw (p.1, p.2) c.in_err-observe.ensures.causes
 
-pub returns-in_err-observe-clause-word : goal.returns-in_err-observe-clause-word
-returns-in_err-observe-clause-word g c = ap (λ (l : Life g.row.Dir.Denot). l.word) c.observe.ensures.rest
-
-pub returns-in_err-observe-clause-moved : goal.returns-in_err-observe-clause-moved
-returns-in_err-observe-clause-moved g c = c.observe.ensures.moved
-
-pub returns-in_err-observe-clause-fit : goal.returns-in_err-observe-clause-fit
-returns-in_err-observe-clause-fit g c = λ told fit. c.observe.ensures.fit told (non_zero_u32_get c.args.terms.now.limit) c.requires.within fit
+pub returns-in_err-observe-clause-moves : goal.returns-in_err-observe-clause-moves
+returns-in_err-observe-clause-moves g c = record {
+  word = ap (λ (l : Life g.row.Dir.Denot). l.word) c.observe.ensures.rest;
+  moved = c.observe.ensures.moved;
+  fit = λ told fit. c.observe.ensures.fit told (non_zero_u32_get c.args.terms.now.limit) c.requires.within fit;
+}
 
 pub returns-in_err-observe-clause-provider : goal.returns-in_err-observe-clause-provider
 returns-in_err-observe-clause-provider g c = λ provided. (λ epoch. refl, λ epoch peers. refl)
@@ -98,17 +96,15 @@ returns-clause-ready g c = c.advance.ensures.ready
 pub returns-clause-including : goal.returns-clause-including
 returns-clause-including g c = c.advance.ensures.including
 
-pub returns-clause-word : goal.returns-clause-word
-returns-clause-word g c = ap (λ (l : Life g.row.Dir.Denot). l.word) c.advance.ensures.stays.same ∙ ap (λ (l : Life g.row.Dir.Denot). l.word) c.observe.ensures.rest
+pub returns-clause-moves : goal.returns-clause-moves
+returns-clause-moves g c = record {
+  word = ap (λ (l : Life g.row.Dir.Denot). l.word) c.advance.ensures.stays.same ∙ ap (λ (l : Life g.row.Dir.Denot). l.word) c.observe.ensures.rest;
+  moved = moved_then g.D.Disk.tells g.D.Disk.made g.X.SecretStore.made g.D.Disk.faults g.X.SecretStore.faults g.met.D.Disk.made_more g.met.X.SecretStore.made_more _ _ _ c.observe.ensures.moved c.advance.ensures.moved;
+  fit = λ told fit. rw c.advance.ensures.stays.disk (c.observe.ensures.fit told (non_zero_u32_get c.args.terms.now.limit) c.requires.within fit);
+}
 
 pub returns-clause-provider : goal.returns-clause-provider
 returns-clause-provider g c = c.advance.ensures.stays.provider
 
-pub returns-clause-moved : goal.returns-clause-moved
-returns-clause-moved g c = moved_then g.D.Disk.tells g.D.Disk.made g.X.SecretStore.made g.D.Disk.faults g.X.SecretStore.faults g.met.D.Disk.made_more g.met.X.SecretStore.made_more _ _ _ c.observe.ensures.moved c.advance.ensures.moved
-
 pub returns-clause-causes : goal.returns-clause-causes
 returns-clause-causes g c = blamed_behind g.D.Disk.tells g.D.Disk.made g.X.SecretStore.made g.D.Disk.faults g.X.SecretStore.faults _ _ _ c.observe.ensures.moved c.advance.ensures.moved c.advance.result c.advance.ensures.causes
-
-pub returns-clause-fit : goal.returns-clause-fit
-returns-clause-fit g c = λ told fit. rw c.advance.ensures.stays.disk (c.observe.ensures.fit told (non_zero_u32_get c.args.terms.now.limit) c.requires.within fit)

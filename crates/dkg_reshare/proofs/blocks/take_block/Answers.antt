@@ -47,8 +47,12 @@ returns-in_default-clause-tells g c = λ provided fixed beside of reads by provi
     none_with beside _ _ _ beside.inclusion tt tt (speaks_tells (blocks.delivers fixed c.args.block.now (live_of beside c.args.fence.now c.args.life.now)) (by_stop (Faulted HeightRange)) (no_range fixed c.args.block.now beside c.args.fence.now c.args.life.now c.new.result (of.of.blocks ∙ sym c.new.ensures) c.height-height.result (bounds_at c.new.result c.height-height.result)
     c.height-height.ensures c.in_default.ensures.value c.args.out.now.entries))
 
-pub returns-in_default-clause-moved : goal.returns-in_default-clause-moved
-returns-in_default-clause-moved g c = moved_none g.D.Disk.tells g.D.Disk.made g.X.SecretStore.made g.D.Disk.faults g.X.SecretStore.faults g.met.D.Disk.made_none g.met.X.SecretStore.made_none c.args.devices.now
+pub returns-in_default-clause-moves : goal.returns-in_default-clause-moves
+returns-in_default-clause-moves g c = record {
+  word = refl;
+  moved = moved_none g.D.Disk.tells g.D.Disk.made g.X.SecretStore.made g.D.Disk.faults g.X.SecretStore.faults g.met.D.Disk.made_none g.met.X.SecretStore.made_none c.args.devices.now;
+  fit = λ told fit. fit;
+}
 
 pub returns-then-not-looks_at-clause-acts : goal.returns-then-not-looks_at-clause-acts
 returns-then-not-looks_at-clause-acts g c = λ disk secrets provided fixed beside of reads by provides seen.
@@ -66,8 +70,12 @@ returns-then-not-looks_at-clause-tells g c = λ provided fixed beside of reads b
     none_with beside _ _ _ beside.inclusion tt tt (speaks_tells (blocks.delivers fixed c.args.block.now (live_of beside c.args.fence.now c.args.life.now)) (by_stop (Faulted (OutOfWindow c.height-height.result))) (no_window fixed c.args.block.now beside c.args.fence.now c.args.life.now n of.of.blocks c.height-height.result c.in-Some.bounds
     c.height-height.ensures (lies_at n c.height-height.result c.in-Some.bounds value) (sym c.looks_at.ensures ∙ out_of) c.args.out.now.entries))
 
-pub returns-then-not-looks_at-clause-moved : goal.returns-then-not-looks_at-clause-moved
-returns-then-not-looks_at-clause-moved g c = moved_none g.D.Disk.tells g.D.Disk.made g.X.SecretStore.made g.D.Disk.faults g.X.SecretStore.faults g.met.D.Disk.made_none g.met.X.SecretStore.made_none c.args.devices.now
+pub returns-then-not-looks_at-clause-moves : goal.returns-then-not-looks_at-clause-moves
+returns-then-not-looks_at-clause-moves g c = record {
+  word = refl;
+  moved = moved_none g.D.Disk.tells g.D.Disk.made g.X.SecretStore.made g.D.Disk.faults g.X.SecretStore.faults g.met.D.Disk.made_none g.met.X.SecretStore.made_none c.args.devices.now;
+  fit = λ told fit. fit;
+}
 
 pub returns-in_err-judge-clause-acts : goal.returns-in_err-judge-clause-acts
 returns-in_err-judge-clause-acts g c = λ disk secrets provided fixed beside of reads by provides seen.
@@ -87,8 +95,12 @@ returns-in_err-judge-clause-tells g c = λ provided fixed beside of reads by pro
     rw (p.1, p.2) (none_with beside _ _ _ beside.inclusion tt tt (speaks_tells (blocks.delivers fixed c.args.block.now (live_of beside c.args.fence.now c.args.life.now)) (by_stop (Faulted c.in_err-judge.field-0.0)) (judged_off fixed c.args.block.now beside c.args.fence.now c.args.life.now n of.of.blocks c.height-height.result c.in-Some.bounds
     c.height-height.ensures (lies_at n c.height-height.result c.in-Some.bounds value) (sym c.looks_at.ensures ∙ yes) c.in_err-judge.field-0.0 (sym c.in_err-judge.ensures) c.args.out.now.entries)))
 
-pub returns-in_err-judge-clause-moved : goal.returns-in_err-judge-clause-moved
-returns-in_err-judge-clause-moved g c = moved_none g.D.Disk.tells g.D.Disk.made g.X.SecretStore.made g.D.Disk.faults g.X.SecretStore.faults g.met.D.Disk.made_none g.met.X.SecretStore.made_none c.args.devices.now
+pub returns-in_err-judge-clause-moves : goal.returns-in_err-judge-clause-moves
+returns-in_err-judge-clause-moves g c = record {
+  word = refl;
+  moved = moved_none g.D.Disk.tells g.D.Disk.made g.X.SecretStore.made g.D.Disk.faults g.X.SecretStore.faults g.met.D.Disk.made_none g.met.X.SecretStore.made_none c.args.devices.now;
+  fit = λ told fit. fit;
+}
 
 pub returns-in_err-judge-clause-causes : goal.returns-in_err-judge-clause-causes
 returns-in_err-judge-clause-causes g c =
@@ -115,8 +127,12 @@ returns-in-Again-clause-tells g c = λ provided fixed beside of reads by provide
     c.in-Some.bounds c.height-height.ensures (lies_at n c.height-height.result c.in-Some.bounds value) (sym c.looks_at.ensures ∙ yes)
     (sym c.in_ok-judge.ensures ∙ ap (λ (x : Judged). Ok x) c.in-Again.is) c.args.out.now.entries))
 
-pub returns-in-Again-clause-moved : goal.returns-in-Again-clause-moved
-returns-in-Again-clause-moved g c = moved_none g.D.Disk.tells g.D.Disk.made g.X.SecretStore.made g.D.Disk.faults g.X.SecretStore.faults g.met.D.Disk.made_none g.met.X.SecretStore.made_none c.args.devices.now
+pub returns-in-Again-clause-moves : goal.returns-in-Again-clause-moves
+returns-in-Again-clause-moves g c = record {
+  word = refl;
+  moved = moved_none g.D.Disk.tells g.D.Disk.made g.X.SecretStore.made g.D.Disk.faults g.X.SecretStore.faults g.met.D.Disk.made_none g.met.X.SecretStore.made_none c.args.devices.now;
+  fit = λ told fit. fit;
+}
 
 pub returns-in-New-clause-acts : goal.returns-in-New-clause-acts
 returns-in-New-clause-acts g c = λ disk secrets provided fixed beside of reads by provides seen.
@@ -145,41 +161,11 @@ apply-requires-clause-ready g c = c.requires.ready
 pub returns-in-New-clause-ready : goal.returns-in-New-clause-ready
 returns-in-New-clause-ready g c = c.apply.ensures.ready
 
-pub returns-in-New-clause-word : goal.returns-in-New-clause-word
-returns-in-New-clause-word g c = c.apply.ensures.word
-
-pub returns-in-New-clause-moved : goal.returns-in-New-clause-moved
-returns-in-New-clause-moved g c = c.apply.ensures.moved
+pub returns-in-New-clause-moves : goal.returns-in-New-clause-moves
+returns-in-New-clause-moves g c = c.apply.ensures.moves
 
 pub returns-in-New-clause-causes : goal.returns-in-New-clause-causes
 returns-in-New-clause-causes g c = c.apply.ensures.causes
-
-pub returns-in-New-clause-fit : goal.returns-in-New-clause-fit
-returns-in-New-clause-fit g c = c.apply.ensures.fit
-
-pub returns-in_default-clause-word : goal.returns-in_default-clause-word
-returns-in_default-clause-word g c = refl
-
-pub returns-in_default-clause-fit : goal.returns-in_default-clause-fit
-returns-in_default-clause-fit g c = λ told fit. fit
-
-pub returns-then-not-looks_at-clause-word : goal.returns-then-not-looks_at-clause-word
-returns-then-not-looks_at-clause-word g c = refl
-
-pub returns-then-not-looks_at-clause-fit : goal.returns-then-not-looks_at-clause-fit
-returns-then-not-looks_at-clause-fit g c = λ told fit. fit
-
-pub returns-in-Again-clause-word : goal.returns-in-Again-clause-word
-returns-in-Again-clause-word g c = refl
-
-pub returns-in-Again-clause-fit : goal.returns-in-Again-clause-fit
-returns-in-Again-clause-fit g c = λ told fit. fit
-
-pub returns-in_err-judge-clause-word : goal.returns-in_err-judge-clause-word
-returns-in_err-judge-clause-word g c = refl
-
-pub returns-in_err-judge-clause-fit : goal.returns-in_err-judge-clause-fit
-returns-in_err-judge-clause-fit g c = λ told fit. fit
 
 pub returns-in-Again-clause-ready : goal.returns-in-Again-clause-ready
 returns-in-Again-clause-ready g c = c.requires.ready

@@ -46,17 +46,15 @@ returns-in_err-artifact-clause-causes g c =
     let p = err_from_is_err_and c.from_residual.result c.from_residual.ensures.1 in
     rw (p.1, p.2) (caused_around g.D.Disk.tells (λ x. x) (λ x. x) (λ x. x) c.in_err-artifact.field-0.0 c.in_err-artifact.ensures.causes)
 
-pub returns-in_err-artifact-clause-word : goal.returns-in_err-artifact-clause-word
-returns-in_err-artifact-clause-word g c = ap (λ (l : Life g.row.Dir.Denot). l.word) c.derive.ensures.stays.same
+pub returns-in_err-artifact-clause-moves : goal.returns-in_err-artifact-clause-moves
+returns-in_err-artifact-clause-moves g c = record {
+  word = ap (λ (l : Life g.row.Dir.Denot). l.word) c.derive.ensures.stays.same;
+  moved = c.derive.ensures.moved;
+  fit = λ told fit. rw c.derive.ensures.stays.disk fit;
+}
 
 pub returns-in_err-artifact-clause-provider : goal.returns-in_err-artifact-clause-provider
 returns-in_err-artifact-clause-provider g c = c.derive.ensures.stays.provider
-
-pub returns-in_err-artifact-clause-moved : goal.returns-in_err-artifact-clause-moved
-returns-in_err-artifact-clause-moved g c = c.derive.ensures.moved
-
-pub returns-in_err-artifact-clause-fit : goal.returns-in_err-artifact-clause-fit
-returns-in_err-artifact-clause-fit g c = λ told fit. rw c.derive.ensures.stays.disk fit
 
 -- NO INFO
 
@@ -91,17 +89,15 @@ returns-in_err-info-clause-causes g c =
     rw (p.1, p.2) (caused_around g.D.Disk.tells (λ x. absurd x) (λ x. absurd x) (λ x. absurd x) (Faulted c.in_err-info.field-0.0)
     (carried_caused c.args.block.now c.args.bounds.now.epoch c.in_err-info.field-0.0 c.in_err-info.ensures.err))
 
-pub returns-in_err-info-clause-word : goal.returns-in_err-info-clause-word
-returns-in_err-info-clause-word g c = ap (λ (l : Life g.row.Dir.Denot). l.word) c.derive.ensures.stays.same
+pub returns-in_err-info-clause-moves : goal.returns-in_err-info-clause-moves
+returns-in_err-info-clause-moves g c = record {
+  word = ap (λ (l : Life g.row.Dir.Denot). l.word) c.derive.ensures.stays.same;
+  moved = c.derive.ensures.moved;
+  fit = λ told fit. rw c.derive.ensures.stays.disk fit;
+}
 
 pub returns-in_err-info-clause-provider : goal.returns-in_err-info-clause-provider
 returns-in_err-info-clause-provider g c = c.derive.ensures.stays.provider
-
-pub returns-in_err-info-clause-moved : goal.returns-in_err-info-clause-moved
-returns-in_err-info-clause-moved g c = c.derive.ensures.moved
-
-pub returns-in_err-info-clause-fit : goal.returns-in_err-info-clause-fit
-returns-in_err-info-clause-fit g c = λ told fit. rw c.derive.ensures.stays.disk fit
 
 -- INTO THE NEXT EPOCH
 
@@ -154,20 +150,18 @@ returns-clause-ready g c = c.take_over.ensures.ready
 pub returns-clause-including : goal.returns-clause-including
 returns-clause-including g c = c.take_over.ensures.including
 
-pub returns-clause-word : goal.returns-clause-word
-returns-clause-word g c = c.take_over.ensures.word ∙ ap (λ (l : Life g.row.Dir.Denot). l.word) c.derive.ensures.stays.same
+pub returns-clause-moves : goal.returns-clause-moves
+returns-clause-moves g c = record {
+  word = c.take_over.ensures.moves.word ∙ ap (λ (l : Life g.row.Dir.Denot). l.word) c.derive.ensures.stays.same;
+  moved = moved_then g.D.Disk.tells g.D.Disk.made g.X.SecretStore.made g.D.Disk.faults g.X.SecretStore.faults g.met.D.Disk.made_more g.met.X.SecretStore.made_more _ _ _ c.derive.ensures.moved c.take_over.ensures.moves.moved;
+  fit = λ told fit. c.take_over.ensures.moves.fit told (rw c.derive.ensures.stays.disk fit);
+}
 
 pub returns-clause-provider : goal.returns-clause-provider
 returns-clause-provider g c = c.derive.ensures.stays.provider
 
-pub returns-clause-moved : goal.returns-clause-moved
-returns-clause-moved g c = moved_then g.D.Disk.tells g.D.Disk.made g.X.SecretStore.made g.D.Disk.faults g.X.SecretStore.faults g.met.D.Disk.made_more g.met.X.SecretStore.made_more _ _ _ c.derive.ensures.moved c.take_over.ensures.moved
-
 pub returns-clause-causes : goal.returns-clause-causes
 returns-clause-causes g c =
-    result_caused_by g.D.Disk.tells (λ x. rose_around _ _ _ _ c.derive.ensures.moved.later_disk c.take_over.ensures.moved.later_disk (omega arith) x)
-    (λ x. rose_around _ _ _ _ c.derive.ensures.moved.later_secrets c.take_over.ensures.moved.later_secrets (omega arith) x)
+    result_caused_by g.D.Disk.tells (λ x. rose_around _ _ _ _ c.derive.ensures.moved.later_disk c.take_over.ensures.moves.moved.later_disk (omega arith) x)
+    (λ x. rose_around _ _ _ _ c.derive.ensures.moved.later_secrets c.take_over.ensures.moves.moved.later_secrets (omega arith) x)
     (λ x. reached_behind _ _ _ c.derive.ensures.moved.counts x) c.take_over.result c.take_over.ensures.causes
-
-pub returns-clause-fit : goal.returns-clause-fit
-returns-clause-fit g c = λ told fit. c.take_over.ensures.fit told (rw c.derive.ensures.stays.disk fit)

@@ -55,8 +55,12 @@ returns-in_err-answer_all-clause-tells g c = λ fixed beside of reads by seen.
     (early_told course (sets_up fixed c.args.block.now c.args.info.now of.of.reshare) stop (speaks_tells course (by_stop stop) speaks))) (λ i known. tt)
     (c.in_err-answer_all.ensures.speaks beside c.args.fence.now life seen))
 
-pub returns-in_err-answer_all-clause-moved : goal.returns-in_err-answer_all-clause-moved
-returns-in_err-answer_all-clause-moved g c = moved_none g.D.Disk.tells g.D.Disk.made g.X.SecretStore.made g.D.Disk.faults g.X.SecretStore.faults g.met.D.Disk.made_none g.met.X.SecretStore.made_none c.args.devices.now
+pub returns-in_err-answer_all-clause-moves : goal.returns-in_err-answer_all-clause-moves
+returns-in_err-answer_all-clause-moves g c = record {
+  word = refl;
+  moved = moved_none g.D.Disk.tells g.D.Disk.made g.X.SecretStore.made g.D.Disk.faults g.X.SecretStore.faults g.met.D.Disk.made_none g.met.X.SecretStore.made_none c.args.devices.now;
+  fit = λ told fit. fit;
+}
 
 pub returns-in_err-answer_all-clause-causes : goal.returns-in_err-answer_all-clause-causes
 returns-in_err-answer_all-clause-causes g c =
@@ -98,14 +102,12 @@ returns-clause-including g c =
 pub returns-clause-ready : goal.returns-clause-ready
 returns-clause-ready g c = c.set_up_committed.ensures.ready
 
-pub returns-clause-word : goal.returns-clause-word
-returns-clause-word g c = c.set_up_committed.ensures.word
-
-pub returns-clause-moved : goal.returns-clause-moved
-returns-clause-moved g c = c.set_up_committed.ensures.moved
+pub returns-clause-moves : goal.returns-clause-moves
+returns-clause-moves g c = record {
+  word = c.set_up_committed.ensures.word;
+  moved = c.set_up_committed.ensures.moved;
+  fit = c.set_up_committed.ensures.fit;
+}
 
 pub returns-clause-causes : goal.returns-clause-causes
 returns-clause-causes g c = c.set_up_committed.ensures.causes
-
-pub returns-clause-fit : goal.returns-clause-fit
-returns-clause-fit g c = c.set_up_committed.ensures.fit

@@ -33,8 +33,12 @@ returns-in_err-share-clause-tells g c = λ fixed beside of reads by spells seen.
     let course = blocks.takes_over fixed c.args.block.now c.args.info.now (blocks.share_for fixed c.args.info.now (artifact_of c.args.artifact.now)) (live_of beside c.args.fence.now c.args.life.now) in
     rw (p.1, p.2) (ends_beside beside tt tt (speaks_tells course (broken by_want) (want_speaks course c.args.out.now.entries)))
 
-pub returns-in_err-share-clause-moved : goal.returns-in_err-share-clause-moved
-returns-in_err-share-clause-moved g c = moved_none g.D.Disk.tells g.D.Disk.made g.X.SecretStore.made g.D.Disk.faults g.X.SecretStore.faults g.met.D.Disk.made_none g.met.X.SecretStore.made_none c.args.devices.now
+pub returns-in_err-share-clause-moves : goal.returns-in_err-share-clause-moves
+returns-in_err-share-clause-moves g c = record {
+  word = refl;
+  moved = moved_none g.D.Disk.tells g.D.Disk.made g.X.SecretStore.made g.D.Disk.faults g.X.SecretStore.faults g.met.D.Disk.made_none g.met.X.SecretStore.made_none c.args.devices.now;
+  fit = λ told fit. fit;
+}
 
 -- NO SEED
 
@@ -50,19 +54,17 @@ returns-in_err-secrets-clause-tells g c = λ fixed beside of reads by spells see
     rw (p.1, p.2) (ends_beside beside tt tt (seed_unread_told fixed c.args.block.now c.args.info.now of.of.reshare (blocks.share_for fixed c.args.info.now (artifact_of c.args.artifact.now)) (live_of beside c.args.fence.now c.args.life.now) c.in_err-secrets.field-0.0
     (c.in_err-secrets.ensures.unread fixed c.args.out.now.entries)))
 
-pub returns-in_err-secrets-clause-moved : goal.returns-in_err-secrets-clause-moved
-returns-in_err-secrets-clause-moved g c = c.secrets_with.ensures.moved
+pub returns-in_err-secrets-clause-moves : goal.returns-in_err-secrets-clause-moves
+returns-in_err-secrets-clause-moves g c = record {
+  word = ap (λ (l : Life g.row.Dir.Denot). l.word) c.secrets_with.ensures.life;
+  moved = c.secrets_with.ensures.moved;
+  fit = λ told fit. rw c.secrets_with.ensures.disk fit;
+}
 
 pub returns-in_err-secrets-clause-causes : goal.returns-in_err-secrets-clause-causes
 returns-in_err-secrets-clause-causes g c =
     let p = err_from_is_err_and c.from_residual-in_err-secrets.result c.from_residual-in_err-secrets.ensures.1 in
     rw (p.1, p.2) (caused_around g.D.Disk.tells (λ x. absurd x) (λ x. x) (λ x. x) c.in_err-secrets.field-0.0 c.in_err-secrets.ensures.causes.1)
-
-pub returns-in_err-secrets-clause-fit : goal.returns-in_err-secrets-clause-fit
-returns-in_err-secrets-clause-fit g c = λ told fit. rw c.secrets_with.ensures.disk fit
-
-pub returns-in_err-secrets-clause-word : goal.returns-in_err-secrets-clause-word
-returns-in_err-secrets-clause-word g c = ap (λ (l : Life g.row.Dir.Denot). l.word) c.secrets_with.ensures.life
 
 -- NOT COMMITTED, OR NOT REGISTERED
 
@@ -84,22 +86,20 @@ returns-in_err-commit_and_register-clause-tells g c = λ fixed beside of reads b
     (seed_told fixed c.args.info.now c.in_ok-secrets.secrets.seed c.in_ok-secrets.ensures.read.0 reads (c.in_ok-secrets.ensures.read.1 fixed of.word_is) c.args.out.now.entries)
     c.in_err-commit_and_register.field-0.0 (c.in_err-commit_and_register.ensures.tells c.in_ok-secrets.secrets.seed fixed beside of.of.me))))
 
-pub returns-in_err-commit_and_register-clause-moved : goal.returns-in_err-commit_and_register-clause-moved
-returns-in_err-commit_and_register-clause-moved g c =
-    moved_then g.D.Disk.tells g.D.Disk.made g.X.SecretStore.made g.D.Disk.faults g.X.SecretStore.faults g.met.D.Disk.made_more g.met.X.SecretStore.made_more _ _ _ c.secrets_with.ensures.moved c.commit_and_register.ensures.moved
+pub returns-in_err-commit_and_register-clause-moves : goal.returns-in_err-commit_and_register-clause-moves
+returns-in_err-commit_and_register-clause-moves g c = record {
+  word =
+      ap (λ (l : Life g.row.Dir.Denot). l.word) c.commit_and_register.ensures.rest ∙ ap (λ (l : Life g.row.Dir.Denot). l.word) c.secrets_with.ensures.life;
+  moved =
+      moved_then g.D.Disk.tells g.D.Disk.made g.X.SecretStore.made g.D.Disk.faults g.X.SecretStore.faults g.met.D.Disk.made_more g.met.X.SecretStore.made_more _ _ _ c.secrets_with.ensures.moved c.commit_and_register.ensures.moved;
+  fit = λ told fit. rw (c.commit_and_register.ensures.disk, c.secrets_with.ensures.disk) fit;
+}
 
 pub returns-in_err-commit_and_register-clause-causes : goal.returns-in_err-commit_and_register-clause-causes
 returns-in_err-commit_and_register-clause-causes g c =
     let p = err_from_is_err_and c.from_residual-in_err-commit_and_register.result c.from_residual-in_err-commit_and_register.ensures.1 in
     rw (p.1, p.2) (caused_around g.D.Disk.tells (λ x. absurd x) (λ x. rose_around _ _ _ _ c.secrets_with.ensures.moved.later_secrets c.commit_and_register.ensures.moved.later_secrets (omega arith) x)
     (λ x. reached_behind _ _ _ c.secrets_with.ensures.moved.counts x) c.in_err-commit_and_register.field-0.0 c.in_err-commit_and_register.ensures.causes.1)
-
-pub returns-in_err-commit_and_register-clause-fit : goal.returns-in_err-commit_and_register-clause-fit
-returns-in_err-commit_and_register-clause-fit g c = λ told fit. rw (c.commit_and_register.ensures.disk, c.secrets_with.ensures.disk) fit
-
-pub returns-in_err-commit_and_register-clause-word : goal.returns-in_err-commit_and_register-clause-word
-returns-in_err-commit_and_register-clause-word g c =
-    ap (λ (l : Life g.row.Dir.Denot). l.word) c.commit_and_register.ensures.rest ∙ ap (λ (l : Life g.row.Dir.Denot). l.word) c.secrets_with.ensures.life
 
 -- IT GOES ON
 
@@ -151,23 +151,21 @@ returns-clause-tells g c = λ fixed beside of reads by spells seen.
     (c.in_ok-commit_and_register.ensures.tells c.in_ok-secrets.secrets.seed fixed beside of.of.me) told))
     (c.pass_on.ensures.tells fixed (with_scheme_of c.args.terms.now.me c.args.info.now its beside) (in_word c.args.terms.now c.args.life.now.word c.commit_and_register.new.life.word fixed word of) reads by seen)
 
-pub returns-clause-moved : goal.returns-clause-moved
-returns-clause-moved g c =
-    moved_then g.D.Disk.tells g.D.Disk.made g.X.SecretStore.made g.D.Disk.faults g.X.SecretStore.faults g.met.D.Disk.made_more g.met.X.SecretStore.made_more _ _ _
-    (moved_then g.D.Disk.tells g.D.Disk.made g.X.SecretStore.made g.D.Disk.faults g.X.SecretStore.faults g.met.D.Disk.made_more g.met.X.SecretStore.made_more _ _ _ c.secrets_with.ensures.moved c.commit_and_register.ensures.moved) c.pass_on.ensures.moved
+pub returns-clause-moves : goal.returns-clause-moves
+returns-clause-moves g c = record {
+  word = c.pass_on.ensures.moves.word ∙ ap (λ (l : Life g.row.Dir.Denot). l.word) c.commit_and_register.ensures.rest ∙ ap (λ (l : Life g.row.Dir.Denot). l.word) c.secrets_with.ensures.life;
+  moved =
+      moved_then g.D.Disk.tells g.D.Disk.made g.X.SecretStore.made g.D.Disk.faults g.X.SecretStore.faults g.met.D.Disk.made_more g.met.X.SecretStore.made_more _ _ _
+      (moved_then g.D.Disk.tells g.D.Disk.made g.X.SecretStore.made g.D.Disk.faults g.X.SecretStore.faults g.met.D.Disk.made_more g.met.X.SecretStore.made_more _ _ _ c.secrets_with.ensures.moved c.commit_and_register.ensures.moved) c.pass_on.ensures.moves.moved;
+  fit = λ told fit. c.pass_on.ensures.moves.fit told (rw (c.commit_and_register.ensures.disk, c.secrets_with.ensures.disk) fit);
+}
 
 pub returns-clause-causes : goal.returns-clause-causes
 returns-clause-causes g c =
     let before = moved_then g.D.Disk.tells g.D.Disk.made g.X.SecretStore.made g.D.Disk.faults g.X.SecretStore.faults g.met.D.Disk.made_more g.met.X.SecretStore.made_more _ _ _ c.secrets_with.ensures.moved c.commit_and_register.ensures.moved in
-    result_caused_by g.D.Disk.tells (λ x. rose_around _ _ _ _ before.later_disk c.pass_on.ensures.moved.later_disk (omega arith) x)
-    (λ x. rose_around _ _ _ _ before.later_secrets c.pass_on.ensures.moved.later_secrets (omega arith) x)
+    result_caused_by g.D.Disk.tells (λ x. rose_around _ _ _ _ before.later_disk c.pass_on.ensures.moves.moved.later_disk (omega arith) x)
+    (λ x. rose_around _ _ _ _ before.later_secrets c.pass_on.ensures.moves.moved.later_secrets (omega arith) x)
     (λ x. reached_behind _ _ _ before.counts x) c.pass_on.result c.pass_on.ensures.causes
-
-pub returns-clause-fit : goal.returns-clause-fit
-returns-clause-fit g c = λ told fit. c.pass_on.ensures.fit told (rw (c.commit_and_register.ensures.disk, c.secrets_with.ensures.disk) fit)
-
-pub returns-clause-word : goal.returns-clause-word
-returns-clause-word g c = c.pass_on.ensures.word ∙ ap (λ (l : Life g.row.Dir.Denot). l.word) c.commit_and_register.ensures.rest ∙ ap (λ (l : Life g.row.Dir.Denot). l.word) c.secrets_with.ensures.life
 
 pub returns-clause-ready : goal.returns-clause-ready
 returns-clause-ready g c = c.pass_on.ensures.ready

@@ -65,7 +65,7 @@ returns-in-Ok-clause-ends g c = c.in-Ok.ensures.ready
 
 pub returns-in-Ok-clause-stays : goal.returns-in-Ok-clause-stays
 returns-in-Ok-clause-stays g c = record {
-  word = rw c.in-Living.is c.take.ensures.word;
+  word = rw c.in-Living.is c.take.ensures.moves.word;
   rest = (refl, refl, refl, refl);
   provider = c.take.ensures.provider;
 }
@@ -77,13 +77,13 @@ returns-in-Ok-clause-fails g c = record {
 }
 
 pub returns-in-Ok-clause-moved : goal.returns-in-Ok-clause-moved
-returns-in-Ok-clause-moved g c = c.take.ensures.moved
+returns-in-Ok-clause-moved g c = c.take.ensures.moves.moved
 
 pub returns-in-Ok-clause-causes : goal.returns-in-Ok-clause-causes
 returns-in-Ok-clause-causes g c = tt
 
 pub returns-in-Ok-clause-fit : goal.returns-in-Ok-clause-fit
-returns-in-Ok-clause-fit g c = c.take.ensures.fit
+returns-in-Ok-clause-fit g c = c.take.ensures.moves.fit
 
 pub returns-in-Err-clause-including : goal.returns-in-Err-clause-including
 returns-in-Err-clause-including g c = tt
@@ -111,10 +111,10 @@ returns-in-Err-clause-fails g c = record {
 }
 
 pub returns-in-Err-clause-moved : goal.returns-in-Err-clause-moved
-returns-in-Err-clause-moved g c = c.take.ensures.moved
+returns-in-Err-clause-moved g c = c.take.ensures.moves.moved
 
 pub returns-in-Err-clause-causes : goal.returns-in-Err-clause-causes
 returns-in-Err-clause-causes g c = caused_in_step g.D.Disk.tells _ _ _ c.in-Err.stop c.in-Err.ensures.causes
 
 pub returns-in-Err-clause-fit : goal.returns-in-Err-clause-fit
-returns-in-Err-clause-fit g c = c.take.ensures.fit
+returns-in-Err-clause-fit g c = c.take.ensures.moves.fit
