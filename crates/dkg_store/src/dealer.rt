@@ -294,8 +294,7 @@ impl Dealer {
         ensures privates { self.new.privates ≡ self.old.privates }
         ensures acks { self.new.acks ≡ self.old.acks }
         ensures dealer { IsDealerOf C.deal_of C.check_ack_of self.new }
-        ensures memory { OnErr result (self.new ≡ self.old) }
-        ensures again { OnErr result (self.old.is_open ≡ true) }
+        ensures memory { OnErr result ((self.old.is_open ≡ true) × (self.new ≡ self.old)) }
     {
         if !self.is_open {
             return Ok(false);
