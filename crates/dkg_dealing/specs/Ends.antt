@@ -1,10 +1,13 @@
 -- How a call of the actor ends, beside the ends of a course.
-use Rattle.std.specs.Prelude.{⊤, Bool, IsSome, IsTrue, Option, Some, None, Result, Ok, Err}
+use Rattle.std.specs.Prelude.{ℕ, ⊤, Bool, IfErr, IsSome, IsTrue, Option, Some, None, Result, Ok, Err}
+use Rattle.dkg_journal.specs.Disk.{Rose}
+use Rattle.dkg_journal.specs.Fuse.{Reached}
 use Rattle.dkg_types.specs.declared.fault.Fault.{Fault}
 use Rattle.dkg_types.specs.declared.fault.Fault.TheVariants as fault
 use Rattle.dkg_store.specs.Acts.{Cause, Ended, went, stopped, broken, by_cut, by_disk, by_secrets, by_want}
 use Rattle.dkg_store.specs.declared.call.StoreError.{StoreError}
 use Rattle.dkg_store.specs.declared.call.StoreError.TheVariants as store
+use Rattle.dkg_store.specs.declared.devices.Devices.{Devices}
 use Rattle.dkg_dealing.specs.declared.stop.Stop.{Stop}
 use Rattle.dkg_dealing.specs.declared.stop.Stop.TheVariants.{Fault as Faulted, Cut, Failed}
 
@@ -78,6 +81,16 @@ IsCausedBy tells stop disk_rose secrets_rose reached = IsCaused stop disk_rose s
 abbrev pub IsCausedInStep : (tells : Bool) → Stop → (disk_rose secrets_rose reached : Type 0) → Type 0
 IsCausedInStep tells Failed disk_rose secrets_rose reached = ⊤
 IsCausedInStep tells stop disk_rose secrets_rose reached = IsCausedBy tells stop disk_rose secrets_rose reached
+
+-- An error of a call over these devices is caused by them.
+abbrev pub StopsOver : {T D X : Type 0} → (disk_faults : D → ℕ) → (secret_faults : X → ℕ) → (old new : Devices D X) → Result T Stop → Type 0
+StopsOver disk_faults secret_faults old new result = IfErr result (λ stop.
+    IsCaused stop (Rose (disk_faults old.disk.now) (disk_faults new.disk.now)) (Rose (secret_faults old.secrets.now) (secret_faults new.secrets.now)) (Reached old.fuse new.fuse))
+
+-- .. where records are read
+abbrev pub StopsReading : {T D X : Type 0} → (tells : Bool) → (disk_faults : D → ℕ) → (secret_faults : X → ℕ) → (old new : Devices D X) → Result T Stop → Type 0
+StopsReading tells disk_faults secret_faults old new result = IfErr result (λ stop.
+    IsCausedBy tells stop (Rose (disk_faults old.disk.now) (disk_faults new.disk.now)) (Rose (secret_faults old.secrets.now) (secret_faults new.secrets.now)) (Reached old.fuse new.fuse))
 
 -- It comes from outside: no course stops by it.
 abbrev pub IsOutside : Stop → Type 0

@@ -8,8 +8,6 @@ ghost use Rattle.std.specs.Result.{result_ok};
 ghost use Rattle.dkg_values.specs.Codec.{whole};
 ghost use Rattle.dkg_ceremony.specs.declared.round.RoundParts.{RoundParts as Round};
 ghost use Rattle.dkg_fence.specs.Readiness.{Readiness};
-ghost use Rattle.dkg_journal.specs.Disk.{Rose};
-ghost use Rattle.dkg_journal.specs.Fuse.{Reached};
 ghost use Rattle.dkg_store.specs.Corrupt.{AreFit};
 ghost use Rattle.dkg_store.specs.Dealer.{IsDealerOf};
 ghost use Rattle.dkg_types.specs.MessageCodes.{MessageFits, message_at};
@@ -18,7 +16,7 @@ ghost use Rattle.dkg_core.specs.Dealing as dealing;
 ghost use Rattle.dkg_core.specs.Fixed.{Fixed};
 ghost use Rattle.dkg_core.specs.Said.{Said};
 ghost use Rattle.dkg_dealing.specs.Ready.{IsReadyLife};
-ghost use Rattle.dkg_dealing.specs.Ends.{IsCaused, ends, ends_in};
+ghost use Rattle.dkg_dealing.specs.Ends.{StopsOver, ends, ends_in};
 ghost use Rattle.dkg_dealing.specs.Given.{IsOf};
 ghost use Rattle.dkg_dealing.specs.Heard.{KeepsSeat, answers, round_dealt};
 ghost use Rattle.dkg_dealing.specs.LiveOf.{Beside, SitsAt, dealer_of, live_of, seat_of};
@@ -120,8 +118,7 @@ pub(crate) fn handle<C: Ceremony, Dir: Directory + Drop, D: Disk, X: SecretStore
     ensures tells { Said (answers C.dealing_of C.ack_of player.old.me player.old.round (map.get store.old.dealings (epoch, from)) epoch from public private)
         (ends (λ answer. answer) result) out.old.entries out.new.entries }
     ensures moved { Moved D.tells D.made X.made D.faults X.faults devices.old devices.new }
-    ensures causes { IfErr result (λ stop. IsCaused stop (Rose (D.faults devices.old.disk.now) (D.faults devices.new.disk.now))
-        (Rose (X.faults devices.old.secrets.now) (X.faults devices.new.secrets.now)) (Reached devices.old.fuse devices.new.fuse)) }
+    ensures causes { StopsOver D.faults X.faults devices.old devices.new result }
     ensures fit { IsTrue D.tells → (most : ℕ) → length public ≤ most → AreFit most (D.image devices.old.disk.now) → AreFit most (D.image devices.new.disk.now) }
 {
     match player.handle(
@@ -163,8 +160,7 @@ fn hear_dealing<C: Ceremony, Dir: Directory + Drop, D: Disk, X: SecretStore>(
         → Tells (dealing.seats_dealing_in c round from public private (live_of beside fence life.old) (seat_of life.old.player))
         (ends_in (live_of beside fence life.new) result) out.old.entries out.new.entries }
     ensures moved { Moved D.tells D.made X.made D.faults X.faults devices.old devices.new }
-    ensures causes { IfErr result (λ stop. IsCaused stop (Rose (D.faults devices.old.disk.now) (D.faults devices.new.disk.now))
-        (Rose (X.faults devices.old.secrets.now) (X.faults devices.new.secrets.now)) (Reached devices.old.fuse devices.new.fuse)) }
+    ensures causes { StopsOver D.faults X.faults devices.old devices.new result }
     ensures fit { IsTrue D.tells → AreFit (non_zero_u32_get terms.now.limit) (D.image devices.old.disk.now)
         → AreFit (non_zero_u32_get terms.now.limit) (D.image devices.new.disk.now) }
 {
@@ -227,8 +223,7 @@ pub(crate) fn take_ack<C: Ceremony, Dir: Directory + Drop, D: Disk, X: SecretSto
         (C.check_ack_of dealer.old.round dealer.old.me dealer.old.public from ack))
         (ends_in (live_of beside fence (record life { store = store.new; dealer = Some dealer.new })) result) out.old.entries out.new.entries }
     ensures moved { Moved D.tells D.made X.made D.faults X.faults devices.old devices.new }
-    ensures causes { IfErr result (λ stop. IsCaused stop (Rose (D.faults devices.old.disk.now) (D.faults devices.new.disk.now))
-        (Rose (X.faults devices.old.secrets.now) (X.faults devices.new.secrets.now)) (Reached devices.old.fuse devices.new.fuse)) }
+    ensures causes { StopsOver D.faults X.faults devices.old devices.new result }
     ensures fit { IsTrue D.tells → (most : ℕ) → AreFit most (D.image devices.old.disk.now) → AreFit most (D.image devices.new.disk.now) }
 {
     match dealer.handle(alloc, ceremony, devices, store, epoch, from, ack) {
@@ -265,8 +260,7 @@ fn hear_ack<C: Ceremony, Dir: Directory + Drop, D: Disk, X: SecretStore>(
         → Tells (dealing.hears_ack c round (option_map dealer_of life.old.dealer) from ack (live_of beside fence life.old))
         (ends_in (live_of beside fence life.new) result) out.old.entries out.new.entries }
     ensures moved { Moved D.tells D.made X.made D.faults X.faults devices.old devices.new }
-    ensures causes { IfErr result (λ stop. IsCaused stop (Rose (D.faults devices.old.disk.now) (D.faults devices.new.disk.now))
-        (Rose (X.faults devices.old.secrets.now) (X.faults devices.new.secrets.now)) (Reached devices.old.fuse devices.new.fuse)) }
+    ensures causes { StopsOver D.faults X.faults devices.old devices.new result }
     ensures fit { IsTrue D.tells → AreFit (non_zero_u32_get terms.now.limit) (D.image devices.old.disk.now)
         → AreFit (non_zero_u32_get terms.now.limit) (D.image devices.new.disk.now) }
 {
@@ -323,8 +317,7 @@ pub fn hear_peer<C: Ceremony, Dir: Directory + Drop, D: Disk, X: SecretStore>(
         → Tells (dealing.hears_peer c from bytes.now (live_of beside fence life.old))
         (ends_in (live_of beside fence life.new) result) out.old.entries out.new.entries }
     ensures moved { Moved D.tells D.made X.made D.faults X.faults devices.old devices.new }
-    ensures causes { IfErr result (λ stop. IsCaused stop (Rose (D.faults devices.old.disk.now) (D.faults devices.new.disk.now))
-        (Rose (X.faults devices.old.secrets.now) (X.faults devices.new.secrets.now)) (Reached devices.old.fuse devices.new.fuse)) }
+    ensures causes { StopsOver D.faults X.faults devices.old devices.new result }
     ensures fit { IsTrue D.tells → AreFit (non_zero_u32_get terms.now.limit) (D.image devices.old.disk.now)
         → AreFit (non_zero_u32_get terms.now.limit) (D.image devices.new.disk.now) }
 {

@@ -9,8 +9,6 @@ ghost use Rattle.std.specs.List.{AllByRecursion};
 ghost use Rattle.dkg_values.specs.Rising.{lookup};
 ghost use Rattle.dkg_ceremony.specs.declared.round.RoundParts.{RoundParts as Round};
 ghost use Rattle.dkg_fence.specs.Readiness.{Readiness};
-ghost use Rattle.dkg_journal.specs.Disk.{Rose};
-ghost use Rattle.dkg_journal.specs.Fuse.{Reached};
 ghost use Rattle.dkg_store.specs.Corrupt.{AreFit};
 ghost use Rattle.dkg_store.specs.Dealer.{unsent};
 ghost use Rattle.dkg_store.specs.declared.dealer.Dealer.{Dealer};
@@ -20,7 +18,7 @@ ghost use Rattle.dkg_core.specs.Dealing as dealing;
 ghost use Rattle.dkg_core.specs.Fixed.{Fixed};
 ghost use Rattle.dkg_core.specs.Setup as setup;
 ghost use Rattle.dkg_dealing.specs.Ready.{IsReadyLife};
-ghost use Rattle.dkg_dealing.specs.Ends.{IsCaused, ends_in};
+ghost use Rattle.dkg_dealing.specs.Ends.{StopsOver, ends_in};
 ghost use Rattle.dkg_dealing.specs.Given.{IsOf};
 ghost use Rattle.dkg_dealing.specs.Heard.{round_dealt};
 ghost use Rattle.dkg_dealing.specs.LiveOf.{Beside, IsDealing, IsToSign, live_of};
@@ -117,8 +115,7 @@ fn offer_to_itself<C: Ceremony, Dir: Directory + Drop, D: Disk, X: SecretStore>(
         → Tells (dealing.offers_to_itself c round public private (live_of beside fence life.old))
         (ends_in (live_of beside fence life.new) result) out.old.entries out.new.entries }
     ensures moved { Moved D.tells D.made X.made D.faults X.faults devices.old devices.new }
-    ensures causes { IfErr result (λ stop. IsCaused stop (Rose (D.faults devices.old.disk.now) (D.faults devices.new.disk.now))
-        (Rose (X.faults devices.old.secrets.now) (X.faults devices.new.secrets.now)) (Reached devices.old.fuse devices.new.fuse)) }
+    ensures causes { StopsOver D.faults X.faults devices.old devices.new result }
     ensures fit { IsTrue D.tells → AreFit (non_zero_u32_get terms.now.limit) (D.image devices.old.disk.now)
         → AreFit (non_zero_u32_get terms.now.limit) (D.image devices.new.disk.now) }
 {
@@ -191,8 +188,7 @@ fn offer<C: Ceremony, Dir: Directory + Drop, D: Disk, X: SecretStore>(
         → Tells (dealing.offers c round public ((player, private) ∷ []) (live_of beside fence life.old))
         (ends_in (live_of beside fence life.new) result) out.old.entries out.new.entries }
     ensures moved { Moved D.tells D.made X.made D.faults X.faults devices.old devices.new }
-    ensures causes { IfErr result (λ stop. IsCaused stop (Rose (D.faults devices.old.disk.now) (D.faults devices.new.disk.now))
-        (Rose (X.faults devices.old.secrets.now) (X.faults devices.new.secrets.now)) (Reached devices.old.fuse devices.new.fuse)) }
+    ensures causes { StopsOver D.faults X.faults devices.old devices.new result }
     ensures fit { IsTrue D.tells → AreFit (non_zero_u32_get terms.now.limit) (D.image devices.old.disk.now)
         → AreFit (non_zero_u32_get terms.now.limit) (D.image devices.new.disk.now) }
 {
@@ -238,8 +234,7 @@ fn offer_all<C: Ceremony, Dir: Directory + Drop, D: Disk, X: SecretStore>(
         → Tells (dealing.offers c round dealer.public (halves_of unsent.items) (live_of beside fence life.old))
         (ends_in (live_of beside fence life.new) result) out.old.entries out.new.entries }
     ensures moved { Moved D.tells D.made X.made D.faults X.faults devices.old devices.new }
-    ensures causes { IfErr result (λ stop. IsCaused stop (Rose (D.faults devices.old.disk.now) (D.faults devices.new.disk.now))
-        (Rose (X.faults devices.old.secrets.now) (X.faults devices.new.secrets.now)) (Reached devices.old.fuse devices.new.fuse)) }
+    ensures causes { StopsOver D.faults X.faults devices.old devices.new result }
     ensures fit { IsTrue D.tells → AreFit (non_zero_u32_get terms.now.limit) (D.image devices.old.disk.now)
         → AreFit (non_zero_u32_get terms.now.limit) (D.image devices.new.disk.now) }
 {
@@ -276,8 +271,7 @@ pub fn deal<C: Ceremony, Dir: Directory + Drop, D: Disk, X: SecretStore>(
         → Tells (dealing.deals c (live_of beside fence life.old))
         (ends_in (live_of beside fence life.new) result) out.old.entries out.new.entries }
     ensures moved { Moved D.tells D.made X.made D.faults X.faults devices.old devices.new }
-    ensures causes { IfErr result (λ stop. IsCaused stop (Rose (D.faults devices.old.disk.now) (D.faults devices.new.disk.now))
-        (Rose (X.faults devices.old.secrets.now) (X.faults devices.new.secrets.now)) (Reached devices.old.fuse devices.new.fuse)) }
+    ensures causes { StopsOver D.faults X.faults devices.old devices.new result }
     ensures fit { IsTrue D.tells → AreFit (non_zero_u32_get terms.now.limit) (D.image devices.old.disk.now)
         → AreFit (non_zero_u32_get terms.now.limit) (D.image devices.new.disk.now) }
 {

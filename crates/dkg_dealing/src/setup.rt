@@ -27,7 +27,7 @@ ghost use Rattle.dkg_core.specs.Live.{Live};
 ghost use Rattle.dkg_core.specs.Live as live;
 ghost use Rattle.dkg_core.specs.Setup as setup;
 ghost use Rattle.dkg_dealing.specs.Ready.{IsReadyLife, IsSetUp};
-ghost use Rattle.dkg_dealing.specs.Ends.{IsCaused, IsCausedBy, IsOutside, by_stop, ends, ends_in};
+ghost use Rattle.dkg_dealing.specs.Ends.{IsCaused, IsCausedBy, IsOutside, StopsReading, by_stop, ends, ends_in};
 ghost use Rattle.dkg_dealing.specs.Given.{CanRead, GivesBoth, GivesSeed, GivesShare, IsIn, IsLent, IsOf, ReadsPlanless};
 ghost use Rattle.dkg_dealing.specs.LiveOf.{Beside, DealsFor, EndsBeside, IsDealing, IsFresh, PlayerSits, IsToSign, IsWithin, SitsIn, TookSchemes, awaited_of, dealer_of, live_of, records_of, scheme_by, seat_of, with_scheme_of};
 ghost use Rattle.dkg_dealing.specs.Made.{Makes, Speaks, Tells, UnlessBroken};
@@ -708,8 +708,7 @@ fn set_up_by<C: Ceremony, R: Registrar, Dir: Directory + Drop, D: Disk, X: Secre
         (ends_in (live_of now fence.new life.new) result)
         out.old.entries out.new.entries)) }
     ensures moved { Moved D.tells D.made X.made D.faults X.faults devices.old devices.new }
-    ensures causes { IfErr result (λ stop. IsCausedBy D.tells stop (Rose (D.faults devices.old.disk.now) (D.faults devices.new.disk.now))
-        (Rose (X.faults devices.old.secrets.now) (X.faults devices.new.secrets.now)) (Reached devices.old.fuse devices.new.fuse)) }
+    ensures causes { StopsReading D.tells D.faults X.faults devices.old devices.new result }
     ensures above { IsTrue D.tells → StaysAbove (life.old.epoch - 1) (D.image devices.old.disk.now) (D.image devices.new.disk.now)
         (X.held devices.old.secrets.now) (X.held devices.new.secrets.now) }
     ensures gives { UnlessBroken (ends (λ done. done) result) (IsTrue D.tells → IsTrue X.tells → StaysFrom (life.old.epoch - 1)
@@ -825,8 +824,7 @@ pub(crate) fn set_up<
         → AreAgreed (records_of life.old.store) (held_in (D.files devices.old.disk.now) (X.held devices.old.secrets.now))
         → AreAgreed (records_of life.new.store) (held_in (D.files devices.new.disk.now) (X.held devices.new.secrets.now))) }
     ensures moved { Moved D.tells D.made X.made D.faults X.faults devices.old devices.new }
-    ensures causes { IfErr result (λ stop. IsCausedBy D.tells stop (Rose (D.faults devices.old.disk.now) (D.faults devices.new.disk.now))
-        (Rose (X.faults devices.old.secrets.now) (X.faults devices.new.secrets.now)) (Reached devices.old.fuse devices.new.fuse)) }
+    ensures causes { StopsReading D.tells D.faults X.faults devices.old devices.new result }
     ensures above { IsTrue D.tells → StaysAbove (epoch_above terms.now life.old.tip - 1) (D.image devices.old.disk.now) (D.image devices.new.disk.now)
         (X.held devices.old.secrets.now) (X.held devices.new.secrets.now) }
     ensures gives { UnlessBroken (ends (λ done. done) result) (IsTrue D.tells → IsTrue X.tells → StaysFrom (epoch_above terms.now life.old.tip - 1)
@@ -890,8 +888,7 @@ pub fn set_up_committed<C: Ceremony, R: Registrar, Dir: Directory + Drop, D: Dis
         (λ now. Tells (setup.setup c None (live_of beside fence.old life.old)) (ends_in (live_of now fence.new life.new) result)
         out.old.entries out.new.entries)) }
     ensures moved { Moved D.tells D.made X.made D.faults X.faults devices.old devices.new }
-    ensures causes { IfErr result (λ stop. IsCausedBy D.tells stop (Rose (D.faults devices.old.disk.now) (D.faults devices.new.disk.now))
-        (Rose (X.faults devices.old.secrets.now) (X.faults devices.new.secrets.now)) (Reached devices.old.fuse devices.new.fuse)) }
+    ensures causes { StopsReading D.tells D.faults X.faults devices.old devices.new result }
     ensures fit { IsTrue D.tells → AreFit (non_zero_u32_get terms.now.limit) (D.image devices.old.disk.now)
         → AreFit (non_zero_u32_get terms.now.limit) (D.image devices.new.disk.now) }
 {

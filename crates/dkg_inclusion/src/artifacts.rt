@@ -4,8 +4,6 @@
 ghost use Rattle.std.specs.Prelude.{◌≡◌, ◌⊎◌, ◌+◌, ◌++◌, ◌<◌, ◌≤◌, ◌^◌, IfErr, IfOk, IsSome, IsSomeAnd, IsTrue, List, OnOk, Some, false, length, option_map, true};
 ghost use Rattle.std.specs.Int.NonZero.{non_zero_u32_get};
 ghost use Rattle.dkg_values.specs.Rising.{set_of};
-ghost use Rattle.dkg_journal.specs.Disk.{Rose};
-ghost use Rattle.dkg_journal.specs.Fuse.{Reached};
 ghost use Rattle.dkg_types.specs.InfoCodes.{peers_of as peers_from};
 ghost use Rattle.dkg_types.specs.declared.entry.Entry.{Entry as Line};
 ghost use Rattle.dkg_types.specs.declared.fault.Fault.TheVariants.{DirectoryMismatch, NoMemory as OutOfMemory};
@@ -13,7 +11,7 @@ ghost use Rattle.dkg_core.specs.Courses.{Goes};
 ghost use Rattle.dkg_core.specs.Fixed.{Fixed};
 ghost use Rattle.dkg_core.specs.Including as including;
 ghost use Rattle.dkg_core.specs.Live.{Live};
-ghost use Rattle.dkg_dealing.specs.Ends.{IsCaused, ends, ends_in};
+ghost use Rattle.dkg_dealing.specs.Ends.{IsCaused, StopsOver, ends, ends_in};
 ghost use Rattle.dkg_dealing.specs.Given.{IsOf, ReadsPlanless};
 ghost use Rattle.dkg_dealing.specs.Made.{Makes, Tells};
 ghost use Rattle.dkg_dealing.specs.Moved.{Moved};
@@ -106,8 +104,7 @@ fn share_by<Dir: Directory + Drop, D: Disk, X: SecretStore>(
     ensures tells { (c : Fixed Dir) → c.me ≡ me → ReadsPlanless c → (out : List Line)
         → Tells (reads_share c info.now (option_map verified_of found.now)) (ends (λ share. share) result) out out }
     ensures moved { Moved D.tells D.made X.made D.faults X.faults devices.old devices.new }
-    ensures causes { IfErr result (λ stop. IsCaused stop (Rose (D.faults devices.old.disk.now) (D.faults devices.new.disk.now))
-        (Rose (X.faults devices.old.secrets.now) (X.faults devices.new.secrets.now)) (Reached devices.old.fuse devices.new.fuse)) }
+    ensures causes { StopsOver D.faults X.faults devices.old devices.new result }
 {
     match found {
         Some(verified) => Ok(verified.share),
@@ -208,8 +205,7 @@ fn derive<
         → IncludesBy C.check_log_of C.outcome_of C.finish_of (P.participants_of provider.old) (P.directory_of provider.old) Dir.spelling Dir.matches_of c
         → (out : List Line) → Tells (derives_in c info (result_of verified.now)) (ends artifact_of result) out out }
     ensures moved { Moved D.tells D.made X.made D.faults X.faults devices.old devices.new }
-    ensures causes { IfErr result (λ stop. IsCaused stop (Rose (D.faults devices.old.disk.now) (D.faults devices.new.disk.now))
-        (Rose (X.faults devices.old.secrets.now) (X.faults devices.new.secrets.now)) (Reached devices.old.fuse devices.new.fuse)) }
+    ensures causes { StopsOver D.faults X.faults devices.old devices.new result }
 {
     let info = current_of(alloc, store)?;
     let next_players = provided(alloc, provider, terms.limit, info.epoch)?;
@@ -255,8 +251,7 @@ pub fn keep_artifact<
         → (out : List Line) → EndsCaching cache.new st (λ now. Tells
         (including.artifact c (result_of verified.now) st (λ made st. Goes st)) (ends_in now result) out out) }
     ensures moved { Moved D.tells D.made X.made D.faults X.faults devices.old devices.new }
-    ensures causes { IfErr result (λ stop. IsCaused stop (Rose (D.faults devices.old.disk.now) (D.faults devices.new.disk.now))
-        (Rose (X.faults devices.old.secrets.now) (X.faults devices.new.secrets.now)) (Reached devices.old.fuse devices.new.fuse)) }
+    ensures causes { StopsOver D.faults X.faults devices.old devices.new result }
 {
     if cache.get(&verified.logs).is_some() {
         return Ok(());

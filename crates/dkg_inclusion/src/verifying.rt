@@ -6,8 +6,6 @@ ghost use Rattle.std.specs.FinMap as maps;
 ghost use Rattle.std.specs.Int.NonZero.{non_zero_u64_get};
 ghost use Rattle.dkg_ceremony.specs.declared.round.RoundParts.{RoundParts as Round};
 ghost use Rattle.dkg_fence.specs.Readiness.{Readiness};
-ghost use Rattle.dkg_journal.specs.Disk.{Rose};
-ghost use Rattle.dkg_journal.specs.Fuse.{Reached};
 ghost use Rattle.dkg_core.specs.Fixed.{Fixed};
 ghost use Rattle.dkg_core.specs.Including as including;
 ghost use Rattle.dkg_ceremony.specs.Schedule.{midpoint};
@@ -19,7 +17,7 @@ ghost use Rattle.dkg_types.specs.declared.fault.LocalCause.TheVariants.{StoredDe
 ghost use Rattle.dkg_core.specs.Live.{Live};
 ghost use Rattle.dkg_core.specs.Logs as recorded;
 ghost use Rattle.dkg_dealing.specs.Ready.{IsReadyLife};
-ghost use Rattle.dkg_dealing.specs.Ends.{IsCaused, ends_in};
+ghost use Rattle.dkg_dealing.specs.Ends.{IsCaused, StopsOver, ends_in};
 ghost use Rattle.dkg_dealing.specs.Given.{IsOf, ReadsPlanless};
 ghost use Rattle.dkg_dealing.specs.LiveOf.{Beside, EndsWith, live_of};
 ghost use Rattle.dkg_dealing.specs.Made.{Makes, Tells};
@@ -229,8 +227,7 @@ pub(crate) fn answer_by<
         → EndsCaching cache.new st (λ now. Tells (including.artifact c (result_of verified.now) st (including.answers c request))
         (ends_in (telling request now) result) out.old.entries out.new.entries) }
     ensures moved { Moved D.tells D.made X.made D.faults X.faults devices.old devices.new }
-    ensures causes { IfErr result (λ stop. IsCaused stop (Rose (D.faults devices.old.disk.now) (D.faults devices.new.disk.now))
-        (Rose (X.faults devices.old.secrets.now) (X.faults devices.new.secrets.now)) (Reached devices.old.fuse devices.new.fuse)) }
+    ensures causes { StopsOver D.faults X.faults devices.old devices.new result }
 {
     keep_artifact(alloc, provider, terms, store, devices, cache, verified)?;
     match cache.get(&verified.logs) {
@@ -307,8 +304,7 @@ fn complete<
         (λ now. Tells (including.completes c (result_of verified) (live_of beside fence life.old)) (ends_in
         (live_of now fence life.new) result) out.old.entries out.new.entries) }
     ensures moved { Moved D.tells D.made X.made D.faults X.faults devices.old devices.new }
-    ensures causes { IfErr result (λ stop. IsCaused stop (Rose (D.faults devices.old.disk.now) (D.faults devices.new.disk.now))
-        (Rose (X.faults devices.old.secrets.now) (X.faults devices.new.secrets.now)) (Reached devices.old.fuse devices.new.fuse)) }
+    ensures causes { StopsOver D.faults X.faults devices.old devices.new result }
 {
     let Some(request) = inclusion.waiter else {
         return Ok(retain(alloc, life, inclusion, verified)?);
@@ -375,8 +371,7 @@ pub fn end_verifying<
         (λ now. Tells (including.ends_verifying c (option_map result_of done) (live_of beside fence life.old)) (ends_in
         (live_of now fence life.new) result) out.old.entries out.new.entries) }
     ensures moved { Moved D.tells D.made X.made D.faults X.faults devices.old devices.new }
-    ensures causes { IfErr result (λ stop. IsCaused stop (Rose (D.faults devices.old.disk.now) (D.faults devices.new.disk.now))
-        (Rose (X.faults devices.old.secrets.now) (X.faults devices.new.secrets.now)) (Reached devices.old.fuse devices.new.fuse)) }
+    ensures causes { StopsOver D.faults X.faults devices.old devices.new result }
 {
     let Some(job) = inclusion.verification.running() else {
         return Ok(());

@@ -11,7 +11,7 @@ ghost use Rattle.dkg_core.specs.Fixed.{Fixed};
 ghost use Rattle.dkg_core.specs.Including.{works};
 ghost use Rattle.dkg_dealing.specs.Ready.{IsFoundAt, IsReadyLife, IsSoundAt};
 ghost use Rattle.dkg_dealing.specs.Configured.{config_fault};
-ghost use Rattle.dkg_dealing.specs.Ends.{IsCausedBy, IsCausedInStep, ends, ends_in};
+ghost use Rattle.dkg_dealing.specs.Ends.{IsCausedInStep, StopsReading, ends, ends_in};
 ghost use Rattle.dkg_dealing.specs.Given.{AreGivenFrom, HasRead, IsIn, IsLent, ReadsPlanless, reading};
 ghost use Rattle.dkg_dealing.specs.LiveOf.{Beside, EndsBeside, EndsWith, TookSchemes, live_of, no_fence, nothing_beside};
 ghost use Rattle.dkg_dealing.specs.Made.{Makes, Tells, UnlessBroken};
@@ -85,8 +85,7 @@ fn take<
     requires including { IsSettledInclusion C.check_log_of C.dealing_of C.finish_of (non_zero_u64_get terms.now.blocks_per_epoch) life.old inclusion.old }
     ensures ready { OnOk result (IsReadyLife D.tells D.files D.image C.ack_of C.deal_of C.check_ack_of terms.now life.new devices.new) }
     ensures moves { MovesOn life.old life.new D.tells D.made X.made D.faults X.faults D.image (non_zero_u32_get terms.now.limit) devices.old devices.new }
-    ensures causes { IfErr result (λ stop. IsCausedBy D.tells stop (Rose (D.faults devices.old.disk.now) (D.faults devices.new.disk.now))
-        (Rose (X.faults devices.old.secrets.now) (X.faults devices.new.secrets.now)) (Reached devices.old.fuse devices.new.fuse)) }
+    ensures causes { StopsReading D.tells D.faults X.faults devices.old devices.new result }
     ensures including { OnOk result (IsSettledInclusion C.check_log_of C.dealing_of C.finish_of (non_zero_u64_get terms.now.blocks_per_epoch) life.new
         inclusion.new) }
     ensures provider { IsTrue P.tells → SameProvided (P.participants_of provider.old) (P.participants_of provider.new)

@@ -7,8 +7,6 @@ ghost use Rattle.std.specs.Int.NonZero.{non_zero_u32_get};
 ghost use Rattle.std.specs.Int.NonZero.{non_zero_u64_get};
 ghost use Rattle.dkg_ceremony.specs.declared.round.RoundParts.{RoundParts as Round};
 ghost use Rattle.dkg_fence.specs.Readiness.{Readiness};
-ghost use Rattle.dkg_journal.specs.Disk.{Rose};
-ghost use Rattle.dkg_journal.specs.Fuse.{Reached};
 ghost use Rattle.dkg_core.specs.Fixed.{Fixed};
 ghost use Rattle.dkg_core.specs.Including as including;
 ghost use Rattle.dkg_ceremony.specs.Schedule.{epoch_of, midpoint};
@@ -17,13 +15,13 @@ ghost use Rattle.dkg_types.specs.declared.fault.Fault.TheVariants.{NoMemory as O
 ghost use Rattle.dkg_core.specs.Same.{same_info};
 ghost use Rattle.dkg_core.specs.Blocks as blocks;
 ghost use Rattle.dkg_dealing.specs.Ready.{IsReadyLife};
-ghost use Rattle.dkg_dealing.specs.Ends.{IsCaused, ends_in};
+ghost use Rattle.dkg_dealing.specs.Ends.{IsCaused, StopsOver, StopsReading, ends_in};
 ghost use Rattle.dkg_dealing.specs.Given.{IsOf, ReadsPlanless};
 ghost use Rattle.dkg_dealing.specs.LiveOf.{Beside, EndsWith, live_of};
 ghost use Rattle.dkg_dealing.specs.Made.{Makes, Tells};
 ghost use Rattle.dkg_dealing.specs.Moved.{IsFirm, Moved};
 ghost use Rattle.dkg_dealing.specs.Rules.{IncludesBy, IsRuledBy};
-ghost use Rattle.dkg_dealing.specs.Ends.{IsCausedBy, ends};
+ghost use Rattle.dkg_dealing.specs.Ends.{ends};
 ghost use Rattle.dkg_dealing.specs.Given.{IsIn};
 ghost use Rattle.dkg_dealing.specs.LiveOf.{TookSchemes};
 ghost use Rattle.dkg_dealing.specs.Made.{Speaks};
@@ -169,8 +167,7 @@ fn derive_now<
         (λ now. Tells (derives_now c round logs.now (live_of beside fence life.old)) (ends
         (λ made. (artifact_of made, live_of now fence life.new)) result) out out) }
     ensures moved { Moved D.tells D.made X.made D.faults X.faults devices.old devices.new }
-    ensures causes { IfErr result (λ stop. IsCaused stop (Rose (D.faults devices.old.disk.now) (D.faults devices.new.disk.now))
-        (Rose (X.faults devices.old.secrets.now) (X.faults devices.new.secrets.now)) (Reached devices.old.fuse devices.new.fuse)) }
+    ensures causes { StopsOver D.faults X.faults devices.old devices.new result }
 {
     see_verified(alloc, ceremony, terms, life, inclusion, logs)?;
     let Some(ready) = inclusion.verification.ready(logs) else {
@@ -240,8 +237,7 @@ fn artifact_by<
         (λ now. Tells (derives_by c round logs.now (option_map artifact_of before) (live_of beside fence life.old)) (ends
         (λ made. (artifact_of made, live_of now fence life.new)) result) out out) }
     ensures moved { Moved D.tells D.made X.made D.faults X.faults devices.old devices.new }
-    ensures causes { IfErr result (λ stop. IsCaused stop (Rose (D.faults devices.old.disk.now) (D.faults devices.new.disk.now))
-        (Rose (X.faults devices.old.secrets.now) (X.faults devices.new.secrets.now)) (Reached devices.old.fuse devices.new.fuse)) }
+    ensures causes { StopsOver D.faults X.faults devices.old devices.new result }
 {
     if let Some(artifact) = before {
         return Ok(artifact);
@@ -295,8 +291,7 @@ pub(crate) fn derive<
         (λ now. Tells (derives_final c round (live_of beside fence life.old)) (ends
         (λ made. (artifact_of made, live_of now fence life.new)) result) out.old.entries out.new.entries) }
     ensures moved { Moved D.tells D.made X.made D.faults X.faults devices.old devices.new }
-    ensures causes { IfErr result (λ stop. IsCaused stop (Rose (D.faults devices.old.disk.now) (D.faults devices.new.disk.now))
-        (Rose (X.faults devices.old.secrets.now) (X.faults devices.new.secrets.now)) (Reached devices.old.fuse devices.new.fuse)) }
+    ensures causes { StopsOver D.faults X.faults devices.old devices.new result }
 {
     let logs = canonical(alloc, life)?;
     let before = kept_for(alloc, &inclusion.cache, &logs)?;
@@ -416,8 +411,7 @@ fn pass_on<C: Ceremony + Drop, R: Registrar, Dir: Directory + Drop, D: Disk, X: 
         (λ more. OnOk result (TookSchemes R.tells (R.taken registrar.old) (R.taken registrar.new) more))
         (λ now. Tells (blocks.passes_on c block.now (Some info.now) (live_of beside fence.old life.old)) (ends_in (live_of now fence.new life.new) result)
         out.old.entries out.new.entries) }
-    ensures causes { IfErr result (λ stop. IsCausedBy D.tells stop (Rose (D.faults devices.old.disk.now) (D.faults devices.new.disk.now))
-        (Rose (X.faults devices.old.secrets.now) (X.faults devices.new.secrets.now)) (Reached devices.old.fuse devices.new.fuse)) }
+    ensures causes { StopsReading D.tells D.faults X.faults devices.old devices.new result }
 {
     life.tip = Some(tip_of(block));
     answer_all(alloc, inclusion, out)?;
@@ -473,8 +467,7 @@ pub(crate) fn take_over<
         (λ now. Tells (blocks.takes_over c block.now info.now (blocks.share_for c info.now (artifact_of artifact.now)) (live_of beside fence.old life.old))
         (ends_in (live_of now fence.new life.new) result)
         out.old.entries out.new.entries) }
-    ensures causes { IfErr result (λ stop. IsCausedBy D.tells stop (Rose (D.faults devices.old.disk.now) (D.faults devices.new.disk.now))
-        (Rose (X.faults devices.old.secrets.now) (X.faults devices.new.secrets.now)) (Reached devices.old.fuse devices.new.fuse)) }
+    ensures causes { StopsReading D.tells D.faults X.faults devices.old devices.new result }
 {
     let share = share_for(alloc, info, artifact)?;
     let secrets: EpochSecrets = secrets_with(alloc, life, devices, info, share)?;

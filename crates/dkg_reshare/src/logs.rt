@@ -4,8 +4,6 @@ ghost use Rattle.std.specs.Option.{option_copied};
 ghost use Rattle.dkg_ceremony.specs.Logs.{LogFits, log_spelling};
 ghost use Rattle.dkg_ceremony.specs.declared.round.RoundParts.{RoundParts as Round};
 ghost use Rattle.dkg_fence.specs.Readiness.{Readiness};
-ghost use Rattle.dkg_journal.specs.Disk.{Rose};
-ghost use Rattle.dkg_journal.specs.Fuse.{Reached};
 ghost use Rattle.dkg_store.specs.Corrupt.{AreFit};
 ghost use Rattle.dkg_types.specs.PayloadCodes.{its_log, log_payload};
 ghost use Rattle.dkg_types.specs.declared.entry.Entry.{Entry as Line};
@@ -14,7 +12,7 @@ ghost use Rattle.dkg_core.specs.Blocks as blocks;
 ghost use Rattle.dkg_core.specs.Fixed.{Fixed, has};
 ghost use Rattle.dkg_core.specs.Including as including;
 ghost use Rattle.dkg_dealing.specs.Ready.{IsReadyLife};
-ghost use Rattle.dkg_dealing.specs.Ends.{IsCaused, ends_in};
+ghost use Rattle.dkg_dealing.specs.Ends.{StopsOver, ends_in};
 ghost use Rattle.dkg_dealing.specs.LiveOf.{Beside, EndsWith, live_of};
 ghost use Rattle.dkg_dealing.specs.Made.{Makes, Speaks, Tells};
 ghost use Rattle.dkg_dealing.specs.Moved.{IsFirm, Moved};
@@ -86,8 +84,7 @@ fn record<Dir: Directory + Drop, D: Disk, X: SecretStore>(
         → Tells (blocks.records_log epoch height signed.now (live_of beside fence life))
         (ends_in (live_of beside fence (record life { store = store.new })) result) out out }
     ensures moved { Moved D.tells D.made X.made D.faults X.faults devices.old devices.new }
-    ensures causes { IfErr result (λ stop. IsCaused stop (Rose (D.faults devices.old.disk.now) (D.faults devices.new.disk.now))
-        (Rose (X.faults devices.old.secrets.now) (X.faults devices.new.secrets.now)) (Reached devices.old.fuse devices.new.fuse)) }
+    ensures causes { StopsOver D.faults X.faults devices.old devices.new result }
     ensures fit { IsTrue D.tells → (most : ℕ) → LogFits most signed.now.log → AreFit most (D.image devices.old.disk.now)
         → AreFit most (D.image devices.new.disk.now) }
 {
@@ -141,8 +138,7 @@ pub(crate) fn observe<C: Ceremony, Dir: Directory + Drop, D: Disk, X: SecretStor
         → Tells (blocks.observes c round block.now (live_of beside fence life.old) (option_and_then its_log block.now.payload))
         (ends_in (live_of beside fence life.new) result) out out }
     ensures moved { Moved D.tells D.made X.made D.faults X.faults devices.old devices.new }
-    ensures causes { IfErr result (λ stop. IsCaused stop (Rose (D.faults devices.old.disk.now) (D.faults devices.new.disk.now))
-        (Rose (X.faults devices.old.secrets.now) (X.faults devices.new.secrets.now)) (Reached devices.old.fuse devices.new.fuse)) }
+    ensures causes { StopsOver D.faults X.faults devices.old devices.new result }
     ensures fit { IsTrue D.tells → (most : ℕ) → CarriesWithin most block.now → AreFit most (D.image devices.old.disk.now)
         → AreFit most (D.image devices.new.disk.now) }
 {

@@ -13,7 +13,7 @@ ghost use Rattle.dkg_core.specs.Live.{Delivers, Feed, Live, Reshare};
 ghost use Rattle.dkg_core.specs.Node.{node_opening, node_step};
 ghost use Rattle.dkg_dealing.specs.Ready.{IsFoundAt};
 ghost use Rattle.dkg_reshare.specs.CarriedLogs.{CarriesWithin};
-ghost use Rattle.dkg_dealing.specs.Ends.{IsCausedBy};
+ghost use Rattle.dkg_dealing.specs.Ends.{StopsReading};
 ghost use Rattle.dkg_dealing.specs.Given.{AreGivenFrom, HasRead};
 ghost use Rattle.dkg_dealing.specs.Made.{Makes, Tells, UnlessBroken};
 ghost use Rattle.dkg_dealing.specs.Moved.{Moved, StaysAbove};
@@ -153,8 +153,7 @@ impl<'a> Node<'a> {
         ensures tells { (g : Lived) (number : ℕ) (st : Live directory.Unit) → IsOfLife g self.old → MayStep g number st → IsView self.old st
             → Viewed self.new result (λ ended. Tells (step_of g number (event.Peer from bytes.now) st) ended out.old.entries out.new.entries) }
         ensures moved { Moved D.tells D.made X.made D.faults X.faults devices.old devices.new }
-        ensures causes { IfErr result (λ stop. IsCausedBy D.tells stop (Rose (D.faults devices.old.disk.now) (D.faults devices.new.disk.now))
-            (Rose (X.faults devices.old.secrets.now) (X.faults devices.new.secrets.now)) (Reached devices.old.fuse devices.new.fuse)) }
+        ensures causes { StopsReading D.tells D.faults X.faults devices.old devices.new result }
         ensures fit { IsTrue D.tells → AreFit (non_zero_u32_get self.old.actor.terms.limit) (D.image devices.old.disk.now)
             → AreFit (non_zero_u32_get self.old.actor.terms.limit) (D.image devices.new.disk.now) }
     {
@@ -184,8 +183,7 @@ impl<'a> Node<'a> {
             → IsView self.old st
             → Viewed self.new result (λ ended. Tells (node_step (at_step g number) (Delivers block.now) st) ended out.old.entries out.new.entries) }
         ensures moved { Moved D.tells D.made X.made D.faults X.faults devices.old devices.new }
-        ensures causes { IfErr result (λ stop. IsCausedBy D.tells stop (Rose (D.faults devices.old.disk.now) (D.faults devices.new.disk.now))
-            (Rose (X.faults devices.old.secrets.now) (X.faults devices.new.secrets.now)) (Reached devices.old.fuse devices.new.fuse)) }
+        ensures causes { StopsReading D.tells D.faults X.faults devices.old devices.new result }
         ensures fit { IsTrue D.tells → AreFit (non_zero_u32_get self.old.actor.terms.limit) (D.image devices.old.disk.now)
             → AreFit (non_zero_u32_get self.old.actor.terms.limit) (D.image devices.new.disk.now) }
     {
@@ -217,8 +215,7 @@ impl<'a> Node<'a> {
         ensures tells { (g : Lived) (number : ℕ) (st : Live directory.Unit) → IsOfLife g self.old → MayStep g number st → IsView self.old st
             → Viewed self.new result (λ ended. Tells (node_step (at_step g number) (sent_event message) st) ended out.old.entries out.new.entries) }
         ensures moved { Moved D.tells D.made X.made D.faults X.faults devices.old devices.new }
-        ensures causes { IfErr result (λ stop. IsCausedBy D.tells stop (Rose (D.faults devices.old.disk.now) (D.faults devices.new.disk.now))
-            (Rose (X.faults devices.old.secrets.now) (X.faults devices.new.secrets.now)) (Reached devices.old.fuse devices.new.fuse)) }
+        ensures causes { StopsReading D.tells D.faults X.faults devices.old devices.new result }
         ensures fit { IsTrue D.tells → AreFit (non_zero_u32_get self.old.actor.terms.limit) (D.image devices.old.disk.now)
             → AreFit (non_zero_u32_get self.old.actor.terms.limit) (D.image devices.new.disk.now) }
     {
@@ -248,8 +245,7 @@ impl<'a> Node<'a> {
         ensures tells { (g : Lived) (number : ℕ) (st : Live directory.Unit) → IsOfLife g self.old → MayStep g number st → IsView self.old st
             → Viewed self.new result (λ ended. Tells (node_step (at_step g number) (Reshare (Feed request block.now)) st) ended out.old.entries out.new.entries) }
         ensures moved { Moved D.tells D.made X.made D.faults X.faults devices.old devices.new }
-        ensures causes { IfErr result (λ stop. IsCausedBy D.tells stop (Rose (D.faults devices.old.disk.now) (D.faults devices.new.disk.now))
-            (Rose (X.faults devices.old.secrets.now) (X.faults devices.new.secrets.now)) (Reached devices.old.fuse devices.new.fuse)) }
+        ensures causes { StopsReading D.tells D.faults X.faults devices.old devices.new result }
         ensures fit { IsTrue D.tells → AreFit (non_zero_u32_get self.old.actor.terms.limit) (D.image devices.old.disk.now)
             → AreFit (non_zero_u32_get self.old.actor.terms.limit) (D.image devices.new.disk.now) }
     {
@@ -288,8 +284,7 @@ impl<'a> Node<'a> {
             → MayStep g number st → IsView self.old st
             → Viewed self.new result (λ ended. Tells (step_of g number event.now st) ended out.old.entries out.new.entries) }
         ensures moved { Moved D.tells D.made X.made D.faults X.faults devices.old devices.new }
-        ensures causes { IfErr result (λ stop. IsCausedBy D.tells stop (Rose (D.faults devices.old.disk.now) (D.faults devices.new.disk.now))
-            (Rose (X.faults devices.old.secrets.now) (X.faults devices.new.secrets.now)) (Reached devices.old.fuse devices.new.fuse)) }
+        ensures causes { StopsReading D.tells D.faults X.faults devices.old devices.new result }
         ensures fit { IsTrue D.tells → AreFit (non_zero_u32_get self.old.actor.terms.limit) (D.image devices.old.disk.now)
             → AreFit (non_zero_u32_get self.old.actor.terms.limit) (D.image devices.new.disk.now) }
     {
