@@ -23,12 +23,12 @@ module _ {Dir : Type 0} (c : Fixed Dir) (st : Live Dir) (from : ℕ) (round : Ro
       → recorded_at st.records.dealings round.number from ≡ None → Holds (peer_law c st from) [] (checked_dealing c round from public private st check)
   checked public private (Err e) is new = (tt, tt)
   checked public private (Ok passed) is new =
-      let accepted : IsAccepted c st round.number from public private = record { round = round; of_epoch = in_round; number = refl; new = new; valid = is } in
-      ((refl, refl, (public, accepted)), (tt, ((refl, accepted, refl), ((refl, record { round = round; of_epoch = in_round; number = refl; pair = (public, private); is = refl; of = inr (accepted, (refl, refl)) }), tt))))
+      let accepted : IsAccepted c st round.number from public private = record { round = round; of_epoch = in_round; of_round = refl; new = new; valid = is } in
+      ((refl, refl, (public, accepted)), (tt, ((refl, accepted, refl), ((refl, record { round = round; of_epoch = in_round; of_round = refl; pair = (public, private); is = refl; of = inr (accepted, (refl, refl)) }), tt))))
 
   of_recorded : (public : List ℕ) (private : ℕ) (kept : Option (List ℕ × ℕ)) → recorded_at st.records.dealings round.number from ≡ kept
       → Holds (peer_law c st from) [] (hears_dealing_in c round from public private st kept)
-  of_recorded public private (Some kept) is = ((refl, record { round = round; of_epoch = in_round; number = refl; pair = kept; is = refl; of = inl (refl, is) }), tt)
+  of_recorded public private (Some kept) is = ((refl, record { round = round; of_epoch = in_round; of_round = refl; pair = kept; is = refl; of = inl (refl, is) }), tt)
   of_recorded public private None new = checked public private (c.rules.dealing_of round c.me from public private) refl new
 
   a_dealing : (public : List ℕ) (private : ℕ) (seat : Seat) → Holds (peer_law c st from) [] (seats_dealing_in c round from public private st seat)

@@ -172,7 +172,7 @@ module _ {Dir : Type 0} (c : Fixed Dir) (st : Live Dir) (from : ℕ) (round : Ro
       → c.rules.dealing_of round c.me from public private ≡ check → Throughout P (checked_dealing c round from public private st check) w
   checked public private (Err e) is_event new is = (begins, tells _ tt)
   checked public private (Ok passed) is_event new is =
-      let accepted : IsAccepted c st round.number from public private = record { round = round; of_epoch = is_round; number = refl; new = new; valid = is } in (
+      let accepted : IsAccepted c st round.number from public private = record { round = round; of_epoch = is_round; of_round = refl; new = new; valid = is } in (
         torn_put public private is_event new accepted,
         (
           torn_append public private is_event new accepted,

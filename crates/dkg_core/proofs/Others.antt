@@ -407,7 +407,7 @@ owns c st most round dealer is_round is_dealer =
       (λ me. record {
         round = round;
         of_epoch = is_round;
-        number = refl;
+        of_round = refl;
         dealer = dealer;
         of_dealer = is_dealer;
         is_public = refl;
@@ -416,7 +416,7 @@ owns c st most round dealer is_round is_dealer =
       (λ other. record {
         round = round;
         of_epoch = is_round;
-        number = refl;
+        of_round = refl;
         dealer = dealer;
         of_dealer = is_dealer;
         is_public = refl;

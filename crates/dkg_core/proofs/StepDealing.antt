@@ -200,7 +200,7 @@ module _ {Dir : Type 0} (c : Fixed Dir) (st : Live Dir) (round : Round) (of_epoc
         (λ e. record {
           round = round;
           of_epoch = of_epoch;
-          number = refl;
+          of_round = refl;
           plays = plays;
           dealer = dealer;
           of_dealer = of_dealer;

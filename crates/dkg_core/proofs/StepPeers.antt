@@ -40,7 +40,7 @@ module _ {Dir : Type 0} (c : Fixed Dir) (st : Live Dir) (from : ℕ) (bytes : Li
       of_epoch = of_epoch;
       public = public;
       private = private;
-      accepted = record { round = round; of_epoch = of_epoch; number = refl; new = new; valid = is };
+      accepted = record { round = round; of_epoch = of_epoch; of_round = refl; new = new; valid = is };
       is = refl;
     }))
 

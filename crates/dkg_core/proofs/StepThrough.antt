@@ -108,7 +108,7 @@ module _ {Dir : Type 0} (c : Fixed Dir) where
       of_epoch = heard.of_epoch;
       public = heard.public;
       private = heard.private;
-      accepted = record { round = heard.accepted.round; of_epoch = heard.accepted.of_epoch; number = heard.accepted.number; new = heard.accepted.new; valid = heard.accepted.valid };
+      accepted = record { round = heard.accepted.round; of_epoch = heard.accepted.of_epoch; of_round = heard.accepted.of_round; new = heard.accepted.new; valid = heard.accepted.valid };
       is = ap unasked heard.is;
     })),
   )

@@ -119,7 +119,7 @@ OpeningsPrune Dir = (c : Fixed Dir) (most : ℕ) → StartsWithin c most → Hol
 pub record IsAccepted {Dir : Type 0} (c : Fixed Dir) (st : Live Dir) (epoch dealer : ℕ) (public : List ℕ) (private : ℕ) : Type 0 where
   pub round : Round
   pub of_epoch : st.participation.round ≡ Some round
-  pub number : epoch ≡ round.number
+  pub of_round : epoch ≡ round.number
   pub new : recorded_at st.records.dealings epoch dealer ≡ None
   pub valid : c.rules.dealing_of round c.me dealer public private ≡ Ok tt
 
@@ -138,7 +138,7 @@ WasRecorded epoch dealer public private (deed ∷ past) = (deed ≡ Said (Record
 pub record IsAcknowledged {Dir : Type 0} (c : Fixed Dir) (st : Live Dir) (past : List (Deed Dir)) (epoch dealer : ℕ) (ack : List ℕ) : Type 0 where
   pub round : Round
   pub of_epoch : st.participation.round ≡ Some round
-  pub number : epoch ≡ round.number
+  pub of_round : epoch ≡ round.number
   pub pair : List ℕ × ℕ
   pub is : ack ≡ c.rules.ack_of c.me round dealer pair.0
   pub of : ((past ≡ []) × (recorded_at st.records.dealings epoch dealer ≡ Some pair)) ⊎ (IsAccepted c st epoch dealer pair.0 pair.1 × WasRecorded epoch dealer pair.0 pair.1 past)
@@ -180,7 +180,7 @@ IsAmong a (x ∷ xs) = (x ≡ a) ⊎ IsAmong a xs
 pub record IsDealtToItself {Dir : Type 0} (c : Fixed Dir) (st : Live Dir) (epoch : ℕ) (public : List ℕ) (private : ℕ) : Type 0 where
   pub round : Round
   pub of_epoch : st.participation.round ≡ Some round
-  pub number : epoch ≡ round.number
+  pub of_round : epoch ≡ round.number
   pub dealer : Dealer
   pub of_dealer : st.participation.dealer ≡ Some dealer
   pub is_public : public ≡ dealer.public
@@ -194,7 +194,7 @@ OfOffers = (epoch player : ℕ) → List ℕ → ℕ → Type 0
 pub record IsOffered {Dir : Type 0} (c : Fixed Dir) (st : Live Dir) (epoch player : ℕ) (public : List ℕ) (private : ℕ) : Type 0 where
   pub round : Round
   pub of_epoch : st.participation.round ≡ Some round
-  pub number : epoch ≡ round.number
+  pub of_round : epoch ≡ round.number
   pub dealer : Dealer
   pub of_dealer : st.participation.dealer ≡ Some dealer
   pub is_public : public ≡ dealer.public

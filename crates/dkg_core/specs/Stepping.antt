@@ -95,7 +95,7 @@ given_itself c st = option_map_or (λ round. option_map_or (λ d. given_in c rou
 pub record OwnDiffers {Dir : Type 0} (c : Fixed Dir) (st : Live Dir) (epoch : ℕ) (kept dealt : List ℕ) : Type 0 where
   pub round : Round
   pub of_epoch : st.participation.round ≡ Some round
-  pub number : epoch ≡ round.number
+  pub of_round : epoch ≡ round.number
   pub plays : st.participation.seat ≡ Plays
   pub dealer : Dealer
   pub of_dealer : st.participation.dealer ≡ Some dealer

@@ -610,7 +610,7 @@ module _ (g : Lived) (here : IsLifeInForm g) where
           deals_other : st.participation.stage ≡ Deals → (own : Fault) → IsDealingStop c st own → IsBlockOwn g.script g.number g.life i b own
           deals_other stage (fault.LocalState (local.OwnDealing number kept dealt)) why =
               let apart : st.participation.stage ≡ Follows → ⊥ = λ follows. deals_apart (sym stage ∙ follows) in
-              let at : number ≡ epoch_by g i = why.number ∙ (live.stands).numbered why.round why.of_epoch ∙ stands.epoch apart in
+              let at : number ≡ epoch_by g i = why.of_round ∙ (live.stands).numbered why.round why.of_epoch ∙ stands.epoch apart in
               inr (accepted_by b Applied applied refl, (at, ap (follows (alone g.script) g.number g.life) at ∙ stands.parts apart, why.differs))
           deals_other stage own why = absurd why
 

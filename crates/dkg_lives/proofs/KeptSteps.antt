@@ -437,7 +437,7 @@ module _ {Dir : Type 0} (c : Fixed Dir) (b e l : ℕ) (life : Life) (j number : 
   lines_kept (entry.Ack epoch dealer ack ∷ lines) q same fine given older = absurd fine.0.0
   lines_kept (entry.Recorded epoch dealer public private ∷ lines) q same fine given older =
       let own : IsDealtToItself c st epoch public private = fine.0.0.1 in
-      let is : epoch ≡ e = own.number ∙ (in_round own.round own.of_epoch).1 in
+      let is : epoch ≡ e = own.of_round ∙ (in_round own.round own.of_epoch).1 in
       let above : b - 1 ≤ epoch = omega (arith, is, current) in
       let there : get m (epoch, dealer) ≡ Some (public, private) = fine.0.1 above in
       let rest = lines_kept lines (read s q (entry.Recorded epoch dealer public private)) (record { cuts = same.cuts; step = same.step; opened = same.opened }) fine.1

@@ -74,7 +74,7 @@ module _ (g : Lived) (taken : ℕ) (st : Live directory.Unit) (h : Held) (drawn 
   pub own_dealt : (epoch : ℕ) (kept dealt : List ℕ) → OwnDiffers (at_step g taken) st epoch kept dealt → (held : Secrets) → held.seeds ≡ h.secrets.seeds → held.shares ≡ h.secrets.shares
       → IsBegunBy g.script epoch (IsDealtBy g.script held epoch dealt)
   own_dealt epoch kept dealt own held seeds shares =
-      subst (λ (e : ℕ). IsBegunBy g.script e (IsDealtBy g.script held e dealt)) (sym own.number)
+      subst (λ (e : ℕ). IsBegunBy g.script e (IsDealtBy g.script held e dealt)) (sym own.of_round)
       (begun_as g.script (own.round).number (λ its. its ≡ own.round) (IsDealtBy g.script held (own.round).number dealt) (λ round is. subst (IsDealtBy g.script held (own.round).number dealt) (sym is) here) (drawn own.round own.of_epoch))
     where
       stored : IsStoredDealer g.script.config.me st own.dealer h

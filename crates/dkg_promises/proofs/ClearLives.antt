@@ -304,7 +304,7 @@ module _ (s : Setting) (ends : List (Option CutAt)) (valid : IsValidCase s ends)
           found_own = own_found g (suc i) st w.held (((clear.owns).passing).agreed).dealings epoch kept dealt differs
 
           number_is : epoch ≡ (stored.round).number
-          number_is = differs.number ∙ ap (λ (r : Round). r.number) (some_is (sym differs.of_epoch ∙ stored.of_epoch))
+          number_is = differs.of_round ∙ ap (λ (r : Round). r.number) (some_is (sym differs.of_epoch ∙ stored.of_epoch))
 
           made : round_at s epoch ≡ Some stored.round
           made = ap (round_at s) number_is ∙ ((clear.owns).passing).rounds stored.round stored.of_epoch

@@ -240,7 +240,7 @@ module _ (s : Setting) (cuts : List (Option CutAt)) (form : IsFormOfInclusion s.
             same_round = some_is (sym offered.of_epoch ∙ stored.of_epoch)
 
             number_is : (stored.round).number ≡ epoch
-            number_is = ap (λ (r : Round). r.number) (sym same_round) ∙ sym offered.number
+            number_is = ap (λ (r : Round). r.number) (sym same_round) ∙ sym offered.of_round
 
             epoch_is : epoch ≡ epoch_by g i
             epoch_is = sym number_is ∙ (live.stands).numbered stored.round stored.of_epoch ∙ ((standing.at).stands).epoch (with_round (at_step g (suc i)) (unasked st) stored.round live.stands stored.of_epoch)

@@ -63,7 +63,7 @@ module _ (g : Lived) (taken : ℕ) (st : Live directory.Unit) (now : Held) (same
   own_found epoch kept dealt why = (
     why.private,
     get-entries (recovered_in now) (epoch, g.script.config.me)
-        ∙ ap (λ (ps : List Pair). recorded_at ps epoch g.script.config.me) (sym same) ∙ ap (λ (e : ℕ). recorded_at st.records.dealings e g.script.config.me) why.number ∙ why.recorded,
+        ∙ ap (λ (ps : List Pair). recorded_at ps epoch g.script.config.me) (sym same) ∙ ap (λ (e : ℕ). recorded_at st.records.dealings e g.script.config.me) why.of_round ∙ why.recorded,
   )
 
 module _ (g : Lived) (taken : ℕ) (st : Live directory.Unit) (pairs : Pairs) (same : st.records.dealings ≡ maps.entries pairs) where
