@@ -1,8 +1,7 @@
 //! The examples: a file of their names and statuses, and of each a script and its transcript.
 
-use crate::cases::Case;
 use crate::replay;
-use crate::told::{self, Count};
+use dkg_cases::{Case, Count, tell_count};
 use std::fs;
 use std::io::{self, Write};
 
@@ -41,6 +40,6 @@ pub fn all<W: Write>(rt: &HostRuntime, sink: &mut W) -> io::Result<Count> {
     for line in names.lines() {
         one(rt, line, &mut count, sink)?;
     }
-    told::tell_count(rt.alloc(), "examples", &count, sink)?;
+    tell_count(rt.alloc(), "examples", &count, sink)?;
     Ok(count)
 }

@@ -5,17 +5,13 @@
 //! and ends with status 1 where something differs or a file can't be read.
 #![tactic(auto)]
 
-mod cases;
 mod examples;
-mod paths;
 mod replay;
 mod telling;
-mod told;
-mod values;
 
+use dkg_cases::{Count, tell_count};
 use std::process::ExitCode;
 use std::{fs, io};
-use told::Count;
 
 /// Replays the cases of a form, and tells how many there are and how many differ.
 fn replay_form(rt: &HostRuntime, form: &str) -> io::Result<Count> {
@@ -24,7 +20,7 @@ fn replay_form(rt: &HostRuntime, form: &str) -> io::Result<Count> {
     let bytes = fs::read(rt, name.as_str())?;
     let mut sink = io::writer(rt);
     let count = replay::all(alloc, form, bytes.as_slice(), &mut sink)?;
-    told::tell_count(alloc, form, &count, &mut sink)?;
+    tell_count(alloc, form, &count, &mut sink)?;
     Ok(count)
 }
 
@@ -33,8 +29,8 @@ fn read_values(rt: &HostRuntime) -> io::Result<Count> {
     let alloc = rt.alloc();
     let bytes = fs::read(rt, "values.cases")?;
     let mut sink = io::writer(rt);
-    let count = values::all(alloc, bytes.as_slice(), &mut sink)?;
-    told::tell_count(alloc, "values", &count, &mut sink)?;
+    let count = dkg_cases::read_values(alloc, bytes.as_slice(), &mut sink)?;
+    tell_count(alloc, "values", &count, &mut sink)?;
     Ok(count)
 }
 
@@ -43,8 +39,8 @@ fn scan_paths(rt: &HostRuntime) -> io::Result<Count> {
     let alloc = rt.alloc();
     let bytes = fs::read(rt, "paths.cases")?;
     let mut sink = io::writer(rt);
-    let count = paths::all(alloc, bytes.as_slice(), &mut sink)?;
-    told::tell_count(alloc, "paths", &count, &mut sink)?;
+    let count = dkg_cases::scan_ancestries(alloc, bytes.as_slice(), &mut sink)?;
+    tell_count(alloc, "paths", &count, &mut sink)?;
     Ok(count)
 }
 
@@ -54,7 +50,7 @@ fn tell_persons(rt: &HostRuntime) -> io::Result<Count> {
     let bytes = fs::read(rt, "told.cases")?;
     let mut sink = io::writer(rt);
     let count = telling::all(alloc, bytes.as_slice(), &mut sink)?;
-    told::tell_count(alloc, "told", &count, &mut sink)?;
+    tell_count(alloc, "told", &count, &mut sink)?;
     Ok(count)
 }
 
@@ -69,7 +65,7 @@ fn replay_all(rt: &HostRuntime) -> io::Result<Count> {
     total.add(&read_values(rt)?);
     total.add(&scan_paths(rt)?);
     total.add(&tell_persons(rt)?);
-    told::tell_count(rt.alloc(), "all", &total, &mut io::writer(rt))?;
+    tell_count(rt.alloc(), "all", &total, &mut io::writer(rt))?;
     Ok(total)
 }
 

@@ -1,7 +1,6 @@
 //! Runs cases over new devices in memory, and compares.
 
-use crate::cases::{Case, case_of};
-use crate::told::{self, Count};
+use dkg_cases::{Case, Count, case_of, tell_lines};
 use dkg_run::{MemorySink, MemorySource, fresh_devices, run_command};
 use dkg_types::Transcript;
 use std::alloc::Global;
@@ -53,7 +52,7 @@ pub fn one<W: Write>(
     let agrees = agrees(case, &run);
     count.take(agrees);
     if !agrees {
-        told::tell_difference(alloc, form, case, &run, sink)?;
+        tell_lines(alloc, form, case, run.status, run.sink.bytes(), sink)?;
     }
     Ok(())
 }

@@ -2,8 +2,7 @@
 //!
 //! Of such a case the second text is not a transcript but what stands on standard error.
 
-use crate::cases::{Case, case_of};
-use crate::told::{self, Count};
+use dkg_cases::{Case, Count, case_of, tell_lines};
 use dkg_run::{MemorySink, MemorySource, fresh_devices, run_command};
 use dkg_told::KeptSource;
 use dkg_types::Transcript;
@@ -54,7 +53,7 @@ fn one<W: Write>(
     let agrees = telling.status == case.status && telling.words.as_slice() == case.transcript;
     count.take(agrees);
     if !agrees {
-        told::tell_lines(alloc, "told", case, telling.status, &telling.words, sink)?;
+        tell_lines(alloc, "told", case, telling.status, &telling.words, sink)?;
     }
     Ok(())
 }

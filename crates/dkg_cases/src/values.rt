@@ -3,7 +3,7 @@
 //! A line of the file is `KIND LIMIT VERSION ANSWER HEX DIGEST`: the number of participants and the newest mode that the reader
 //! is given, 0 or the number of the codec's error, the bytes, and of a block that is read its digest (else `-`).
 
-use crate::told::Count;
+use crate::counts::Count;
 use dkg_ceremony::ModeVersion;
 use dkg_types::{
     Address, Addresses, Block, Context, Directory, EpochInfo, Finalization, Message, Participants,
@@ -132,7 +132,7 @@ fn agrees(alloc: Global, text: &str) -> Mem<bool> {
 }
 
 /// Reads all lines of a file, and tells each that is answered otherwise.
-pub fn all<W: io::Write>(alloc: Global, bytes: &[u8], sink: &mut W) -> io::Result<Count> {
+pub fn read_values<W: io::Write>(alloc: Global, bytes: &[u8], sink: &mut W) -> io::Result<Count> {
     let mut count = Count::new();
     let Ok(text) = str::from_utf8(bytes) else {
         count.take(false);

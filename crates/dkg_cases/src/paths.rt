@@ -6,7 +6,7 @@
 //! hexadecimal, members of a list have commas between them, and what isn't there is `-`.
 ghost use Rattle.std.specs.Prelude.{◌<◌, IfSome, IsTrue};
 
-use crate::told::Count;
+use crate::counts::Count;
 use dkg_artifact::{Fed, Scan, Tip, verify_logs};
 use dkg_ceremony::{
     Bounds, Ceremony, DealerLog, Epocher, Mode, ModeVersion, Output, Reveal, Round, StandCeremony,
@@ -253,7 +253,11 @@ fn is_answered(alloc: Global, text: &str) -> Option<bool> {
 }
 
 /// Scans all lines of a file, and tells each that is answered otherwise.
-pub fn all<W: io::Write>(alloc: Global, bytes: &[u8], sink: &mut W) -> io::Result<Count> {
+pub fn scan_ancestries<W: io::Write>(
+    alloc: Global,
+    bytes: &[u8],
+    sink: &mut W,
+) -> io::Result<Count> {
     let mut count = Count::new();
     let Ok(text) = str::from_utf8(bytes) else {
         count.take(false);

@@ -1,7 +1,6 @@
-//! What is printed: a line a form, and each difference.
+//! What is printed: a line a form, and each case that differs.
 
 use crate::cases::Case;
-use crate::replay::Run;
 use std::alloc::Global;
 use std::io::{self, Write};
 
@@ -66,18 +65,7 @@ fn first_difference<'a>(wanted: &'a [u8], got: &'a [u8]) -> (u64, &'a [u8], &'a 
     (number, none, others.next().unwrap_or(none))
 }
 
-/// Tells a case that differs: its line, what is wanted there, and what was written.
-pub fn tell_difference<W: Write>(
-    alloc: Global,
-    form: &str,
-    case: &Case<'_>,
-    run: &Run,
-    sink: &mut W,
-) -> io::Result<()> {
-    tell_lines(alloc, form, case, run.status, run.sink.bytes(), sink)
-}
-
-/// The same of a case that ended with a status and wrote some bytes.
+/// Tells a case that differs: the status that it ended with, the first line in which what was written isn't what is wanted, and both lines.
 pub fn tell_lines<W: Write>(
     alloc: Global,
     form: &str,
