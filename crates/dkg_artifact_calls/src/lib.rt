@@ -4,6 +4,8 @@
 #[cfg(test)]
 mod asserts;
 #[cfg(test)]
+mod fed;
+#[cfg(test)]
 mod logs;
 #[cfg(test)]
 mod requests;

@@ -1,0 +1,16 @@
+use Rattle.std.specs.Int.NonZero.{non_zero_u64_get}
+use Rattle.dkg_reshare.proofs.Ending.{stands_again}
+use Rattle.dkg_dealing.specs.Ready.{IsReadyLife}
+use Rattle.dkg_inclusion.specs.InclusionOf.{IsSettledInclusion}
+use Rattle.dkg_reshare_calls.proofs.Settled.{again}
+use Rattle.dkg_reshare_calls.proofs.calls.work.Goals as goal
+
+pub returns-clause-at : goal.returns-clause-at
+returns-clause-at g c = stands_again g.D.Disk.tells g.D.Disk.files g.D.Disk.image g.C.Ceremony.ack_of g.C.Ceremony.deal_of g.C.Ceremony.check_ack_of c.work.new.self.terms c.work.new.self.state c.work.new.devices c.work.result c.work.ensures.ends
+
+pub returns-clause-including : goal.returns-clause-including
+returns-clause-including g c =
+    again c.work.new.self.state c.work.result
+    (λ life. IsReadyLife g.D.Disk.tells g.D.Disk.files g.D.Disk.image g.C.Ceremony.ack_of g.C.Ceremony.deal_of g.C.Ceremony.check_ack_of c.work.new.self.terms life c.work.new.devices)
+    (IsSettledInclusion g.C.Ceremony.check_log_of g.C.Ceremony.dealing_of g.C.Ceremony.finish_of (non_zero_u64_get c.work.new.self.terms.blocks_per_epoch))
+    c.work.ensures.ends c.work.ensures.including

@@ -1,0 +1,224 @@
+//! Requests at an epoch's midpoint: for a final block's info, which is answered behind a verification, and for a log.
+ghost use Rattle.std.specs.Prelude.{OnOk};
+ghost use Rattle.std.specs.Int.NonZero.{non_zero_u64_get};
+ghost use Rattle.dkg_inclusion.specs.InclusionOf.{IsSettledInclusion};
+ghost use Rattle.dkg_reshare.specs.Actors.{IfIncluding, IsOpenedOn, IsNew};
+
+use crate::actors::plain_actor;
+use crate::blocks::first_source;
+use crate::calls::{open, step, work};
+use dkg_ceremony::Ceremony;
+use dkg_dealing::BlockSource;
+use dkg_fence::Fence;
+use dkg_inclusion::{EpochInfoResponse, Told};
+use dkg_journal::{Disk, Fuse, MemoryDisk};
+use dkg_reshare::{Actor, Message};
+use dkg_store::{Devices, MemorySecrets, SecretStore};
+use dkg_types::{Block, ParticipantsProvider, Payload, Registrar, Transcript, Unit};
+use dkg_values::{Height, Mem, Value};
+use std::alloc::Global;
+use std::test::Fail;
+
+/// Whether a request waits for its answer.
+fn is_posted(told: Option<&Told<Unit>>) -> bool {
+    matches!(told, Some(Told::Posted))
+}
+
+/// Whether the answer is that no log is there.
+fn has_no_log(told: Option<&Told<Unit>>) -> bool {
+    match told {
+        Some(Told::Log(log)) => log.get().is_none(),
+        _ => false,
+    }
+}
+
+/// Whether the answer is an info, which a copy keeps.
+fn has_info(alloc: Global, told: Option<&Told<Unit>>) -> Mem<bool> {
+    match told {
+        Some(told) => {
+            let copy = told.copy(alloc)?;
+            Ok(copy.same(told) && is_info(&copy))
+        }
+        None => Ok(false),
+    }
+}
+
+fn is_info(told: &Told<Unit>) -> bool {
+    match told {
+        Told::Info(response) => {
+            matches!(
+                response.get(),
+                EpochInfoResponse::Available(Some(Payload::EpochInfo(_)))
+            )
+        }
+        Told::Posted | Told::Log(_) => false,
+    }
+}
+
+/// An opening at a midpoint, the request for the info of the final block, which is fed the block below that, and the one for a log. Behind these a
+/// verification runs, and the requests were told what the caller looks for.
+fn asked<
+    C: Ceremony + Drop,
+    P: ParticipantsProvider<Dir = Unit>,
+    R: Registrar,
+    M,
+    D: Disk,
+    X: SecretStore,
+    B: BlockSource<Unit>,
+>(
+    alloc: Global,
+    actor: &mut Actor<C, P, R, M, Unit>,
+    devices: &mut Devices<'_, D, X>,
+    source: &B,
+    below: Block<Unit>,
+    fence: &mut Fence,
+    out: &mut Transcript,
+) -> Result<(), Fail>
+    requires { IsNew actor.old.state }
+    ensures at { OnOk result (IsOpenedOn D.tells D.files D.image C.ack_of C.deal_of C.check_ack_of actor.new.terms actor.new.state devices.new) }
+    ensures including { OnOk result (IfIncluding actor.new.state (IsSettledInclusion C.check_log_of C.dealing_of C.finish_of
+        (non_zero_u64_get actor.new.terms.blocks_per_epoch))) }
+{
+    if open(alloc, actor, devices, source, fence, out).is_err() {
+        return Err(Fail::from("not opened"));
+    }
+    let request = Message::EpochInfo { request: 1 };
+    if step(alloc, actor, devices, source, request, fence, out).is_err() {
+        return Err(Fail::from("not asked"));
+    }
+    if !is_posted(actor.told(1)) {
+        return Err(Fail::from("a request that wasn't fed is answered"));
+    }
+    let fed = Message::Feed {
+        request: 1,
+        block: below,
+    };
+    if step(alloc, actor, devices, source, fed, fence, out).is_err() {
+        return Err(Fail::from("not fed"));
+    }
+    let next = Message::NextLog {
+        request: 2,
+        height: Height(1),
+    };
+    if step(alloc, actor, devices, source, next, fence, out).is_err() {
+        return Err(Fail::from("asked for no log"));
+    }
+    if !has_no_log(actor.told(2)) {
+        return Err(Fail::from("a log of who deals nothing"));
+    }
+    if actor.running().is_none() {
+        return Err(Fail::from("no verification runs"));
+    }
+    Ok(())
+}
+
+/// The end of that verification. Whether the first request is answered by an info.
+fn verified<
+    C: Ceremony + Drop,
+    P: ParticipantsProvider<Dir = Unit>,
+    R: Registrar,
+    M,
+    D: Disk,
+    X: SecretStore,
+    B: BlockSource<Unit>,
+>(
+    alloc: Global,
+    actor: &mut Actor<C, P, R, M, Unit>,
+    devices: &mut Devices<'_, D, X>,
+    source: &B,
+    fence: &mut Fence,
+    out: &mut Transcript,
+) -> Result<bool, Fail>
+    requires at { IsOpenedOn D.tells D.files D.image C.ack_of C.deal_of C.check_ack_of actor.old.terms actor.old.state devices.old }
+    requires including { IfIncluding actor.old.state (IsSettledInclusion C.check_log_of C.dealing_of C.finish_of
+        (non_zero_u64_get actor.old.terms.blocks_per_epoch)) }
+{
+    if work(alloc, actor, devices, source, fence, out).is_err() {
+        return Err(Fail::from("not verified"));
+    }
+    if actor.running().is_some() {
+        return Err(Fail::from("a verification that has ended runs"));
+    }
+    Ok(has_info(alloc, actor.told(1))?)
+}
+
+/// An opening with its requests, and the end of the verification. Whether the first request is answered by an info.
+fn includes<
+    C: Ceremony + Drop,
+    P: ParticipantsProvider<Dir = Unit>,
+    R: Registrar,
+    M,
+    D: Disk,
+    X: SecretStore,
+    B: BlockSource<Unit>,
+>(
+    alloc: Global,
+    actor: &mut Actor<C, P, R, M, Unit>,
+    devices: &mut Devices<'_, D, X>,
+    source: &B,
+    below: Block<Unit>,
+    out: &mut Transcript,
+) -> Result<bool, Fail>
+    requires { IsNew actor.old.state }
+{
+    let mut fence = Fence::new();
+    asked(alloc, actor, devices, source, below, &mut fence, out)?;
+    verified(alloc, actor, devices, source, &mut fence, out)
+}
+
+/// That over these devices, of which the first block is the one that the source has processed. Whether a request is answered by an info, and how many
+/// lines were told.
+fn answer_over<
+    C: Ceremony + Drop,
+    P: ParticipantsProvider<Dir = Unit>,
+    R: Registrar,
+    D: Disk,
+    X: SecretStore,
+    B: BlockSource<Unit>,
+>(
+    alloc: Global,
+    actor: &mut Actor<C, P, R, Unit, Unit>,
+    disk: &mut D,
+    secrets: &mut X,
+    source: &B,
+) -> Result<(bool, usize), Fail>
+    requires { IsNew actor.old.state }
+{
+    let Some(first) = source.anchor() else {
+        return Err(Fail::from("no block"));
+    };
+    let below = first.copy(alloc)?;
+    let mut devices = Devices {
+        disk,
+        secrets,
+        fuse: Fuse::never(),
+    };
+    let mut out = Transcript::new(alloc);
+    let answered = includes(alloc, actor, &mut devices, source, below, &mut out)?;
+    Ok((answered, out.entries().len()))
+}
+
+/// .. of an actor of the plain ceremony.
+fn plain_answer<D: Disk, X: SecretStore, B: BlockSource<Unit>>(
+    alloc: Global,
+    disk: &mut D,
+    secrets: &mut X,
+    source: &B,
+) -> Result<(bool, usize), Fail> {
+    let mut actor = plain_actor(alloc, 2)?;
+    answer_over(alloc, &mut actor, disk, secrets, source)
+}
+
+/// .. over memory.
+fn answered(alloc: Global) -> Result<(bool, usize), Fail> {
+    let source = first_source(alloc)?;
+    let mut disk = MemoryDisk::new(alloc);
+    let mut secrets = MemorySecrets::new(alloc);
+    plain_answer(alloc, &mut disk, &mut secrets, &source)
+}
+
+#[test]
+fn an_actor_answers_requests(rt: HostRuntime) -> Result<(), Fail> {
+    assert_eq!(rt; answered(rt.alloc())?, (true, 6));
+    Ok(())
+}

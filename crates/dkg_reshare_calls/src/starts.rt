@@ -1,0 +1,30 @@
+//! Where a life starts, with a floor and without one.
+
+use crate::blocks::{bare, first_source};
+use dkg_dealing::{BlockSource, startup};
+use dkg_types::Unit;
+use std::alloc::Global;
+use std::test::Fail;
+
+/// The heights at which a life starts without a floor, and with one of height 3 whose parent's digest is the first block's.
+fn starts<B: BlockSource<Unit>>(alloc: Global, source: &B) -> Result<[u64; 2], Fail> {
+    let Some(first) = source.anchor() else {
+        return Err(Fail::from("no block"));
+    };
+    let digest = first.digest();
+    let floor = bare(alloc, digest, 3)?;
+    match (startup(source, None), startup(source, Some(&floor))) {
+        (Some(held), Some(above)) if held.digest == digest && above.digest == digest => {
+            Ok([held.height.0, above.height.0])
+        }
+        _ => Err(Fail::from("no start, or of another block")),
+    }
+}
+
+#[test]
+fn a_life_starts_at_the_floor(rt: HostRuntime) -> Result<(), Fail> {
+    let alloc = rt.alloc();
+    let source = first_source(alloc)?;
+    assert_eq!(rt; starts(alloc, &source)?, [0, 2]);
+    Ok(())
+}

@@ -1,4 +1,0 @@
-use Rattle.dkg_rows.proofs.reshare.lives.plain_life.Goals as goal
-
-pub life_over-requires : goal.life_over-requires
-life_over-requires g c = c.in_ok-actor.ensures
