@@ -7,8 +7,8 @@ ghost use Rattle.dkg_ceremony.specs.Entries.{AreEntries};
 use crate::log_entry::{LogEntry, known};
 use bytes::BytesMut;
 use dkg_values::{
-    CodecError, EncodeSize, Mem, Read, Reader, Shared, Spelled, Value, Write, read_count, read_many,
-    uint_size, write_uint,
+    CodecError, EncodeSize, Mem, Read, Reader, Shared, Spelled, Value, Write, read_count,
+    read_many, uint_size, write_uint,
 };
 use std::alloc::Global;
 use std::marker::Model;
