@@ -113,7 +113,7 @@ pub record FailsStop {C Dir Signer Cfg : Type 0} (state : State C Dir Signer Cfg
   pub only : IsErrOf result Failed → HasFailed state
 
 -- WHAT STAYS of an actor over a call: its life's random word, the parts that it was made of, and what its provider says, if that tells.
-pub record Stays {C Dir Signer Cfg : Type 0} (old new : State C Dir Signer Cfg) (same : Type 0) (tells : Bool) (participants participants_now : ℕ → List ℕ)
+pub record ActorStays {C Dir Signer Cfg : Type 0} (old new : State C Dir Signer Cfg) (same : Type 0) (tells : Bool) (participants participants_now : ℕ → List ℕ)
     (directory directory_now : ℕ → List ℕ → Dir) : Type 0 where
   pub word : IfLiving old (λ life. IfLiving new (λ now. now.word ≡ life.word))
   pub rest : same

@@ -20,7 +20,7 @@ ghost use Rattle.dkg_dealing.specs.Opened.{IsInGrammar, IsOpeningOf, OpensReadab
 ghost use Rattle.dkg_dealing.specs.Rules.{IncludesBy, IsRuledBy, SameProvided};
 ghost use Rattle.dkg_dealing.specs.Planless.{IsBareOpening};
 ghost use Rattle.dkg_inclusion.specs.InclusionOf.{IsSeen, IsSettledInclusion, result_of};
-ghost use Rattle.dkg_reshare.specs.Actors.{AreTerms, BringsWithin, EndsAt, FailsStop, IfIncluding, IfLiving, IsAgreed, IsOpenedOn, IsNew, MovesOn, Stays, lives, message_of, running_in, told_in};
+ghost use Rattle.dkg_reshare.specs.Actors.{ActorStays, AreTerms, BringsWithin, EndsAt, FailsStop, IfIncluding, IfLiving, IsAgreed, IsOpenedOn, IsNew, MovesOn, lives, message_of, running_in, told_in};
 ghost use Rattle.dkg_reshare.specs.CarriedLogs.{CarriesWithin};
 
 use crate::blocks::take_block;
@@ -326,7 +326,7 @@ impl<
         ensures ends { EndsAt self.new.state result (λ life. IsReadyLife D.tells D.files D.image C.ack_of C.deal_of C.check_ack_of self.new.terms life
             devices.new) }
         // A life keeps its random word, the other parts stay, and a provider that tells says what it said.
-        ensures stays { Stays self.old.state self.new.state ((self.new.ceremony ≡ self.old.ceremony) × (self.new.signer ≡ self.old.signer)
+        ensures stays { ActorStays self.old.state self.new.state ((self.new.ceremony ≡ self.old.ceremony) × (self.new.signer ≡ self.old.signer)
             × (self.new.manager ≡ self.old.manager) × (self.new.terms ≡ self.old.terms))
             P.tells (P.participants_of self.old.provider) (P.participants_of self.new.provider)
             (P.directory_of self.old.provider) (P.directory_of self.new.provider) }
@@ -405,7 +405,7 @@ impl<
         ensures ends { EndsAt self.new.state result (λ life. IsReadyLife D.tells D.files D.image C.ack_of C.deal_of C.check_ack_of self.new.terms life
             devices.new) }
         // A life keeps its random word, the other parts stay, and a provider that tells says what it said.
-        ensures stays { Stays self.old.state self.new.state ((self.new.ceremony ≡ self.old.ceremony) × (self.new.signer ≡ self.old.signer)
+        ensures stays { ActorStays self.old.state self.new.state ((self.new.ceremony ≡ self.old.ceremony) × (self.new.signer ≡ self.old.signer)
             × (self.new.manager ≡ self.old.manager) × (self.new.terms ≡ self.old.terms))
             P.tells (P.participants_of self.old.provider) (P.participants_of self.new.provider)
             (P.directory_of self.old.provider) (P.directory_of self.new.provider) }
@@ -485,7 +485,7 @@ impl<
         ensures ends { EndsAt self.new.state result (λ life. IsReadyLife D.tells D.files D.image C.ack_of C.deal_of C.check_ack_of self.new.terms life
             devices.new) }
         // A life keeps its random word, the other parts stay, and a provider that tells says what it said.
-        ensures stays { Stays self.old.state self.new.state ((self.new.ceremony ≡ self.old.ceremony) × (self.new.signer ≡ self.old.signer)
+        ensures stays { ActorStays self.old.state self.new.state ((self.new.ceremony ≡ self.old.ceremony) × (self.new.signer ≡ self.old.signer)
             × (self.new.manager ≡ self.old.manager) × (self.new.terms ≡ self.old.terms))
             P.tells (P.participants_of self.old.provider) (P.participants_of self.new.provider)
             (P.directory_of self.old.provider) (P.directory_of self.new.provider) }
