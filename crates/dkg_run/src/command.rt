@@ -365,9 +365,9 @@ fn entries_from(out: &Transcript, place: usize) -> &[Entry]
     out.entries().get(place..).unwrap_or(&[])
 }
 
-/// Does what the words say. `run` reads a script from the source, runs its lives over the devices, and writes the
-/// lines of the new entries and the status's last line to the sink. `make N` runs the made script of the number N over them, and writes a summary; `make N script`
-/// writes that script's text. Any other words are Usage.
+/// Does what the words say. `run` reads a script from the source, runs its lives over the devices, and writes the lines of the new
+/// entries and the status's last line to the sink. `make N` runs the made script of the number N over them, and writes a summary;
+/// `make N script` writes that script's text. Any other words are Usage.
 pub fn run_command<S: Source, K: Sink, D: Disk, X: SecretStore>(
     alloc: Global,
     words: &[String],

@@ -243,7 +243,8 @@ impl<'a> Node<'a> {
             → Viewed self.new result (λ ended. Makes D.files D.image X.held (node_step (at_step g number) (Reshare (Feed request block.now)) st) ended
             devices.old devices.new out.old.entries out.new.entries) }
         ensures tells { (g : Lived) (number : ℕ) (st : Live directory.Unit) → IsOfLife g self.old → MayStep g number st → IsView self.old st
-            → Viewed self.new result (λ ended. Tells (node_step (at_step g number) (Reshare (Feed request block.now)) st) ended out.old.entries out.new.entries) }
+            → Viewed self.new result (λ ended. Tells (node_step (at_step g number) (Reshare (Feed request block.now)) st) ended
+            out.old.entries out.new.entries) }
         ensures moved { Moved D.tells D.made X.made D.faults X.faults devices.old devices.new }
         ensures causes { StopsReading D.tells D.faults X.faults devices.old devices.new result }
         ensures fit { IsTrue D.tells → AreFit (non_zero_u32_get self.old.actor.terms.limit) (D.image devices.old.disk.now)
