@@ -40,7 +40,7 @@ use Rattle.dkg_core.specs.Laws.{IsAmong}
 use Rattle.dkg_core.specs.Live.{Artifact, Cancel, Deals, Ends, EpochInfoOf, Faulted, Feed, Finalized, Follows, GaveNone, Inclusion, Includes, Job, Live, Mail, Message, NextLog, NodeStop, Over, Peer, ReleaseLog, Request, Sent, Stage, VerifiedLogs, Verified, Work, is_last_height, recorded_at, with_inclusion, with_participation, with_queue, with_tip, with_told, with_used}
 use Rattle.dkg_core.specs.Logs.{canonical, filled_by, is_accepted, log_event}
 use Rattle.dkg_core.specs.Node.{node_step, unless_once}
-use Rattle.dkg_core.specs.NodeSaying.{IsHalfLine}
+use Rattle.dkg_laws.specs.NodeSaying.{IsHalfLine}
 use Rattle.dkg_core.specs.Said.{Said, SaysAll}
 use Rattle.dkg_core.specs.SayingThrough.{IsUnasked, SaysSo}
 use Rattle.dkg_core.specs.Setup as s

@@ -28,7 +28,7 @@ use Rattle.dkg_core.specs.Laws.{IsAmong}
 use Rattle.dkg_core.specs.Live as core
 use Rattle.dkg_core.specs.Live.{Cancel, Deals, Dealer, Ends, EpochInfoOf, Feed, Finalized, Follows, Inclusion, Includes, Job, Live, Mail, Message, NextLog, Over, Peer, ReleaseLog, Request, Sent, Stage, Work, is_last_height, recorded_at, with_inclusion, with_participation, with_tip}
 use Rattle.dkg_core.specs.Logs.{is_accepted}
-use Rattle.dkg_core.specs.NodeThrough.{IsNodeThrough}
+use Rattle.dkg_laws.specs.NodeThrough.{IsNodeThrough}
 use Rattle.dkg_core.specs.Seen.{Seen}
 use Rattle.dkg_core.specs.Setup.{Uncommitted, begins_inclusion}
 use Rattle.dkg_core.specs.Stepping.{IsHeardBy, dealt_behind, given_itself, next_epoch, with_taken}

@@ -37,7 +37,7 @@ use Rattle.dkg_core.specs.Entering as half
 use Rattle.dkg_core.specs.Entering.{takes_delivered}
 use Rattle.dkg_core.specs.Fixed.{Fixed, Material, OneShot, has, start}
 use Rattle.dkg_core.specs.Forms.{IsForm, round_for, seed_read, share_read}
-use Rattle.dkg_core.specs.Idle.{IsAskedLine}
+use Rattle.dkg_laws.specs.Idle.{IsAskedLine}
 use Rattle.dkg_core.specs.Including as i
 use Rattle.dkg_core.specs.Including.{cached_for, can_finish, job_for, retained_for, retains, verified}
 use Rattle.dkg_core.specs.Live.{Artifact, Deals, Dealer, Ends, Faulted, Finalized, Follows, GaveNone, Includes, Inclusion, Job, Live, Peer, Plays, Request, Seat, Sent, Stage, VerifiedLogs, Watches, awaited_height, is_last_height, of_epoch, phase_of, recorded_at, with_inclusion, with_participation, with_tip, with_told}
@@ -55,7 +55,7 @@ use Rattle.dkg_core.proofs.Artifacts.{artifact_is, cached_is}
 use Rattle.dkg_core.proofs.Concluding.{retained_logs}
 use Rattle.dkg_core.proofs.Counting.{some_is}
 use Rattle.dkg_core.proofs.Heights.{next_last}
-use Rattle.dkg_core.proofs.Idle as idle
+use Rattle.dkg_laws.proofs.Idle as idle
 use Rattle.dkg_core.proofs.SayingThrough.{deals_so, hears_so, so_behind, so_if}
 use Rattle.dkg_core.proofs.Verifying as verifying
 use Rattle.dkg_core.proofs.Verifying.{IsEndedIn, verified_is, verifying_ends}

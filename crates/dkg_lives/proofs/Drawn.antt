@@ -29,7 +29,7 @@ use Rattle.dkg_script.proofs.LineBlocks.{of_line}
 use Rattle.dkg_store.specs.Acts.{Held}
 use Rattle.dkg_core.specs.Forms.{IsForm, IsNodeBegun, IsSeated, IsSetUpIn, round_for, seed_read, share_read, started}
 use Rattle.dkg_core.specs.Live.{Finalized, Live, Message, Sent}
-use Rattle.dkg_core.specs.NodeThrough.{IsNodeThrough}
+use Rattle.dkg_laws.specs.NodeThrough.{IsNodeThrough}
 use Rattle.dkg_core.specs.Seen.{Seen}
 use Rattle.dkg_core.specs.Setup.{Uncommitted}
 use Rattle.dkg_core.specs.Through.{IsLiveThrough}

@@ -22,7 +22,7 @@ use Rattle.dkg_store.specs.Events.{IsEvent}
 use Rattle.dkg_store.specs.declared.event.Event.TheVariants as events
 use Rattle.dkg_core.specs.Forms.{IsNodeBegun, IsSeated, IsSetUpIn, seed_read, share_read, started}
 use Rattle.dkg_core.specs.Live.{Dealer, Live, Message}
-use Rattle.dkg_core.specs.NodeThrough.{IsNodeThrough}
+use Rattle.dkg_laws.specs.NodeThrough.{IsNodeThrough}
 use Rattle.dkg_core.specs.Seen.{Seen}
 use Rattle.dkg_core.specs.Setup.{Standing, Uncommitted}
 use Rattle.dkg_core.specs.Through.{IsLiveThrough, unasked}

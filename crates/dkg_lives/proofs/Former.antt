@@ -32,8 +32,8 @@ use Rattle.dkg_core.specs.Live.{Artifact, Cancel, Delivers, EpochInfoOf, Feed, F
 use Rattle.dkg_core.specs.Node.{node_step}
 use Rattle.dkg_core.specs.NodeEndings.{LacksNobody}
 use Rattle.dkg_core.specs.Through.{IsFormThrough, IsLiveThrough, IsTakenThrough, unasked}
-use Rattle.dkg_core.proofs.Finishing.{stand_ins_finish}
-use Rattle.dkg_core.proofs.StandIn.{stand_ins_are_ceremonies}
+use Rattle.dkg_laws.proofs.Finishing.{stand_ins_finish}
+use Rattle.dkg_laws.proofs.StandIn.{stand_ins_are_ceremonies}
 use Rattle.dkg_lives.specs.Epochs.{IsLifeInForm, any_shares}
 use Rattle.dkg_lives.specs.Given.{IsUnplanned, Lived, at_step, seen_at, block_on, blocks_in, parent_in, payload_in, step_of, with_block}
 use Rattle.dkg_lives.proofs.Living.{holds_at}

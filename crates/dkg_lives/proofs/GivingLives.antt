@@ -17,8 +17,8 @@ use Rattle.dkg_core.specs.Courses.{Course, EndsSo}
 use Rattle.dkg_core.specs.Live.{Live, NodeStop}
 use Rattle.dkg_core.specs.Node.{node_opening}
 use Rattle.dkg_core.specs.Seen.{Seen}
-use Rattle.dkg_core.proofs.BlocksKept.{node_steps_keep_plans}
-use Rattle.dkg_core.proofs.Spared.{node_openings_keep_plans}
+use Rattle.dkg_laws.proofs.BlocksKept.{node_steps_keep_plans}
+use Rattle.dkg_laws.proofs.Spared.{node_openings_keep_plans}
 use Rattle.dkg_dealing.specs.declared.stop.Stop.{Stop}
 use Rattle.dkg_dealing.specs.declared.stop.Stop.TheVariants.{Cut, Failed, Fault as FaultOf}
 use Rattle.dkg_lives.specs.Epochs.{IsLifeInForm}

@@ -6,7 +6,7 @@ use Rattle.std.proofs.lemmas.Bool.{cases_lt}
 use Rattle.dkg_ceremony.specs.declared.dealer_log.DealerLog.{DealerLog}
 use Rattle.dkg_store.specs.declared.recorded_log.RecordedLog.{RecordedLog}
 use Rattle.dkg_core.specs.Logs.{recorded_log}
-use Rattle.dkg_core.specs.LogsRecorded.{first_of_both}
+use Rattle.dkg_laws.specs.LogsRecorded.{first_of_both}
 use Rattle.dkg_lives.proofs.FirstLogs.{IsFirst, NoneIn, first_of}
 
 some_is : {A : Type 0} {x y : A} → ◌≡◌ {A = Option A} (Some x) (Some y) → x ≡ y

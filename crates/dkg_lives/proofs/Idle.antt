@@ -10,8 +10,8 @@ use Rattle.dkg_core.specs.Fixed.{Fixed}
 use Rattle.dkg_core.specs.Laws.{IsOther}
 use Rattle.dkg_core.specs.Live.{Cancel, EpochInfoOf, Feed, Live, Mail, NextLog, NodeStop, Over, Peer, ReleaseLog, Sent, Work}
 use Rattle.dkg_core.specs.Node.{node_step}
-use Rattle.dkg_core.specs.NodeThrough.{IsActiveThrough}
-use Rattle.dkg_core.proofs.Idle.{mails_are_idle}
+use Rattle.dkg_laws.specs.NodeThrough.{IsActiveThrough}
+use Rattle.dkg_laws.proofs.Idle.{mails_are_idle}
 
 module _ (c : Fixed directory.Unit) (mail : Mail directory.Unit) (other : IsOther {Dir = directory.Unit} (Sent mail)) where
   pub idle_held : (st : Live directory.Unit) (ended : Ended NodeStop (Live directory.Unit)) (w new : World) → IsActiveThrough st → EndsSo (node_step c (event_of (Sent mail)) st) ended w new → new.held ≡ w.held

@@ -16,7 +16,7 @@ use Rattle.dkg_core.specs.Agreeing.{AreAgreed}
 use Rattle.dkg_core.specs.Fixed.{Fixed}
 use Rattle.dkg_core.specs.Heard.{KeepsFrom, recovered_in}
 use Rattle.dkg_core.specs.Live.{Live}
-use Rattle.dkg_core.specs.NodeKept.{BeginsRestored}
+use Rattle.dkg_laws.specs.NodeKept.{BeginsRestored}
 use Rattle.dkg_core.specs.Transcripts.{IfWentTo}
 use Rattle.dkg_lives.proofs.Currently.{AreKept, IsGrown, IsKeptEntry, MayBeKept, RestsIn, are_opened, current_as, current_later, grown, keeps_opening, may_of, may_still}
 use Rattle.dkg_lives.proofs.Heard.{IsUnchanged, Knows, each_aside, read_aside}

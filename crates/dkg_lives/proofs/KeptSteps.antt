@@ -33,21 +33,21 @@ use Rattle.dkg_core.specs.Core.{step}
 use Rattle.dkg_core.specs.Node.{node_step}
 use Rattle.dkg_core.specs.Agreeing.{AreAgreed, CanRecord}
 use Rattle.dkg_core.specs.Behind.{EndsBehind, IsAside, IsSameBeside, RunsBehind, event_of}
-use Rattle.dkg_core.specs.BlocksKept.{IsBlockLine, IsKeptBehind}
+use Rattle.dkg_laws.specs.BlocksKept.{IsBlockLine, IsKeptBehind}
 use Rattle.dkg_core.specs.Enduring.{IsKeptFrom, IsSaidFrom}
 use Rattle.dkg_core.specs.Endings.{CameTo}
 use Rattle.dkg_core.specs.Forms.{Judged, Refusal, Passed, Applied, IsForm, judged_block}
 use Rattle.dkg_core.specs.Heard.{recovered_in}
-use Rattle.dkg_core.specs.Idle.{IsAskedLine, LeavesIdle}
+use Rattle.dkg_laws.specs.Idle.{IsAskedLine, LeavesIdle}
 use Rattle.dkg_core.specs.Laws.{IsOther, IsDealtToItself, IsOffered, reach_of}
-use Rattle.dkg_core.specs.NodeThrough.{IsActiveThrough}
+use Rattle.dkg_laws.specs.NodeThrough.{IsActiveThrough}
 use Rattle.dkg_core.specs.Through.{IsLiveThrough}
 use Rattle.dkg_core.specs.Transcripts.{IfWentTo}
 use Rattle.dkg_core.proofs.Agreeing.{steps_agree}
 use Rattle.dkg_core.proofs.Behind.{steps_run_behind}
-use Rattle.dkg_core.proofs.BlocksKept.{blocks_keep}
-use Rattle.dkg_core.proofs.Enduring.{steps_keep}
-use Rattle.dkg_core.proofs.Idle.{mails_are_idle}
+use Rattle.dkg_laws.proofs.BlocksKept.{blocks_keep}
+use Rattle.dkg_laws.proofs.Enduring.{steps_keep}
+use Rattle.dkg_laws.proofs.Idle.{mails_are_idle}
 use Rattle.dkg_lives.specs.Epochs.{any_shares}
 use Rattle.dkg_lives.proofs.BlocksLeave.{AreTold, gives_before, gives_no_other, says_aside, tells_own}
 use Rattle.dkg_lives.proofs.Currently.{AreKept, IsGrown, IsKeptEntry, MayBeKept, current_as, current_later, current_with, found_current, grown, grown_all, may_of, may_still}

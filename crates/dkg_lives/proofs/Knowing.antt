@@ -53,7 +53,7 @@ use Rattle.dkg_core.specs.Fixed.{Fixed}
 use Rattle.dkg_core.specs.Forms.{Applied, Judged, Passed, Refusal, committed_by, judged_block, judged_over, set_up_by}
 use Rattle.dkg_core.specs.Heard.{Fits, recovered_in}
 use Rattle.dkg_core.specs.Including as i
-use Rattle.dkg_core.specs.Idle.{IsAskedLine}
+use Rattle.dkg_laws.specs.Idle.{IsAskedLine}
 use Rattle.dkg_core.specs.Laws.{IsOther}
 use Rattle.dkg_core.specs.Live.{Deals, Dealer, Ends, Follows, Includes, Live, Mail, Plays, Records, Seat, Sent, Stage, Watches, is_last_height, recorded_at, with_inclusion, with_participation, with_tip}
 use Rattle.dkg_core.specs.Logs.{is_accepted, log_event, recorded_log}
@@ -62,7 +62,7 @@ use Rattle.dkg_core.specs.Setup.{Standing, Uncommitted, WasCommitted}
 use Rattle.dkg_core.specs.Sources.{Tip}
 use Rattle.dkg_core.specs.Stepping.{IsDealingStop, given_itself}
 use Rattle.dkg_core.proofs.Agreeing.{entries_kept}
-use Rattle.dkg_core.proofs.Idle as idle
+use Rattle.dkg_laws.proofs.Idle as idle
 use Rattle.dkg_core.proofs.Keeping.{fold_silent}
 use Rattle.dkg_core.proofs.StepDealing as dealing
 use Rattle.dkg_lives.proofs.LaterRecords.{above_from, pruned_later, recorded_later}

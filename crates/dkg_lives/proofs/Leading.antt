@@ -21,7 +21,7 @@ use Rattle.dkg_core.specs.Live.{Live, NodeStop}
 use Rattle.dkg_core.specs.Node.{node_opening}
 use Rattle.dkg_core.specs.Said.{Said}
 use Rattle.dkg_core.proofs.Counted.{cuts_fall}
-use Rattle.dkg_core.proofs.Said.{runs_say}
+use Rattle.dkg_laws.proofs.Said.{runs_say}
 use Rattle.dkg_dealing.specs.declared.stop.Stop.{Stop}
 use Rattle.dkg_dealing.specs.declared.stop.Stop.TheVariants.{Cut, Fault as FaultOf}
 use Rattle.dkg_lives.specs.Ended.{by_node_stop}

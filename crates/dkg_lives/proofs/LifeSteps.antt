@@ -50,18 +50,18 @@ use Rattle.dkg_ceremony.specs.declared.phase.Phase.{Phase}
 use Rattle.dkg_ceremony.specs.declared.phase.Phase.TheVariants.{Early, Midpoint, Late}
 use Rattle.dkg_core.specs.Meant.{ReadsRecords}
 use Rattle.dkg_core.specs.Node.{node_opening, node_step}
-use Rattle.dkg_core.specs.NodeKept.{BeginsRestored}
+use Rattle.dkg_laws.specs.NodeKept.{BeginsRestored}
 use Rattle.dkg_core.specs.Seen.{Seen}
 use Rattle.dkg_core.specs.Setup.{WasCommitted}
-use Rattle.dkg_core.specs.LogsRecorded.{IsNotedNow, IsRecordedNow}
-use Rattle.dkg_core.specs.NodeThrough.{IsActiveThrough, IsNodeThrough}
+use Rattle.dkg_laws.specs.LogsRecorded.{IsNotedNow, IsRecordedNow}
+use Rattle.dkg_laws.specs.NodeThrough.{IsActiveThrough, IsNodeThrough}
 use Rattle.dkg_core.specs.Through.{IsLiveThrough, IsTakenThrough, unasked}
 use Rattle.dkg_core.specs.Endings.{first_epoch, stage_in}
 use Rattle.dkg_core.specs.Transcripts.{IfWentTo}
-use Rattle.dkg_core.proofs.NodeKept.{node_openings_agree, node_openings_restore, node_steps_agree}
-use Rattle.dkg_core.proofs.Openings.{node_openings_lead_over}
-use Rattle.dkg_core.proofs.NodeThrough.{node_openings_through, node_steps_lead_through_over}
-use Rattle.dkg_core.proofs.RecordingLogs.{node_steps_record_logs}
+use Rattle.dkg_laws.proofs.NodeKept.{node_openings_agree, node_openings_restore, node_steps_agree}
+use Rattle.dkg_laws.proofs.Openings.{node_openings_lead_over}
+use Rattle.dkg_laws.proofs.NodeThrough.{node_openings_through, node_steps_lead_through_over}
+use Rattle.dkg_laws.proofs.RecordingLogs.{node_steps_record_logs}
 use Rattle.dkg_lives.specs.Epochs.{IsAt, IsLifeInForm, any_shares}
 use Rattle.dkg_lives.specs.Given.{Lived, at_step, lived}
 use Rattle.dkg_lives.proofs.Alone.{epoch_alike, follows_alike, height_alike}

@@ -13,13 +13,13 @@ use Rattle.dkg_core.specs.Forms.{IsForm, IsNodeBegun, held_behind}
 use Rattle.dkg_core.specs.Live.{Live, Message, NodeStop}
 use Rattle.dkg_core.specs.Node.{node_opening, node_step}
 use Rattle.dkg_core.specs.NodeEndings.{IsFaultBy, LacksNobody}
-use Rattle.dkg_core.specs.NodeThrough.{IsActiveThrough, IsNodeThrough}
+use Rattle.dkg_laws.specs.NodeThrough.{IsActiveThrough, IsNodeThrough}
 use Rattle.dkg_core.specs.Seen.{Seen}
 use Rattle.dkg_core.specs.Through.{IsFormThrough, IsLiveThrough, IsStopThrough, IsTakenThrough}
 use Rattle.dkg_core.proofs.Setups.{comes_anywhere}
 use Rattle.dkg_core.proofs.Splitting.{came_to}
-use Rattle.dkg_core.proofs.NodeThrough.{node_openings_through, node_steps_come_through, node_steps_lead_through_over}
-use Rattle.dkg_core.proofs.Openings.{node_openings_lead, node_openings_lead_over}
+use Rattle.dkg_laws.proofs.NodeThrough.{node_openings_through, node_steps_come_through, node_steps_lead_through_over}
+use Rattle.dkg_laws.proofs.Openings.{node_openings_lead, node_openings_lead_over}
 use Rattle.dkg_lives.specs.Epochs.{IsAt, IsLifeInForm, any_shares}
 use Rattle.dkg_lives.specs.Given.{Lived, at_step, step_of}
 use Rattle.dkg_lives.specs.Ways.{Way, by_lines, by_worlds}

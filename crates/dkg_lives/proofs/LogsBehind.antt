@@ -15,12 +15,12 @@ use Rattle.dkg_core.specs.Forms.{Applied, Judged, Passed, Refusal, judged_block}
 use Rattle.dkg_core.specs.Including.{is_served_at}
 use Rattle.dkg_core.specs.Live.{Cancel, Deals, Dealer, Ends, EpochInfoOf, Feed, Finalized, Follows, Includes, Live, Mail, Message, NextLog, Over, Peer, Records, ReleaseLog, Sent, Stage, Work, is_last_height, recorded_at, with_inclusion, with_queue, with_tip}
 use Rattle.dkg_core.specs.Logs.{is_accepted, recorded_log}
-use Rattle.dkg_core.specs.LogsRecorded.{first_of_both}
-use Rattle.dkg_core.specs.NodeThrough.{IsNodeThrough}
+use Rattle.dkg_laws.specs.LogsRecorded.{first_of_both}
+use Rattle.dkg_laws.specs.NodeThrough.{IsNodeThrough}
 use Rattle.dkg_core.specs.Setup.{begins_inclusion, records_from}
 use Rattle.dkg_core.specs.Stepping.{IsHeardBy, dealt_behind, given_itself, next_epoch, with_taken}
 use Rattle.dkg_core.specs.Through.{IsAppliedThrough, IsBlockThrough, IsFollowedThrough, IsIncludedThrough, IsNextThrough, IsPassedOn, IsReadFrom, asked_by, observed, waits_for}
-use Rattle.dkg_core.proofs.Observing.{observes_first, observes_nothing_else}
+use Rattle.dkg_laws.proofs.Observing.{observes_first, observes_nothing_else}
 use Rattle.dkg_core.proofs.StepDealing.{given_same}
 
 module _ {Dir : Type 0} (c : Fixed Dir) (st : Live Dir) where

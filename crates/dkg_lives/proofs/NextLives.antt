@@ -27,7 +27,7 @@ use Rattle.dkg_core.specs.Stepping.{IsHeardBy, dealt_behind, given_itself, with_
 use Rattle.dkg_core.specs.Through.{IsAppliedThrough, IsBlockThrough, IsEndThrough, IsFollowedThrough, IsIncludedThrough, IsLiveThrough, IsNextThrough, IsPassedOn, IsReadFrom, IsStillThrough, PassesNothingOn, asked_by, included, unasked, waits_for}
 use Rattle.dkg_core.proofs.Heights.{below_middle}
 use Rattle.dkg_core.proofs.Applied.{deals_below}
-use Rattle.dkg_core.proofs.StillThrough.{next_lives_stay_through}
+use Rattle.dkg_laws.proofs.StillThrough.{next_lives_stay_through}
 
 -- APART
 

@@ -22,7 +22,7 @@ use Rattle.dkg_script.specs.Views.{seen_block}
 use Rattle.dkg_core.specs.Fixed.{Fixed}
 use Rattle.dkg_core.specs.Live.{Live, recorded_at}
 use Rattle.dkg_core.specs.Logs.{is_accepted, recorded_log}
-use Rattle.dkg_core.specs.LogsRecorded.{first_of_both}
+use Rattle.dkg_laws.specs.LogsRecorded.{first_of_both}
 use Rattle.dkg_core.specs.Seen.{Seen}
 use Rattle.dkg_lives.specs.Given.{at_step, lived}
 use Rattle.dkg_lives.proofs.ChainLogs.{brings_of, counted_at}

@@ -39,7 +39,7 @@ use Rattle.dkg_lives.specs.Ways.{Trace, by_lines}
 use Rattle.dkg_lives.proofs.Ended.{told_in_order}
 use Rattle.dkg_lives.proofs.Following.{EndsBy, RunEndsBy, all_move, rest_at}
 use Rattle.dkg_lives.proofs.InPlace.{moves_cut}
-use Rattle.dkg_core.proofs.NodeEndings.{node_openings_are_quiet, node_steps_are_quiet}
+use Rattle.dkg_laws.proofs.NodeEndings.{node_openings_are_quiet, node_steps_are_quiet}
 use Rattle.dkg_lives.proofs.Places.{moves_none, moves_then, moves_within, quiet_none}
 use Rattle.dkg_lives.proofs.Runs.{runs_all, runs_in_order}
 use Rattle.dkg_lives.proofs.Standing.{AddsOpening, AddsQuiet, IsBefore, IsBehind, IsBetween, IsBetweenOf, IsCutBefore, IsStopped, IsWithin, MayTell, Moves, TellsFault, IsCutWithin}

@@ -31,7 +31,7 @@ use Rattle.dkg_core.specs.Dealing as d
 use Rattle.dkg_core.specs.Fixed.{Fixed}
 use Rattle.dkg_core.specs.Asked.{OfShares, ReadsShare}
 use Rattle.dkg_core.specs.Forms.{IsForm}
-use Rattle.dkg_core.specs.SharesMoved.{IsSuchShare}
+use Rattle.dkg_laws.specs.SharesMoved.{IsSuchShare}
 use Rattle.dkg_core.specs.Through.{IsFormThrough, IsLiveThrough}
 use Rattle.dkg_core.specs.Including as i
 use Rattle.dkg_core.specs.Live.{Deals, Ends, Finalized, Follows, Includes, Live, NodeStop, Peer, Sent, Stage, awaited_height, is_last_height, with_tip}
@@ -41,7 +41,7 @@ use Rattle.dkg_core.specs.Endings.{first_epoch}
 use Rattle.dkg_core.proofs.Behind.{openings_run_behind, steps_run_behind}
 use Rattle.dkg_core.proofs.Running.{along_as}
 use Rattle.dkg_core.proofs.Applied.{judged_is}
-use Rattle.dkg_core.proofs.MovingShares.{blocks_put_shares}
+use Rattle.dkg_laws.proofs.MovingShares.{blocks_put_shares}
 use Rattle.dkg_core.proofs.Upkeep.{along_if, along_option}
 use Rattle.dkg_core.proofs.Walking as walk
 use Rattle.dkg_lives.proofs.OpeningsLeave.{opening_walks}

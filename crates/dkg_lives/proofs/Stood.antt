@@ -19,7 +19,7 @@ use Rattle.dkg_core.specs.Live.{Finalized, Follows, Live, Message, Sent, is_last
 use Rattle.dkg_core.specs.Seen.{Seen}
 use Rattle.dkg_core.specs.Setup.{Uncommitted}
 use Rattle.dkg_core.specs.Sources.{Tip, startup}
-use Rattle.dkg_core.specs.NodeThrough.{IsNodeThrough}
+use Rattle.dkg_laws.specs.NodeThrough.{IsNodeThrough}
 use Rattle.dkg_core.specs.Through.{IsBlockThrough, IsEndThrough, IsLiveThrough, IsNextThrough, PassesNothingOn}
 use Rattle.dkg_core.specs.Endings.{first_block, tip_behind}
 use Rattle.dkg_core.proofs.Heights.{epoch_from, epoch_is, epoch_to, next_last}

@@ -38,7 +38,7 @@ use Rattle.dkg_core.specs.Live.{Dealer, Faulted, Finalized, Live, NodeStop, Orch
 use Rattle.dkg_core.specs.Logs.{logs_of}
 use Rattle.dkg_core.specs.Node as node
 use Rattle.dkg_core.specs.Node.{node_opening, node_step, unless_once}
-use Rattle.dkg_core.specs.NodeSaying.{IsHalfLine}
+use Rattle.dkg_laws.specs.NodeSaying.{IsHalfLine}
 use Rattle.dkg_core.specs.Plans as plans
 use Rattle.dkg_core.specs.Said.{Said}
 use Rattle.dkg_core.specs.SayingThrough.{SaysSo}

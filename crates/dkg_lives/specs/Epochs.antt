@@ -17,7 +17,7 @@ use Rattle.dkg_store.specs.Acts.{Held}
 use Rattle.dkg_core.specs.Asked.{OfShares}
 use Rattle.dkg_core.specs.Live as core
 use Rattle.dkg_core.specs.Live.{Follows, Live}
-use Rattle.dkg_core.specs.NodeThrough.{IsActiveThrough}
+use Rattle.dkg_laws.specs.NodeThrough.{IsActiveThrough}
 use Rattle.dkg_core.specs.Through.{IsFormThrough, IsLiveThrough}
 use Rattle.dkg_lives.specs.Given.{Lived, at_step}
 

@@ -36,13 +36,13 @@ use Rattle.dkg_core.specs.Live as core
 use Rattle.dkg_core.specs.Live.{Cancel, Deals, Ends, EpochInfoOf, Feed, Finalized, Follows, Includes, Job, Live, Mail, Message, NextLog, NodeStop, Over, Peer, ReleaseLog, Request, Sent, Stage, Work, is_last_height, phase_of}
 use Rattle.dkg_core.specs.Logs.{canonical, filled_by}
 use Rattle.dkg_core.specs.Node.{node_step}
-use Rattle.dkg_core.specs.NodeSaying.{IsHalfLine}
+use Rattle.dkg_laws.specs.NodeSaying.{IsHalfLine}
 use Rattle.dkg_core.specs.Said.{Said}
 use Rattle.dkg_core.specs.SayingThrough.{IsBlockAnswer, IsFinalAnswer, IsLineThrough, IsMailLine, IsReadAnswer, IsUnasked, IsWaitedAnswer, OfRequest, payload_by}
 use Rattle.dkg_core.specs.Sources.{Tip}
 use Rattle.dkg_core.specs.Stepping.{dealt_behind, given_itself}
 use Rattle.dkg_core.specs.Through.{IsLiveThrough, asked_by, included}
-use Rattle.dkg_core.proofs.NodeSaying.{node_steps_say_through}
+use Rattle.dkg_laws.proofs.NodeSaying.{node_steps_say_through}
 use Rattle.dkg_promises.specs.Answers.{IsAnsweredSo, IsAskedFor, IsMadeOf, IsProvidedFor, IsUnavailable}
 use Rattle.dkg_lives.specs.Asks.{IsRefusedAt, IsUncancelled, RequestStanding, WereAsked, bounds_in, fed_in, next_bytes, scan_tip, standing_of, turns}
 use Rattle.dkg_lives.specs.Blamed.{IsInfoOf, IsTakenLast, round_by, tip_in}

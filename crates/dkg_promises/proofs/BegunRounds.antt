@@ -27,13 +27,13 @@ use Rattle.dkg_core.specs.Live.{Finalized, Live, Message, NodeStop, Participatio
 use Rattle.dkg_core.specs.Node.{node_opening, node_step}
 use Rattle.dkg_core.specs.Seen.{Seen}
 use Rattle.dkg_core.specs.Setup.{Standing, Uncommitted}
-use Rattle.dkg_core.specs.NodeThrough.{IsNodeThrough}
+use Rattle.dkg_laws.specs.NodeThrough.{IsNodeThrough}
 use Rattle.dkg_core.specs.Stepping.{OwnDiffers, next_epoch}
 use Rattle.dkg_core.specs.Storing.{ReadsSecrets}
 use Rattle.dkg_core.specs.Endings.{first_block, first_epoch}
 use Rattle.dkg_core.specs.Through.{IsLiveThrough, IsNextThrough, IsTakenThrough, unasked}
-use Rattle.dkg_core.proofs.Openings.{node_openings_lead_over}
-use Rattle.dkg_core.proofs.NodeThrough.{node_steps_lead_through_over}
+use Rattle.dkg_laws.proofs.Openings.{node_openings_lead_over}
+use Rattle.dkg_laws.proofs.NodeThrough.{node_steps_lead_through_over}
 use Rattle.dkg_core.proofs.Storing.{node_steps_keep_secrets}
 use Rattle.dkg_lives.specs.Blamed.{per_epoch}
 use Rattle.dkg_lives.specs.Epochs.{IsAt, IsLifeInForm, any_shares, awaited_by, epoch_by}

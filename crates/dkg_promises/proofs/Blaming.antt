@@ -40,14 +40,14 @@ use Rattle.dkg_core.specs.Live.{Cancel, EpochInfoOf, Faulted, Feed, Finalized, I
 use Rattle.dkg_core.specs.Behind.{event_of}
 use Rattle.dkg_core.specs.Node.{node_opening, node_step}
 use Rattle.dkg_core.specs.NodeEndings.{IsFaultBy}
-use Rattle.dkg_core.specs.NodeThrough.{IsNodeThrough}
+use Rattle.dkg_laws.specs.NodeThrough.{IsNodeThrough}
 use Rattle.dkg_core.specs.Said.{Said}
 use Rattle.dkg_core.specs.Seen.{Seen}
 use Rattle.dkg_core.specs.Sources.{Tip, position}
 use Rattle.dkg_core.specs.Through.{IsEndThrough, IsLiveThrough, IsStopThrough}
 use Rattle.dkg_core.specs.Endings.{CameTo, tip_behind}
-use Rattle.dkg_core.proofs.Openings.{node_openings_lead}
-use Rattle.dkg_core.proofs.NodeThrough.{node_openings_through, node_steps_come_through}
+use Rattle.dkg_laws.proofs.Openings.{node_openings_lead}
+use Rattle.dkg_laws.proofs.NodeThrough.{node_openings_through, node_steps_come_through}
 use Rattle.dkg_core.proofs.Setups.{comes_anywhere}
 use Rattle.dkg_core.proofs.Splitting.{came_to}
 use Rattle.dkg_dealing.specs.declared.stop.Stop.{Stop}

@@ -45,14 +45,14 @@ use Rattle.dkg_core.specs.Live.{Cancel, Deals, Ends, EpochInfoOf, Faulted, Feed,
 use Rattle.dkg_core.specs.Meant.{ReadsRecords}
 use Rattle.dkg_core.specs.Node.{node_opening}
 use Rattle.dkg_core.specs.NodeEndings.{IsFaultBy}
-use Rattle.dkg_core.specs.NodeThrough.{IsActiveThrough, IsNodeThrough}
+use Rattle.dkg_laws.specs.NodeThrough.{IsActiveThrough, IsNodeThrough}
 use Rattle.dkg_core.specs.Seen.{Seen}
 use Rattle.dkg_core.specs.Setup.{Uncommitted}
 use Rattle.dkg_core.specs.Stepping.{IsDealingStop, OwnDiffers, given_itself, next_epoch as next_of, taken_over}
 use Rattle.dkg_core.specs.Storing.{ReadsSecrets}
 use Rattle.dkg_core.specs.Through.{IsAppliedStopThrough, IsBlockStopThrough, IsCarriedOn, IsLiveThrough, IsPassingStop, IsStopThrough}
-use Rattle.dkg_core.proofs.NodeThrough.{node_steps_lead_through_over}
-use Rattle.dkg_core.proofs.Openings.{node_openings_lead_over}
+use Rattle.dkg_laws.proofs.NodeThrough.{node_steps_lead_through_over}
+use Rattle.dkg_laws.proofs.Openings.{node_openings_lead_over}
 use Rattle.dkg_core.proofs.StepDealing.{given_same}
 use Rattle.dkg_dealing.specs.declared.stop.Stop.{Stop}
 use Rattle.dkg_lives.specs.Blamed.{IsAskedOwn, IsBlockCause, IsBlockOwn, IsCause, IsFromOutside, IsMayCause, IsOwn, IsOwnCause, IsWhy, OnBlock, OnCarried, first_epoch_in, next_epoch, opening_block}

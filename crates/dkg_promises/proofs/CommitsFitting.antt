@@ -34,19 +34,19 @@ use Rattle.dkg_core.specs.Courses.{Course, EndsSo}
 use Rattle.dkg_core.specs.Endings.{CameTo, first_block, first_epoch}
 use Rattle.dkg_core.specs.Fixed.{Fixed}
 use Rattle.dkg_core.specs.Forms.{IsNodeBegun, IsOpeningStop, LeavesHeld, held_behind}
-use Rattle.dkg_core.specs.Idle.{IsAskedLine}
+use Rattle.dkg_laws.specs.Idle.{IsAskedLine}
 use Rattle.dkg_core.specs.Live.{Finalized, Live, Message, NodeStop, Peer, Sent}
 use Rattle.dkg_core.specs.Node.{node_opening, node_step}
 use Rattle.dkg_core.specs.NodeEndings.{IsFaultBy}
-use Rattle.dkg_core.specs.NodeThrough.{IsActiveThrough, IsNodeThrough}
+use Rattle.dkg_laws.specs.NodeThrough.{IsActiveThrough, IsNodeThrough}
 use Rattle.dkg_core.specs.Seen.{Seen}
 use Rattle.dkg_core.specs.Setup.{recovered_share}
 use Rattle.dkg_core.specs.Stepping.{next_epoch}
 use Rattle.dkg_core.specs.Storing.{ReadsSecrets}
 use Rattle.dkg_core.specs.Through.{IsCarriedOn, IsShareTaken, IsStopThrough, held_with}
-use Rattle.dkg_core.proofs.Idle.{mails_are_idle}
-use Rattle.dkg_core.proofs.NodeThrough.{node_openings_through}
-use Rattle.dkg_core.proofs.Openings.{node_openings_lead_over}
+use Rattle.dkg_laws.proofs.Idle.{mails_are_idle}
+use Rattle.dkg_laws.proofs.NodeThrough.{node_openings_through}
+use Rattle.dkg_laws.proofs.Openings.{node_openings_lead_over}
 use Rattle.dkg_dealing.specs.declared.stop.Stop.{Stop}
 use Rattle.dkg_lives.specs.Epochs.{IsLifeInForm}
 use Rattle.dkg_lives.specs.Given.{Lived, at_step, blocks_in, lived, step_of}

@@ -51,7 +51,7 @@ use Rattle.dkg_core.specs.Including.{Next, cached_for}
 use Rattle.dkg_core.specs.Live.{Artifact, Cancel, Deals, Ends, EpochInfoOf, Faulted, Feed, Finalized, Follows, Includes, Live, Mail, Message, NextLog, NodeStop, Over, Peer, ReleaseLog, Sent, Stage, Verified, VerifiedLogs, Work, awaited_height, is_last_height, with_participation, with_tip}
 use Rattle.dkg_core.specs.Logs.{canonical}
 use Rattle.dkg_core.specs.Node.{kept_material, node_opening, node_step, unless_once}
-use Rattle.dkg_core.specs.NodeSaying.{IsHalfLine}
+use Rattle.dkg_laws.specs.NodeSaying.{IsHalfLine}
 use Rattle.dkg_core.specs.Plans as p
 use Rattle.dkg_core.specs.Said.{Said, SaysAll}
 use Rattle.dkg_core.specs.SayingThrough.{IsLineThrough, IsMailLine, SaysSo}
@@ -61,7 +61,7 @@ use Rattle.dkg_core.specs.Through.{IsLiveThrough, unasked}
 use Rattle.dkg_core.proofs.Applied.{judged_is}
 use Rattle.dkg_core.proofs.Heights.{epoch_is, next_last}
 use Rattle.dkg_core.proofs.Mailing.{not_ended}
-use Rattle.dkg_core.proofs.NodeSaying.{node_steps_say_through}
+use Rattle.dkg_laws.proofs.NodeSaying.{node_steps_say_through}
 use Rattle.dkg_core.proofs.SayingThrough.{said_so}
 use Rattle.dkg_lives.specs.Blamed.{per_epoch, tip_in}
 use Rattle.dkg_lives.specs.Epochs.{IsLifeInForm, StandsInScript, any_shares, awaited_by}

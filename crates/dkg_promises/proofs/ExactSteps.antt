@@ -39,22 +39,22 @@ use Rattle.dkg_core.specs.Courses.{Course, EndsSo}
 use Rattle.dkg_core.specs.Endings.{CameTo, first_block, first_epoch}
 use Rattle.dkg_core.specs.Fixed.{Fixed, OneShot, has}
 use Rattle.dkg_core.specs.Forms.{Applied, IsNodeBegun, IsOpeningStop, IsSeated, IsSetUpIn, Judged, LeavesHeld, Passed, Refusal, held_behind, judged_block, seed_read, share_read, started}
-use Rattle.dkg_core.specs.Idle.{IsAskedLine, LeavesIdle}
+use Rattle.dkg_laws.specs.Idle.{IsAskedLine, LeavesIdle}
 use Rattle.dkg_core.specs.Live as core
 use Rattle.dkg_core.specs.Live.{Deals, Ends, Finalized, Follows, Includes, Live, Mail, Message, NodeStop, Peer, Plays, Seat, Sent, Stage, Watches, is_last_height, of_epoch}
 use Rattle.dkg_core.specs.Logs.{logs_of}
 use Rattle.dkg_core.specs.Node.{node_opening, node_step}
 use Rattle.dkg_core.specs.NodeEndings.{IsFaultBy}
-use Rattle.dkg_core.specs.NodeThrough.{IsActiveThrough, IsNodeThrough}
+use Rattle.dkg_laws.specs.NodeThrough.{IsActiveThrough, IsNodeThrough}
 use Rattle.dkg_core.specs.Seen.{Seen}
 use Rattle.dkg_core.specs.Setup.{Uncommitted, is_lost}
 use Rattle.dkg_core.specs.Storing.{ReadsSecrets}
 use Rattle.dkg_core.specs.Through.{IsLiveThrough, PassesNothingOn, unasked}
 use Rattle.dkg_core.proofs.Heights.{next_last}
-use Rattle.dkg_core.proofs.Idle.{mails_are_idle}
-use Rattle.dkg_core.proofs.NodeThrough.{node_openings_through, node_steps_lead_through_over}
-use Rattle.dkg_core.proofs.Openings.{node_openings_lead_over}
-use Rattle.dkg_core.proofs.Reading.{live_as, step_reads}
+use Rattle.dkg_laws.proofs.Idle.{mails_are_idle}
+use Rattle.dkg_laws.proofs.NodeThrough.{node_openings_through, node_steps_lead_through_over}
+use Rattle.dkg_laws.proofs.Openings.{node_openings_lead_over}
+use Rattle.dkg_laws.proofs.Reading.{live_as, step_reads}
 use Rattle.dkg_core.proofs.Storing.{looked_up}
 use Rattle.dkg_lives.specs.Epochs.{IsAt, IsLifeInForm, any_shares}
 use Rattle.dkg_lives.specs.Given.{Lived, at_step, lived, step_of}

@@ -48,7 +48,7 @@ use Rattle.dkg_core.specs.Storing.{ReadsSecrets}
 use Rattle.dkg_core.specs.Through.{IsShareTaken}
 use Rattle.dkg_core.specs.Transcripts.{BeginsOpened}
 use Rattle.dkg_core.proofs.Heights.{epoch_is}
-use Rattle.dkg_core.proofs.Said.{runs_say}
+use Rattle.dkg_laws.proofs.Said.{runs_say}
 use Rattle.dkg_lives.specs.Epochs.{IsLifeInForm}
 use Rattle.dkg_lives.specs.Given.{AreBytes, Lived, at_step, lived, provided_by, step_of}
 use Rattle.dkg_promises.specs.SharesStand.{EndsEpoch, EndsHonestly, HeldShare, IsWholePast, StandsBy, StandsSo, WasCutInto}

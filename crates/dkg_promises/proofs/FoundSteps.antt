@@ -43,7 +43,7 @@ use Rattle.dkg_core.specs.Forms.{Applied, IsOpeningStop, IsSeated, IsSetUpIn, Is
 use Rattle.dkg_core.specs.Heard.{KeepsFrom, recovered_in}
 use Rattle.dkg_core.specs.Laws.{IsOther}
 use Rattle.dkg_core.specs.Live.{Cancel, Deals, Ends, EpochInfoOf, Faulted, Feed, Finalized, Follows, Includes, Live, Mail, Message, NextLog, NodeStop, Over, Peer, Records, ReleaseLog, Sent, Stage, Work, is_last_height, with_tip}
-use Rattle.dkg_core.specs.NodeThrough.{IsNodeThrough}
+use Rattle.dkg_laws.specs.NodeThrough.{IsNodeThrough}
 use Rattle.dkg_core.specs.Node.{node_opening, node_step}
 use Rattle.dkg_core.specs.Setup as s
 use Rattle.dkg_core.specs.Setup.{Uncommitted, WasCommitted}
@@ -55,9 +55,9 @@ use Rattle.dkg_core.specs.Through.{IsAppliedStopThrough, IsBlockStopThrough, IsC
 use Rattle.dkg_core.proofs.Behind.{openings_run_behind, steps_run_behind}
 use Rattle.dkg_core.proofs.Heights.{next_last}
 use Rattle.dkg_core.proofs.Lasting.{pruned_at}
-use Rattle.dkg_core.proofs.Openings.{node_openings_lead_over, openings_lead_over}
+use Rattle.dkg_laws.proofs.Openings.{node_openings_lead_over, openings_lead_over}
 use Rattle.dkg_core.proofs.Setups.{setups_store}
-use Rattle.dkg_core.proofs.NodeThrough.{node_steps_lead_through_over}
+use Rattle.dkg_laws.proofs.NodeThrough.{node_steps_lead_through_over}
 use Rattle.dkg_core.proofs.StepDealing.{given_same}
 use Rattle.dkg_core.proofs.Upkeep.{along_option}
 use Rattle.dkg_core.proofs.Walking as walk

@@ -29,14 +29,14 @@ use Rattle.dkg_core.specs.Live.{Finalized, Live, Message, NodeStop, Peer, Sent, 
 use Rattle.dkg_core.specs.Meant.{ReadsRecords}
 use Rattle.dkg_core.specs.Node.{node_opening, node_step}
 use Rattle.dkg_core.specs.Seen.{Seen}
-use Rattle.dkg_core.specs.NodeThrough.{IsNodeThrough}
+use Rattle.dkg_laws.specs.NodeThrough.{IsNodeThrough}
 use Rattle.dkg_core.specs.Through.{IsLiveThrough, IsTakenThrough}
 use Rattle.dkg_core.specs.Endings.{first_block}
 use Rattle.dkg_core.proofs.Behind.{steps_run_behind}
-use Rattle.dkg_core.proofs.BlocksKept.{blocks_keep}
-use Rattle.dkg_core.proofs.NodeKept.{node_openings_agree, node_peers_are_kept, node_steps_agree}
-use Rattle.dkg_core.proofs.Openings.{node_openings_lead_over}
-use Rattle.dkg_core.proofs.NodeThrough.{node_steps_lead_through_over}
+use Rattle.dkg_laws.proofs.BlocksKept.{blocks_keep}
+use Rattle.dkg_laws.proofs.NodeKept.{node_openings_agree, node_peers_are_kept, node_steps_agree}
+use Rattle.dkg_laws.proofs.Openings.{node_openings_lead_over}
+use Rattle.dkg_laws.proofs.NodeThrough.{node_steps_lead_through_over}
 use Rattle.dkg_dealing.specs.declared.stop.Stop.{Stop}
 use Rattle.dkg_lives.specs.Epochs.{IsAt, IsLifeInForm, any_shares}
 use Rattle.dkg_lives.specs.Given.{AreBytes, Lived, at_step, lived, step_of}

@@ -36,12 +36,12 @@ use Rattle.dkg_core.specs.Laws.{IsAmong, IsQuiet}
 use Rattle.dkg_core.specs.Live.{Follows, Includes, Inclusion, Job, Live, NodeStop, Request, Stage}
 use Rattle.dkg_core.specs.Node.{node_opening, node_step}
 use Rattle.dkg_core.specs.NodeEndings.{IsFaultBy}
-use Rattle.dkg_core.specs.NodeThrough.{IsNodeThrough}
+use Rattle.dkg_laws.specs.NodeThrough.{IsNodeThrough}
 use Rattle.dkg_core.specs.Said.{Said}
 use Rattle.dkg_core.specs.Through.{IsLiveThrough, IsStopThrough}
 use Rattle.dkg_core.specs.Seen.{Seen}
-use Rattle.dkg_core.proofs.NodeThrough.{node_steps_come_through}
-use Rattle.dkg_core.proofs.Openings.{node_openings_lead}
+use Rattle.dkg_laws.proofs.NodeThrough.{node_steps_come_through}
+use Rattle.dkg_laws.proofs.Openings.{node_openings_lead}
 use Rattle.dkg_core.proofs.Setups.{comes_anywhere}
 use Rattle.dkg_core.proofs.Splitting.{came_to}
 use Rattle.dkg_dealing.specs.declared.stop.Stop.{Stop}

@@ -30,7 +30,7 @@ use Rattle.dkg_core.specs.Forms.{IsNodeBegun, LeavesHeld, held_behind}
 use Rattle.dkg_core.specs.Laws.{reach_of}
 use Rattle.dkg_core.specs.Live.{Live, Message, NodeStop, Participation}
 use Rattle.dkg_core.specs.Node.{node_opening, node_step}
-use Rattle.dkg_core.specs.NodeThrough.{IsNodeThrough}
+use Rattle.dkg_laws.specs.NodeThrough.{IsNodeThrough}
 use Rattle.dkg_core.specs.Through.{IsLiveThrough, IsTakenThrough, unasked}
 use Rattle.dkg_core.specs.Seen.{Seen}
 use Rattle.dkg_core.specs.Offering.{IsOfferOf}
@@ -38,9 +38,9 @@ use Rattle.dkg_core.specs.Storing.{KeepsSeeds, ReadsSecrets}
 use Rattle.dkg_core.specs.Endings.{first_block}
 use Rattle.dkg_core.proofs.Counted.{cuts_fall}
 use Rattle.dkg_core.proofs.Offering.{node_offers_are_dealt}
-use Rattle.dkg_core.proofs.Openings.{node_openings_lead_over}
-use Rattle.dkg_core.proofs.Said.{runs_say}
-use Rattle.dkg_core.proofs.NodeThrough.{node_steps_lead_through_over}
+use Rattle.dkg_laws.proofs.Openings.{node_openings_lead_over}
+use Rattle.dkg_laws.proofs.Said.{runs_say}
+use Rattle.dkg_laws.proofs.NodeThrough.{node_steps_lead_through_over}
 use Rattle.dkg_core.proofs.Storing.{node_steps_keep_secrets}
 use Rattle.dkg_dealing.specs.declared.stop.Stop.{Stop}
 use Rattle.dkg_dealing.specs.declared.stop.Stop.TheVariants.{Cut, Failed, Fault as FaultOf}

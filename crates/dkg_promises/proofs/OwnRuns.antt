@@ -38,7 +38,7 @@ use Rattle.dkg_core.specs.Node.{node_opening, node_step}
 use Rattle.dkg_core.specs.Seen.{Seen}
 use Rattle.dkg_core.specs.Storing.{KeepsSeeds, ReadsSecrets}
 use Rattle.dkg_core.proofs.Behind.{steps_run_behind}
-use Rattle.dkg_core.proofs.NodeKept.{node_peers_are_kept}
+use Rattle.dkg_laws.proofs.NodeKept.{node_peers_are_kept}
 use Rattle.dkg_core.proofs.Storing.{node_steps_keep_secrets}
 use Rattle.dkg_core.proofs.Walking as walk
 use Rattle.dkg_dealing.specs.declared.stop.Stop.{Stop}

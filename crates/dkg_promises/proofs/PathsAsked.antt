@@ -38,7 +38,7 @@ use Rattle.dkg_core.specs.Fixed.{Fixed}
 use Rattle.dkg_core.specs.Forms.{Applied, IsNodeBegun, Judged, Passed, Refusal, judged_block}
 use Rattle.dkg_core.specs.Live.{Finalized, Follows, Live, Message, NodeStop, of_epoch}
 use Rattle.dkg_core.specs.Logs.{canonical}
-use Rattle.dkg_core.specs.NodeThrough.{IsNodeThrough}
+use Rattle.dkg_laws.specs.NodeThrough.{IsNodeThrough}
 use Rattle.dkg_core.specs.Said.{Said}
 use Rattle.dkg_core.specs.Seen.{Seen}
 use Rattle.dkg_core.specs.Sources.{Tip}

@@ -28,9 +28,9 @@ use Rattle.dkg_core.specs.Live.{Live, Message, NodeStop}
 use Rattle.dkg_core.specs.Node.{node_opening, node_step}
 use Rattle.dkg_core.specs.Said.{Said}
 use Rattle.dkg_core.specs.Seen.{Seen}
-use Rattle.dkg_core.proofs.NodeThrough.{node_steps_lead_through_over}
-use Rattle.dkg_core.proofs.Openings.{node_openings_lead_over}
-use Rattle.dkg_core.proofs.Said.{runs_say}
+use Rattle.dkg_laws.proofs.NodeThrough.{node_steps_lead_through_over}
+use Rattle.dkg_laws.proofs.Openings.{node_openings_lead_over}
+use Rattle.dkg_laws.proofs.Said.{runs_say}
 use Rattle.dkg_promises.specs.Answers.{IsPathAnswer}
 use Rattle.dkg_lives.specs.Epochs.{IsLifeInForm, any_shares, epoch_by}
 use Rattle.dkg_lives.specs.Given.{AreBytes, Lived, at_step, lived, step_of}

@@ -38,7 +38,7 @@ use Rattle.dkg_core.specs.Including.{Fed, Need, Found, Lacks, Next, can_finish, 
 use Rattle.dkg_core.specs.Live.{Artifact, Cached, Cancel, Deals, Ends, EpochInfoOf, Faulted, Feed, Finalized, Follows, Inclusion, Includes, Job, Live, Mail, Message, NextLog, NodeStop, Over, Participation, Peer, ReleaseLog, Request, Sent, Stage, VerifiedLogs, Verified, Work, is_last_height, recorded_at, with_inclusion, with_participation, with_queue, with_tip, with_used}
 use Rattle.dkg_core.specs.Logs.{canonical, filled_by, is_accepted, log_event}
 use Rattle.dkg_core.specs.Node.{node_step, unless_once}
-use Rattle.dkg_core.specs.NodeSaying.{IsHalfLine}
+use Rattle.dkg_laws.specs.NodeSaying.{IsHalfLine}
 use Rattle.dkg_core.specs.Said.{Said}
 use Rattle.dkg_core.specs.SayingThrough.{IsUnasked, SaysSo}
 use Rattle.dkg_core.specs.Setup as s

@@ -31,7 +31,7 @@ use Rattle.dkg_core.specs.Live as core
 use Rattle.dkg_core.specs.Blocks.{unoffered, with_log, without_own_log}
 use Rattle.dkg_core.specs.Live.{Deals, Finalized, Includes, Live, Mail, Stage, is_last_height, recorded_at, with_participation}
 use Rattle.dkg_core.specs.Logs.{is_accepted, recorded_log}
-use Rattle.dkg_core.specs.LogsRecorded.{first_of_both}
+use Rattle.dkg_laws.specs.LogsRecorded.{first_of_both}
 use Rattle.dkg_core.specs.Seen.{Seen}
 use Rattle.dkg_core.specs.Sources.{Tip}
 use Rattle.dkg_core.specs.Stepping.{dealt_behind, given_itself}

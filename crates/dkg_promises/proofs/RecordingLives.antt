@@ -33,15 +33,15 @@ use Rattle.dkg_core.specs.Forms.{Applied, Judged, Passed, Refusal, judged_block}
 use Rattle.dkg_core.specs.Laws.{reach_of}
 use Rattle.dkg_core.specs.Live as core
 use Rattle.dkg_core.specs.Live.{Finalized, Follows, Live, Mail, Message, NodeStop, Participation, Sent, is_last_height}
-use Rattle.dkg_core.specs.LogsRecorded.{IsNotedNow}
+use Rattle.dkg_laws.specs.LogsRecorded.{IsNotedNow}
 use Rattle.dkg_core.specs.Node.{node_opening, node_step}
-use Rattle.dkg_core.specs.NodeThrough.{IsNodeThrough}
+use Rattle.dkg_laws.specs.NodeThrough.{IsNodeThrough}
 use Rattle.dkg_core.specs.Seen.{Seen}
 use Rattle.dkg_core.specs.Through.{IsBlockThrough, IsEndThrough, IsLiveThrough}
 use Rattle.dkg_core.proofs.Heights.{next_last}
-use Rattle.dkg_core.proofs.NodeKept.{node_steps_agree}
-use Rattle.dkg_core.proofs.NodeThrough.{node_steps_lead_through_over}
-use Rattle.dkg_core.proofs.RecordingLogs.{node_steps_record_logs}
+use Rattle.dkg_laws.proofs.NodeKept.{node_steps_agree}
+use Rattle.dkg_laws.proofs.NodeThrough.{node_steps_lead_through_over}
+use Rattle.dkg_laws.proofs.RecordingLogs.{node_steps_record_logs}
 use Rattle.dkg_lives.specs.Epochs.{IsLifeInForm, StandsInScript, any_shares}
 use Rattle.dkg_lives.specs.Given.{Lived, at_step, blocks_in, lived}
 use Rattle.dkg_promises.specs.SharesStand.{IsWholePast}

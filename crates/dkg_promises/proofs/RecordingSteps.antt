@@ -33,7 +33,7 @@ use Rattle.dkg_core.specs.Endings.{stage_in}
 use Rattle.dkg_core.specs.Live as core
 use Rattle.dkg_core.specs.Live.{Deals, Follows, Finalized, Includes, Live, Stage, is_last_height, recorded_at}
 use Rattle.dkg_core.specs.Logs.{recorded_log}
-use Rattle.dkg_core.specs.LogsRecorded.{IsNotedNow, IsRecordedNow}
+use Rattle.dkg_laws.specs.LogsRecorded.{IsNotedNow, IsRecordedNow}
 use Rattle.dkg_core.specs.Seen.{Seen}
 use Rattle.dkg_core.specs.Sources.{Tip}
 use Rattle.dkg_core.specs.Through.{IsLiveThrough, unasked}

@@ -47,7 +47,7 @@ use Rattle.dkg_core.specs.Endings.{validity}
 use Rattle.dkg_core.specs.Entering.{acked_at, asks_again, takes_delivered}
 use Rattle.dkg_core.specs.Fixed.{Fixed, Material, OneShot, has, start}
 use Rattle.dkg_core.specs.Forms.{Applied, IsForm, Judged, Passed, judged_block}
-use Rattle.dkg_core.specs.Idle.{IsAskedLine}
+use Rattle.dkg_laws.specs.Idle.{IsAskedLine}
 use Rattle.dkg_core.specs.Including as i
 use Rattle.dkg_core.specs.Including.{Next, cached_for}
 use Rattle.dkg_core.specs.Live.{Artifact, Deals, Dealer, Ends, Faulted, Finalized, Follows, GaveNone, Includes, Job, Live, NodeStop, Peer, Plays, Request, Seat, Sent, Stage, Verified, VerifiedLogs, Watches, awaited_height, is_last_height, of_epoch, phase_of, recorded_at, with_participation, with_queue, with_tip, with_told}
@@ -59,7 +59,7 @@ use Rattle.dkg_core.specs.Setup as s
 use Rattle.dkg_core.specs.Sources.{Tip, startup}
 use Rattle.dkg_core.proofs.Applied.{judged_is}
 use Rattle.dkg_core.proofs.Behind.{block_aside, heard_aside, opened_aside}
-use Rattle.dkg_core.proofs.Idle as idle
+use Rattle.dkg_laws.proofs.Idle as idle
 use Rattle.dkg_promises.specs.SharesStand.{Plays as PartPlays, WasSetUp, is_set_up}
 use Rattle.dkg_lives.proofs.HalfLines as halves
 

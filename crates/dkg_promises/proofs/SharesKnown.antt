@@ -39,9 +39,9 @@ use Rattle.dkg_core.specs.Endings.{CameTo, first_block, first_epoch}
 use Rattle.dkg_core.specs.Forms.{IsNodeBegun, IsOpeningStop, IsSeated, IsSetUpIn, LeavesHeld, held_behind, share_read, seed_read, started}
 use Rattle.dkg_core.specs.Logs.{canonical}
 use Rattle.dkg_core.specs.NodeEndings.{IsFaultBy}
-use Rattle.dkg_core.specs.NodeThrough.{IsActiveThrough, IsNodeThrough}
+use Rattle.dkg_laws.specs.NodeThrough.{IsActiveThrough, IsNodeThrough}
 use Rattle.dkg_core.specs.Same.{same_info}
-use Rattle.dkg_core.specs.SharesMoved.{IsSuchShare}
+use Rattle.dkg_laws.specs.SharesMoved.{IsSuchShare}
 use Rattle.dkg_core.specs.Through.{IsCarriedOn, IsLiveThrough, IsShareTaken, IsStopThrough}
 use Rattle.dkg_core.specs.Including.{can_finish}
 use Rattle.dkg_core.specs.Live.{Artifact, Deals, Ends, Finalized, Follows, Includes, Live, Message, NodeStop, Peer, Sent, Stage, is_last_height, with_orchestrator}
@@ -51,9 +51,9 @@ use Rattle.dkg_core.specs.Setup.{Uncommitted, recovered_share}
 use Rattle.dkg_core.specs.Sources.{anchored}
 use Rattle.dkg_core.specs.Storing.{ReadsSecrets}
 use Rattle.dkg_core.specs.Stepping.{next_epoch}
-use Rattle.dkg_core.proofs.NodeThrough.{node_openings_through, node_steps_lead_through_over}
-use Rattle.dkg_core.proofs.Openings.{node_openings_lead_over}
-use Rattle.dkg_core.proofs.Reading.{step_reads}
+use Rattle.dkg_laws.proofs.NodeThrough.{node_openings_through, node_steps_lead_through_over}
+use Rattle.dkg_laws.proofs.Openings.{node_openings_lead_over}
+use Rattle.dkg_laws.proofs.Reading.{step_reads}
 use Rattle.dkg_core.proofs.Same.{infos_agree}
 use Rattle.dkg_core.proofs.Storing.{looked_up}
 use Rattle.dkg_lives.specs.Epochs.{IsLifeInForm}

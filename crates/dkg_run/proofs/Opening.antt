@@ -34,7 +34,7 @@ use Rattle.dkg_core.specs.Sources.{Source, startup}
 use Rattle.dkg_core.specs.Splitting.{named}
 use Rattle.dkg_core.specs.Forms.{IsOpened, IsSeated, IsSetUpIn, registered_with, seed_read, share_read, started}
 use Rattle.dkg_core.specs.Endings.{OnInfo, first_block, first_epoch}
-use Rattle.dkg_core.proofs.Openings.{openings_lead}
+use Rattle.dkg_laws.proofs.Openings.{openings_lead}
 use Rattle.dkg_reshare.specs.Actors.{EndsAt, IfIncluding, IsLiving, lives}
 use Rattle.dkg_dealing.specs.Ends.{by_cause, by_stop, cause_in}
 use Rattle.dkg_dealing.specs.Given.{IsLent, IsOf, reading}

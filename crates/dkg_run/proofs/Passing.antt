@@ -16,7 +16,7 @@ use Rattle.dkg_core.specs.Entering.{is_ready}
 use Rattle.dkg_core.specs.Fixed.{Fixed}
 use Rattle.dkg_core.specs.Forms.{Applied, Judged, Passed, Refusal, judged_block, registered_with}
 use Rattle.dkg_core.specs.Live.{Deals, Ends, Finalized, Follows, Includes, Live, Orchestrator, Stage, awaited_height, is_last_height}
-use Rattle.dkg_core.specs.NodeThrough.{IsActiveThrough}
+use Rattle.dkg_laws.specs.NodeThrough.{IsActiveThrough}
 use Rattle.dkg_core.specs.Setup.{is_past_range, scheme_for}
 use Rattle.dkg_core.specs.Sources.{Tip}
 use Rattle.dkg_core.specs.Through.{IsAppliedThrough, IsBlockThrough, IsFormThrough, IsIncludedThrough, IsLiveThrough, IsNextThrough, IsPassedOn}

@@ -1,5 +1,0 @@
-use Rattle.dkg_core.proofs.Openings.{halves_begin as law}
-use Rattle.dkg_core.proofs.halves_begin.Goals as goal
-
-pub returns : goal.returns
-returns g c = law

@@ -1,5 +1,0 @@
-use Rattle.dkg_core.proofs.Idle.{mails_are_idle as law}
-use Rattle.dkg_core.proofs.mails_are_idle.Goals as goal
-
-pub returns : goal.returns
-returns g c = law

@@ -1,5 +1,0 @@
-use Rattle.dkg_core.proofs.NodeEndings.{node_dues_are_answered as law}
-use Rattle.dkg_core.proofs.node_dues_are_answered.Goals as goal
-
-pub returns : goal.returns
-returns g c = law

@@ -1,5 +1,0 @@
-use Rattle.dkg_core.proofs.Spared.{node_openings_keep_notes as law}
-use Rattle.dkg_core.proofs.node_openings_keep_notes.Goals as goal
-
-pub returns : goal.returns
-returns g c = law

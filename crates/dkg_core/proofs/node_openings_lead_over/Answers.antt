@@ -1,5 +1,0 @@
-use Rattle.dkg_core.proofs.Openings.{node_openings_lead_over as law}
-use Rattle.dkg_core.proofs.node_openings_lead_over.Goals as goal
-
-pub returns : goal.returns
-returns g c = law

@@ -1,5 +1,0 @@
-use Rattle.dkg_core.proofs.NodeKept.{node_openings_restore as law}
-use Rattle.dkg_core.proofs.node_openings_restore.Goals as goal
-
-pub returns : goal.returns
-returns g c = law

@@ -1,5 +1,0 @@
-use Rattle.dkg_core.proofs.NodeKept.{node_steps_give_back as law}
-use Rattle.dkg_core.proofs.node_steps_give_back.Goals as goal
-
-pub returns : goal.returns
-returns g c = law

@@ -1,5 +1,0 @@
-use Rattle.dkg_core.proofs.Observing.{observes_nothing_else as law}
-use Rattle.dkg_core.proofs.observes_nothing_else.Goals as goal
-
-pub returns : goal.returns
-returns g c = law

@@ -1,5 +1,0 @@
-use Rattle.dkg_core.proofs.Quiet.{openings_are_quiet as law}
-use Rattle.dkg_core.proofs.openings_are_quiet.Goals as goal
-
-pub returns : goal.returns
-returns g c = law

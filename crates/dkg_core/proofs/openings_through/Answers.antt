@@ -1,6 +1,0 @@
-use Rattle.dkg_core.specs.Asked.{read_somewhere}
-use Rattle.dkg_core.proofs.NodeThrough.{openings_through as law}
-use Rattle.dkg_core.proofs.openings_through.Goals as goal
-
-pub returns : goal.returns
-returns g c = λ its. law its (read_somewhere its)

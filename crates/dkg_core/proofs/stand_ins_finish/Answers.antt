@@ -1,5 +1,0 @@
-use Rattle.dkg_core.proofs.Finishing.{stand_ins_finish as law}
-use Rattle.dkg_core.proofs.stand_ins_finish.Goals as goal
-
-pub returns : goal.returns
-returns g c = law

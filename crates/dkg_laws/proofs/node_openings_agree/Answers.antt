@@ -1,0 +1,5 @@
+use Rattle.dkg_laws.proofs.NodeKept.{node_openings_agree as law}
+use Rattle.dkg_laws.proofs.node_openings_agree.Goals as goal
+
+pub returns : goal.returns
+returns g c = law

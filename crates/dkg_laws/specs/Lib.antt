@@ -1,0 +1,9 @@
+pub mod BlocksKept
+pub mod Idle
+pub mod Imaged
+pub mod LogsRecorded
+pub mod NodeKept
+pub mod NodeSaying
+pub mod NodeThrough
+pub mod SharesMoved
+pub mod Spared
