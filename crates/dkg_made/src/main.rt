@@ -4,7 +4,8 @@
 #![tactic(auto)]
 
 use dkg_generator::make_script;
-use dkg_text::{read_script, script_text};
+use dkg_reading::read_script;
+use dkg_text::script_text;
 use dkg_values::{Mem, NoMemory};
 use sha2::{Digest, Sha256};
 use std::alloc::Global;

@@ -13,7 +13,7 @@ use Rattle.dkg_types.specs.declared.entry.AnswerLine.TheVariants.{Available, Una
 use Rattle.dkg_types.specs.declared.entry.Entry.{Entry}
 use Rattle.dkg_types.specs.declared.entry.Entry.TheVariants as entry
 use Rattle.dkg_types.specs.declared.entry.Entry.TheVariants.{Answer}
-use Rattle.dkg_text.specs.Asked.{asks, is_asked}
+use Rattle.dkg_reading.specs.Asked.{asks, is_asked}
 use Rattle.dkg_text.specs.declared.script.Event.{Event}
 use Rattle.dkg_text.specs.declared.script.Event.TheVariants as event
 use Rattle.dkg_store.specs.Acts.{went}

@@ -1,7 +1,7 @@
 -- The words that ask for a made script, or for its run, ask for one alone.
 use Rattle.std.proofs.Common.{◌≡◌, ◌<◌, ◌^◌, ◌∙◌, ℕ, List, [], Some, get_or, decimal, sym, ap}
-use Rattle.dkg_text.specs.Rows.{decimal_of}
-use Rattle.dkg_text.proofs.FieldLaws.{number_law}
+use Rattle.dkg_reading.specs.Rows.{decimal_of}
+use Rattle.dkg_reading.proofs.FieldLaws.{number_law}
 use Rattle.dkg_run.specs.Command.{IsMake, IsRunOfMade}
 
 by_text : (n m : ℕ) → n < 2 ^ 64 → m < 2 ^ 64 → decimal n ≡ decimal m → n ≡ m

@@ -7,7 +7,7 @@ use Rattle.dkg_types.specs.declared.entry.Entry.{Entry}
 use Rattle.dkg_types.specs.declared.fault.Fault.{Fault}
 use Rattle.dkg_types.specs.declared.fault.ConfigCause.{ConfigCause}
 use Rattle.dkg_types.specs.declared.fault.Fault.TheVariants.{NoMemory, Disk, Secrets, InvalidConfig}
-use Rattle.dkg_text.specs.Grammar.{reading_of, script_of, script_or_place, with_place}
+use Rattle.dkg_reading.specs.Grammar.{reading_of, script_of, script_or_place, with_place}
 use Rattle.dkg_text.specs.Printing.{lines_of}
 use Rattle.dkg_text.specs.declared.script.Script.{Script}
 use Rattle.dkg_script.specs.InForm.{is_in_form}

@@ -6,7 +6,7 @@ use Rattle.dkg_types.specs.declared.fault.Fault.{Fault}
 use Rattle.dkg_types.specs.declared.fault.Fault.TheVariants as fault
 use Rattle.dkg_text.specs.declared.script.Script.{Script}
 use Rattle.dkg_text.specs.Fields.{number_field}
-use Rattle.dkg_text.specs.Grammar.{script_of, script_or_place}
+use Rattle.dkg_reading.specs.Grammar.{script_of, script_or_place}
 use Rattle.dkg_text.specs.Printing.{lines_of}
 use Rattle.dkg_text.specs.Summary.{summary_of}
 use Rattle.dkg_text.specs.Writing.{text_of}

@@ -9,7 +9,7 @@ use Rattle.dkg_text.specs.declared.script.BlockLine.{BlockLine}
 use Rattle.dkg_text.specs.declared.script.Event.{Event}
 use Rattle.dkg_text.specs.declared.script.Event.TheVariants.{Peer, Final}
 use Rattle.dkg_text.specs.declared.script.Script.{Script}
-use Rattle.dkg_text.specs.Spells.{FitAfter}
+use Rattle.dkg_reading.specs.Spells.{FitAfter}
 use Rattle.dkg_script.specs.Asked.{IsAskedAnew}
 use Rattle.dkg_script.specs.Blocks.{Block}
 use Rattle.dkg_script.specs.Epochs.{IsAnchorIn, IsBlockIn, IsEventIn, IsFormOfEpochs, alone}

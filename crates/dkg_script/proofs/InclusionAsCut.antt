@@ -1,7 +1,7 @@
 -- A script of the form of inclusion is of it however its lives were cut.
 use Rattle.std.proofs.Common.{◌≡◌, ℕ, zero, suc, Bool, true, false, cond, List, [], ◌∷◌, ◌++◌, Option, Some, None, refl, subst, sym, take, ◌∙◌}
 use Rattle.std.specs.Prelude.{◌==◌, option_map, slice_get}
-use Rattle.dkg_text.specs.Spells.{FitAfter}
+use Rattle.dkg_reading.specs.Spells.{FitAfter}
 use Rattle.dkg_text.specs.declared.script.Event.{Event}
 use Rattle.dkg_text.specs.declared.script.Life.{Life}
 use Rattle.dkg_text.specs.declared.script.Script.{Script}

@@ -20,14 +20,14 @@ use Rattle.dkg_text.specs.declared.script.Event.TheVariants.{Info}
 use Rattle.dkg_text.specs.declared.script.Life.{Life}
 use Rattle.dkg_text.specs.declared.script.PlayerLine.{PlayerLine}
 use Rattle.dkg_text.specs.declared.script.Script.{Script}
-use Rattle.dkg_text.specs.Allowed.{IsAnchor, IsBlockLine, IsEventAfter, IsLife, IsPlayerLine, IsScript}
-use Rattle.dkg_text.specs.Asked.{is_asked}
+use Rattle.dkg_reading.specs.Allowed.{IsAnchor, IsBlockLine, IsEventAfter, IsLife, IsPlayerLine, IsScript}
+use Rattle.dkg_reading.specs.Asked.{is_asked}
 use Rattle.dkg_text.specs.PayloadKinds.{payload_kind, kind_of, unit_kind}
-use Rattle.dkg_text.specs.Grammar.{absent_from, is_above, is_event, is_payload, limit_of, reading_of, script_of, script_or_place, with_place}
-use Rattle.dkg_text.specs.Rows.{◌>>=◌}
-use Rattle.dkg_text.specs.Spells.{FitAfter}
-use Rattle.dkg_text.proofs.Rise.{is_rising, pair_above, rising_is}
-use Rattle.dkg_text.proofs.ScriptLaws.{written_again}
+use Rattle.dkg_reading.specs.Grammar.{absent_from, is_above, is_event, is_payload, limit_of, reading_of, script_of, script_or_place, with_place}
+use Rattle.dkg_reading.specs.Rows.{◌>>=◌}
+use Rattle.dkg_reading.specs.Spells.{FitAfter}
+use Rattle.dkg_reading.proofs.Rise.{is_rising, pair_above, rising_is}
+use Rattle.dkg_reading.proofs.ScriptLaws.{written_again}
 use Rattle.dkg_script.specs.Asked.{AskAnew, IsAskedAnew}
 use Rattle.dkg_script.specs.InForm.{IsOfText}
 use Rattle.dkg_script.specs.Epochs.{IsAnchorIn, IsBlockIn}

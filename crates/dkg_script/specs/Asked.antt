@@ -1,7 +1,7 @@
 -- Requests of a life: their numbers, and the blocks that each is fed.
 use Rattle.std.specs.Prelude.{ℕ, ◌≡◌, ◌==◌, false, List, [], ◌∷◌, take, if◌then◌else◌, ⊤}
-use Rattle.dkg_text.specs.Asked.{is_asked}
-use Rattle.dkg_text.specs.Spells.{FitAfter}
+use Rattle.dkg_reading.specs.Asked.{is_asked}
+use Rattle.dkg_reading.specs.Spells.{FitAfter}
 use Rattle.dkg_text.specs.declared.script.Event.{Event}
 use Rattle.dkg_text.specs.declared.script.Event.TheVariants.{Info, Feed, Over, Cancel}
 use Rattle.dkg_text.specs.declared.script.Life.{Life}

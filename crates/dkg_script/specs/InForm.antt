@@ -4,14 +4,14 @@ use Rattle.std.specs.Prelude.{List, [], ◌∷◌, length, is_some, None, IfSome
 use Rattle.std.specs.Int.NonZero.{non_zero_u32_get}
 use Rattle.std.specs.List.{AllByRecursion}
 use Rattle.dkg_values.specs.Rising.{rises}
-use Rattle.dkg_text.specs.declared.error.ScriptError.{ScriptError}
-use Rattle.dkg_text.specs.declared.error.ScriptError.TheVariants as error
+use Rattle.dkg_reading.specs.declared.error.ScriptError.{ScriptError}
+use Rattle.dkg_reading.specs.declared.error.ScriptError.TheVariants as error
 use Rattle.dkg_text.specs.declared.script.Event.{Event}
 use Rattle.dkg_text.specs.declared.script.Event.TheVariants.{Peer, Final, Next, Release, Info, Feed, Over, Cancel, Work}
 use Rattle.dkg_text.specs.declared.script.Life.{Life}
 use Rattle.dkg_text.specs.declared.script.Script.{Script}
 use Rattle.dkg_text.specs.declared.script.ScriptConfig.{ScriptConfig}
-use Rattle.dkg_text.specs.Laws.{IsPlace}
+use Rattle.dkg_reading.specs.Laws.{IsPlace}
 use Rattle.dkg_script.specs.declared.read.ReadError.{ReadError}
 use Rattle.dkg_script.specs.declared.read.ReadError.TheVariants.{Bad, Unsupported, NoMemory}
 use Rattle.dkg_script.specs.Asked.{AskAnew}

@@ -1,4 +1,4 @@
-//! What a run of a node's lives promises, and which scripts are run so far. The scripts and their text are those of `dkg_text`.
+//! What a run of a node's lives promises, and which scripts are run so far. The scripts are those of `dkg_text`, read by `dkg_reading`.
 //!
 //! A reader of the promise begins with three files. `specs/Promise.antt` has what a run of a script promises and its premises:
 //! `RunsInOrder`, `RunsAll`, `KeepsDealings` and `AnswersDealings` are the clauses of the call that runs the lives, and `IsBuilt` and

@@ -3,14 +3,15 @@
 //! There is one form yet that is run: a reshare of any blocks, whose lives begin anywhere and receive messages of the dealing channel, blocks,
 //! requests for logs, and messages of final blocks' requests.
 ghost use Rattle.std.specs.Prelude.{◌≡◌, IfOk};
-ghost use Rattle.dkg_text.specs.Grammar.{script_or_place};
+ghost use Rattle.dkg_reading.specs.Grammar.{script_or_place};
 ghost use Rattle.dkg_script.specs.InForm.{ReadsInForm, TellsPlace, refusal_of};
 ghost use Rattle.dkg_script.specs.Inclusion.{IsFormOfInclusion};
 ghost use Rattle.dkg_script.specs.declared.read.ReadError.TheVariants.{NoMemory as OutOfMemory};
 
 use crate::in_form::is_in_form;
 use dkg_ceremony::NoMemory;
-use dkg_text::{Script, ScriptError, read_script};
+use dkg_reading::{ScriptError, read_script};
+use dkg_text::Script;
 use std::alloc::Global;
 use thiserror::Error;
 

@@ -160,7 +160,7 @@ impl Carried {
     }
 
     /// The bytes, and whether they spell a payload under limits.
-    pub(crate) fn read(
+    pub fn read(
         alloc: Global,
         addressed: bool,
         limits: (NonZeroU32, ModeVersion),

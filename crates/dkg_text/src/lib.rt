@@ -1,40 +1,26 @@
-//! Scripts of a node's lives and the text of scripts and transcripts.
+//! Scripts of a node's lives as plain data, and the text of scripts and transcripts.
 //!
-//! `read_script` reads a script's text and `script_text` writes it; `print_of` writes a transcript's. The crates above say what a
-//! run of a script promises, and run it.
+//! `script_text` writes a script's text, `print_of` a transcript's, and `summary` that of a run that is told by numbers. The crates above
+//! read scripts, say what a run of one promises, and run it.
 #![tactic(auto)]
 
-mod asked;
-mod block_lines;
 mod carried;
-mod config_lines;
-mod error;
-mod event_lines;
 mod events;
 mod fault;
-mod fields;
 mod held;
-mod laws;
-mod life_lines;
-mod lines;
 mod payload;
 mod print;
-mod read;
 mod script;
-mod stop;
 mod tallies;
 mod text;
 mod words;
 mod write;
 
 pub use carried::Carried;
-pub use error::ScriptError;
 pub use events::Events;
-pub use fields::number;
 pub use held::{Ancestry, MessageBytes};
-pub use laws::{place_is_first, read_is_written, written_is_read};
+pub use payload::{MOST_PARTICIPANTS, is_info};
 pub use print::print_of;
-pub use read::read_script;
 pub use script::{
     Anchor, BlockLine, BlockLines, Cut, Event, Indexes, Life, Lives, PlayerLine, PlayerLines,
     ProbeLine, Script, ScriptConfig, SyncLine,

@@ -19,7 +19,7 @@ pub(crate) enum PayloadKind {
 }
 
 /// The highest limit of participants.
-pub(crate) const MOST_PARTICIPANTS: u32 = 1 << 30;
+pub const MOST_PARTICIPANTS: u32 = 1 << 30;
 
 fn kind<Dir: Directory + Drop>(
     alloc: Global,
@@ -65,7 +65,7 @@ fn widest() -> (NonZeroU32, ModeVersion)
 
 /// Whether the bytes spell an info under the widest limits.
 #[tactic(auto, unfolding(crate::specs::PayloadKinds::is_info))]
-pub(crate) fn is_info(alloc: Global, addressed: bool, bytes: &[u8]) -> Mem<bool>
+pub fn is_info(alloc: Global, addressed: bool, bytes: &[u8]) -> Mem<bool>
     ensures { IfOk result (λ yes. yes ≡ is_info_of addressed bytes.now) }
 {
     match carried_by(alloc, addressed, widest(), bytes)? {

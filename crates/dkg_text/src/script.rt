@@ -1,7 +1,7 @@
 //! The script of one node's lives, as plain data: what the node is given, the blocks that there are, and
 //! what happens in each life.
 //!
-//! `read_script` makes one from its text, and the node's driver goes through it life by life. Payloads are
+//! `dkg_reading` makes one from its text, and the node's driver goes through it life by life. Payloads are
 //! bytes that decode; numbers of blocks count the block lines from 0.
 ghost use Rattle.std.specs.Prelude.{◌≡◌};
 

@@ -2,7 +2,8 @@
 
 use crate::asserts::is;
 use dkg_generator::make_script;
-use dkg_text::{read_script, script_text};
+use dkg_reading::read_script;
+use dkg_text::script_text;
 use std::test::Fail;
 
 #[test]

@@ -4,7 +4,8 @@ mod lines;
 
 use crate::asserts::is;
 use dkg_ceremony::Key;
-use dkg_text::{Script, ScriptError, event_bytes, read_script, script_text};
+use dkg_reading::{ScriptError, read_script};
+use dkg_text::{Script, event_bytes, script_text};
 use std::alloc::Global;
 use std::process::Abort;
 use std::test::Fail;

@@ -2,7 +2,7 @@
 use Rattle.std.specs.Prelude.{ℕ, ◌&&◌, ◌||◌, nat_lt, not, is_some, Bool, true, false, if◌then◌else◌, List, [], ◌∷◌, ◌++◌, take, drop, Option, Some, None, codes}
 use Rattle.std.specs.Str.{bytes_eq}
 use Rattle.std.specs.Option.{option_map_or}
-use Rattle.dkg_text.specs.Rows.{decimal_of}
+use Rattle.dkg_reading.specs.Rows.{decimal_of}
 use Rattle.dkg_words.specs.declared.before.Before.{Before}
 use Rattle.dkg_words.specs.declared.names.Name.{Name}
 use Rattle.dkg_words.specs.declared.names.Name.TheVariants.{Block}

@@ -1,6 +1,6 @@
 -- The parts of a text: its lines, and a line's fields.
 use Rattle.std.specs.Prelude.{◌≡◌, ℕ, ◌+◌, ◌==◌, suc, if◌then◌else◌, List, [], ◌∷◌, ◌++◌, take, Option, Some, None, unwrap_or}
-use Rattle.dkg_text.specs.Rows.{decimal_of}
+use Rattle.dkg_reading.specs.Rows.{decimal_of}
 
 -- what stands before the first such byte, or all of a text that has none
 abbrev pub until : (at : ℕ) → List ℕ → List ℕ

@@ -10,7 +10,7 @@ use crate::names::{Name, is_probing, name_of};
 use crate::notes::note;
 use crate::put::{put, put_number, put_shown};
 use crate::stages::{allows, stage_behind, words};
-use dkg_text::number;
+use dkg_reading::number;
 use dkg_values::Mem;
 use std::alloc::Global;
 

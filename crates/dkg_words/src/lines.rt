@@ -3,7 +3,7 @@ ghost use Rattle.std.specs.Prelude.{◌≡◌, ◌≢◌, ◌<◌, ◌+◌, All,
 ghost use Rattle.dkg_text.specs.Fields.{IsCutAt};
 ghost use Rattle.dkg_words.specs.Lines.{IsParted, IsWhole, behind as behind_of, first_number as first_number_of, line_number as line_number_of, number_or_zero as number_or_zero_of, over_lines, second_number as second_number_of, until as until_of};
 
-use dkg_text::number;
+use dkg_reading::number;
 use memchr::memchr;
 
 fn parted(text: &[u8], at: u8) -> Option<(&[u8], &[u8])>

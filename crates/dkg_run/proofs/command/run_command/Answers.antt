@@ -1,5 +1,5 @@
 use Rattle.std.proofs.Common.{◌∙◌, ap, false, inl, inr, length, refl, sym}
-use Rattle.dkg_text.specs.Grammar.{script_of}
+use Rattle.dkg_reading.specs.Grammar.{script_of}
 use Rattle.dkg_run.proofs.Asked.{same_number, same_run}
 use Rattle.dkg_run.proofs.Reported.{blamed, device_rose, done_or_memory, from_place, is_silent, not_more, status_told}
 use Rattle.dkg_run.proofs.command.run_command.Goals as goal

@@ -1,7 +1,7 @@
 use Rattle.std.proofs.Common.{◌≡◌, [], ℕ, List, Result, Ok, Err, false, inl, refl, subst, sym, ◌∙◌, ap}
 use Rattle.std.specs.Prelude.{IfOk}
 use Rattle.std.proofs.lemmas.List.{append-nil}
-use Rattle.dkg_text.specs.Grammar.{script_or_place}
+use Rattle.dkg_reading.specs.Grammar.{script_or_place}
 use Rattle.dkg_text.specs.declared.script.Script.{Script}
 use Rattle.dkg_script.specs.InForm.{ReadsInForm}
 use Rattle.dkg_script.specs.Inclusion.{IsFormOfInclusion}

@@ -1,0 +1,8 @@
+pub mod Allowed
+pub mod Asked
+pub mod Grammar
+pub mod Laws
+pub mod Lines
+pub mod Positive
+pub mod Rows
+pub mod Spells

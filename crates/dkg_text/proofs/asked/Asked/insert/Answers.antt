@@ -1,6 +1,0 @@
-use Rattle.std.proofs.Common.{◌∙◌, ap, is_some, Option, ℕ}
-use Rattle.dkg_text.proofs.Numbered.{added}
-use Rattle.dkg_text.proofs.asked.Asked.insert.Goals as goal
-
-pub returns : goal.returns
-returns c = λ request. ap (λ (o : Option ℕ). is_some o) (c.in_ok-insert.ensures.updates.0 request) ∙ added c.args.number request _

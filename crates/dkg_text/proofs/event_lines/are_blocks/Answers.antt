@@ -1,5 +1,0 @@
-use Rattle.dkg_text.proofs.Numbered.{blocks_value}
-use Rattle.dkg_text.proofs.event_lines.are_blocks.Goals as goal
-
-pub returns : goal.returns
-returns c = blocks_value c.are_all_below.result c.args.blocks c.args.numbers.now c.are_all_below.ensures

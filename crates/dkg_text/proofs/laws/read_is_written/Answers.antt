@@ -1,5 +1,0 @@
-use Rattle.dkg_text.proofs.ScriptLaws.{written_again}
-use Rattle.dkg_text.proofs.laws.read_is_written.Goals as goal
-
-pub returns : goal.returns
-returns c = written_again
