@@ -218,6 +218,15 @@ pub taken_current : (desk : Desk) (epoch : ℕ) (info : SchemeInfo) (b : Bool) �
 taken_current desk epoch info b judged is below =
     from_unreplaced desk.current epoch (taken_from (replaced_by desk.current epoch) (is_own desk.me info) (material_of desk epoch) epoch info (subst (λ (v : Bool). JudgesRegistration desk epoch info (Ok v)) is judged)) below
 
+-- material that isn't refused is the desk's own
+own_from : (replaced : Option ℕ) (own : Bool) (held : Option SchemeInfo) (epoch : ℕ) (info : SchemeInfo) (b : Bool) → Verdict replaced own held epoch info (Ok b) → own ≡ true
+own_from (Some c) own held epoch info b tests = absurd (ok_not_err _ _ tests)
+own_from None false held epoch info b tests = absurd (ok_not_err _ _ tests)
+own_from None true held epoch info b tests = refl
+
+pub judged_own : (desk : Desk) (epoch : ℕ) (info : SchemeInfo) (b : Bool) → JudgesRegistration desk epoch info (Ok b) → is_own desk.me info ≡ true
+judged_own desk epoch info b judged = own_from (replaced_by desk.current epoch) (is_own desk.me info) (material_of desk epoch) epoch info b judged
+
 -- fewer deeds
 pub keeps_before : (deed : Deed) (deeds : List Deed) (image : Files → Type 0) → KeepsPromise (deed ∷ deeds) image → KeepsPromise deeds image
 keeps_before deed deeds image keeps = record { never_back = before deed keeps.never_back; recorded = λ c now. covers (recorded c) (keeps.recorded c now) }

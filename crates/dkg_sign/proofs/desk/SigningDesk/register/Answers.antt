@@ -1,10 +1,12 @@
-use Rattle.std.proofs.Common.{ℕ, List, [], ◌∷◌, Some, refl, sym, ◌∙◌, subst}
+use Rattle.std.proofs.Common.{ℕ, List, [], ◌∷◌, Some, refl, sym, ◌∙◌, ap, subst}
 use Rattle.std.proofs.lemmas.Result.{err_from_is_err_and}
 use Rattle.dkg_sign.specs.Lives.{Deed, KeepsPromise, Covers}
 use Rattle.dkg_journal.specs.Fuse.{Ran, RanAll}
 use Rattle.dkg_sign.specs.Registers.{put_call}
+use Rattle.dkg_sign.specs.Desks.{Desk}
+use Rattle.dkg_sign.specs.Materials.{is_own}
 use Rattle.dkg_sign.proofs.Fuses.{moved, moved_all, unmoved}
-use Rattle.dkg_sign.proofs.Deeds.{RegisteredIn, refusal_fused, again_lives, failed_lives, put_lives, taken_current, taken_lives, unregistered}
+use Rattle.dkg_sign.proofs.Deeds.{RegisteredIn, refusal_fused, again_lives, failed_lives, judged_own, put_lives, taken_current, taken_lives, unregistered}
 use Rattle.dkg_sign.proofs.desk.SigningDesk.register.Goals as goal
 use Rattle.dkg_sign.proofs.desk.SigningDesk.register.Goals.{then-is_below+in_ok-put_epoch, else-is_below}
 
@@ -20,6 +22,9 @@ returns-in_err-put_epoch-clause-lives g c = λ tells stands deeds keeps.
     let p = err_from_is_err_and c.from_residual-in_err-put_epoch.result c.from_residual-in_err-put_epoch.ensures.1 in
     unregistered c.from_residual-in_err-put_epoch.result p.0 (λ (ds : List Deed). KeepsPromise ds (g.D.Disk.image c.put_epoch.new.disk) × Covers c.args.self.now.current ds) c.args.epoch deeds p.1
     (failed_lives c.args.self.now c.args.epoch (g.D.Disk.files c.args.disk.now) (g.D.Disk.image c.args.disk.now) (g.D.Disk.image c.put_epoch.new.disk) deeds (sym c.is_below.ensures ∙ c.if-is_below.true) (g.met.D.Disk.reads c.args.disk.now tells) stands keeps _ c.epoch.view_is (c.put_epoch.ensures.tried stands.settled))
+
+pub invariant_of-self : goal.invariant_of-self
+invariant_of-self g c = ap (λ (d : Desk). is_own d.me c.args.info) c.self.view_is ∙ judged_own c.args.self.now c.args.epoch c.args.info _ c.in_ok-judge.ensures
 
 pub returns-clause-lives : goal.returns-clause-lives
 returns-clause-lives g c = λ tells stands deeds keeps.
