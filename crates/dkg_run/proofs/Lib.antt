@@ -1,13 +1,8 @@
 pub mod Asked
 pub mod Behind
 pub mod Empty
-pub mod Entering
-pub mod Finding
 pub mod Going
-pub mod Halves
-pub mod Interrupted
 pub mod Lasting
-pub mod LinesFound
 pub mod Naming
 pub mod NodeOpens
 pub mod Noding
@@ -19,9 +14,7 @@ pub mod RecordsFound
 pub mod Reported
 pub mod Running
 pub mod Shutting
-pub mod Sourced
 pub mod Starting
-pub mod Stepping
 pub mod StepsOn
 pub mod Turns
 pub mod Twice

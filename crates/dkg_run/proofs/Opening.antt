@@ -54,7 +54,8 @@ use Rattle.dkg_dealing.proofs.Said.{said_of_runs}
 use Rattle.dkg_lives.specs.Ended.{by_node_stop}
 use Rattle.dkg_lives.specs.Epochs.{IsLifeInForm}
 use Rattle.dkg_lives.specs.Given.{Lived, at_step, limits_of, seen_at, source_at}
-use Rattle.dkg_run.specs.Nodes.{IsFenceReady, IsHalfGiven, IsView, MayEnter, ViewedNew, with_half}
+use Rattle.dkg_around.specs.Orchestrator.{IsFenceReady, IsHalfGiven, MayEnter, with_half}
+use Rattle.dkg_run.specs.Nodes.{IsView, ViewedNew}
 use Rattle.dkg_run.specs.declared.node.Node.{Node}
 use Rattle.dkg_run.proofs.Naming.{node_ends, node_goes, node_says, node_says_early}
 use Rattle.dkg_lives.proofs.Former.{form_at, lacks_nobody}

@@ -16,7 +16,7 @@ use Rattle.dkg_run.specs.Command.{IsTold}
 use Rattle.dkg_promises.specs.Complete.{IsSoundRun, IsValidAnyhow}
 use Rattle.dkg_script.specs.Ends.{EndsFaulted, EndsScript, IsNodeFault}
 use Rattle.dkg_lives.specs.Epochs.{refused_config}
-use Rattle.dkg_run.specs.Outside.{TookAll, TookMore}
+use Rattle.dkg_outside.specs.Outside.{TookAll, TookMore}
 use Rattle.dkg_promises.specs.Over.{Over}
 use Rattle.dkg_promises.specs.Promised.{DoesRun, Promised, RunsLives, SaysRun}
 use Rattle.dkg_run.specs.Reports.{Blamed, RanScript, RanNothing, WasRead, RanByStatus, fault_status, last_of}

@@ -17,7 +17,7 @@ use Rattle.dkg_dealing.specs.declared.stop.Stop.{Stop}
 use Rattle.dkg_dealing.specs.declared.stop.Stop.TheVariants.{Cut, Failed, Fault as FaultOf}
 use Rattle.dkg_lives.specs.Lives.{AnyFiles, EndsLife, LivesFrom, LivesHere, RunsAllSo, RunsSo, TellsEnd}
 use Rattle.dkg_lives.specs.Ways.{Way, Trace, by_lines, by_worlds, trace}
-use Rattle.dkg_run.proofs.Stepping.{drop_item}
+use Rattle.dkg_around.proofs.Stepping.{drop_item}
 
 -- A LIFE'S END over worlds, from that over lines: the devices' stops change nothing of what is held
 

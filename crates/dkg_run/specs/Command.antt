@@ -1,6 +1,6 @@
 -- What the words of a command ask for, and how a status is told: its text is written, and the command answers it.
 use Rattle.std.specs.Prelude.{ℕ, List, [], ◌∷◌, ◌≡◌, ◌<◌, ◌^◌, ◌++◌, ◌⊎◌, codes, decimal, length}
-use Rattle.dkg_run.specs.Outside.{HoldsFront}
+use Rattle.dkg_outside.specs.Outside.{HoldsFront}
 use Rattle.dkg_run.specs.declared.command.Status.{Status}
 use Rattle.dkg_run.specs.declared.command.Status.TheVariants.{WriteFault, NoMemory}
 

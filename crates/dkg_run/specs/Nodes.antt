@@ -1,13 +1,11 @@
 -- A node between two steps, as the relation's Live.
-use Rattle.std.specs.Prelude.{ℕ, ◌+◌, ◌<◌, ◌^◌, ◌≡◌, ⊤, Bool, true, false, Contains, List, None, Option, Some, Result, Ok, Err, IsSome, IsSomeAnd, slice_get}
+use Rattle.std.specs.Prelude.{ℕ, ◌≡◌, ⊤, Bool, Contains, List, Result, Ok, Err, IsSome, IsSomeAnd, slice_get}
 use Rattle.std.specs.Int.NonZero.{non_zero_u64_get}
 use Rattle.dkg_ceremony.specs.Acks.{ack_of, check_ack_of}
 use Rattle.dkg_ceremony.specs.Dealings.{dealing_of}
 use Rattle.dkg_ceremony.specs.Deals.{deal_of}
 use Rattle.dkg_ceremony.specs.Finishes.{finish_of}
-use Rattle.dkg_ceremony.specs.Schedule.{last}
 use Rattle.dkg_ceremony.specs.ValidLogs.{check_log_of}
-use Rattle.dkg_fence.specs.Readiness.{Readiness}
 use Rattle.dkg_journal.specs.Names.{Files}
 use Rattle.dkg_store.specs.Acts.{Ended, went}
 use Rattle.dkg_store.specs.declared.devices.Devices.{Devices}
@@ -16,17 +14,10 @@ use Rattle.dkg_text.specs.declared.script.Event.TheVariants.{Peer, Final, Next, 
 use Rattle.dkg_text.specs.declared.script.Life.{Life}
 use Rattle.dkg_types.specs.Blocks.{Block}
 use Rattle.dkg_types.specs.declared.directory.Unit as directory
-use Rattle.dkg_types.specs.declared.participants.TrackedPeers.{TrackedPeers}
-use Rattle.dkg_values.specs.Rising.{lookup}
-use Rattle.dkg_core.specs.Entering as core
-use Rattle.dkg_core.specs.Entering.{is_ready}
-use Rattle.dkg_core.specs.Fixed.{Fixed}
 use Rattle.dkg_core.specs.Live as core_live
-use Rattle.dkg_core.specs.Live.{Live, NodeStop, with_orchestrator}
+use Rattle.dkg_core.specs.Live.{Live, NodeStop}
 use Rattle.dkg_reshare.specs.declared.message.Message.{Message}
 use Rattle.dkg_reshare.specs.declared.message.Message.TheVariants as message
-use Rattle.dkg_core.specs.Sources.{Source}
-use Rattle.dkg_core.specs.Endings.{OnInfo, first_epoch}
 use Rattle.dkg_reshare.specs.Actors.{IfIncluding, IfLiving, IsOpenedOn, IsLiving, message_of}
 use Rattle.dkg_dealing.specs.Given.{IsOf}
 use Rattle.dkg_reshare.specs.CarriedLogs.{CarriesWithin}
@@ -37,66 +28,10 @@ use Rattle.dkg_dealing.specs.declared.stop.Stop.{Stop}
 use Rattle.dkg_lives.specs.Ended.{by_node_stop}
 use Rattle.dkg_script.specs.Players.{players_at}
 use Rattle.dkg_lives.specs.Epochs.{IsAt as StandsAt, IsLifeInForm, MayStep}
-use Rattle.dkg_lives.specs.Given.{AreBytes, IsUnplanned, Lived, at_step, blocks_in}
-use Rattle.dkg_run.specs.declared.half.Half.{Half}
-use Rattle.dkg_run.specs.declared.held.HeldBlocks.{HeldBlocks}
+use Rattle.dkg_lives.specs.Given.{AreBytes, Lived, at_step, blocks_in}
+use Rattle.dkg_around.specs.Orchestrator.{HasHalf, IsSettled}
+use Rattle.dkg_around.specs.declared.held.HeldBlocks.{HeldBlocks}
 use Rattle.dkg_run.specs.declared.node.Node.{Node}
-
--- THE ORCHESTRATOR'S HALF
-
--- What this half has in memory of a life. It doesn't wait.
-pub record HasHalf (half : Half) (st : Live directory.Unit) : Type 0 where
-  pub entered : st.orchestrator.entered ≡ half.entered
-  pub halted : st.orchestrator.halted ≡ half.halted
-  pub unawaited : st.orchestrator.waiting ≡ None
-
--- the life with this half, and with this fence
-abbrev pub with_half : Half → Readiness → Live directory.Unit → Live directory.Unit
-with_half half fence st =
-    with_orchestrator (record st.orchestrator { fence = fence; entered = half.entered; halted = half.halted; waiting = None }) st
-
-abbrev pub ends_half : Readiness → Live directory.Unit → Result Half Stop → Ended NodeStop (Live directory.Unit)
-ends_half fence st (Ok half) = went (with_half half fence st)
-ends_half fence st (Err stop) = by_node_stop stop
-
--- A Fixed that this half's opening is given: no plan is read.
-pub record IsHalfGiven (blocks : ℕ) (source : Source directory.Unit) (c : Fixed directory.Unit) : Type 0 where
-  pub blocks_are : c.blocks_per_epoch ≡ blocks
-  pub lent : c.source ≡ source
-  pub unplanned : IsUnplanned c.seen
-  pub lacks : (d : directory.Unit) (peers : TrackedPeers) → c.directories.lacking d peers ≡ None
-
--- Where its boundary block carries the epoch's info, the fence is ready for the epoch in which the life starts.
-abbrev pub IsFenceReady : Fixed directory.Unit → Readiness → Type 0
-IsFenceReady c fence = OnInfo c (λ info. info.epoch ≡ first_epoch c) → is_ready fence.ready (first_epoch c) ≡ true
-
--- The half has not begun, and the epoch in which the life starts was registered where that block carries its info.
-pub record MayEnter (c : Fixed directory.Unit) (fence : Readiness) (st : Live directory.Unit) : Type 0 where
-  pub unentered : st.orchestrator.entered ≡ None
-  pub going : st.orchestrator.halted ≡ false
-  pub unawaited : st.orchestrator.waiting ≡ None
-  pub fence_is : st.orchestrator.fence ≡ fence
-  pub registered : OnInfo c (λ info. info.epoch ≡ first_epoch c) → IsSome (lookup (first_epoch c) st.orchestrator.schemes)
-
--- The fence is the half's, and where the block is the last of the epoch that was entered, the next one was registered, and no peer lacks an address.
-pub record MayGoOn (c : Fixed directory.Unit) (fence : Readiness) (b : Block directory.Unit) (epoch : ℕ) (st : Live directory.Unit) : Type 0 where
-  pub fence_is : st.orchestrator.fence ≡ fence
-  pub registered : b.height ≡ last c.blocks_per_epoch epoch → IsSome (lookup (epoch + 1) st.orchestrator.schemes)
-  pub lacks : (d : directory.Unit) (peers : TrackedPeers) → c.directories.lacking d peers ≡ None
-
--- The last height of the epoch that an active half has entered is a number of 64 bits.
-abbrev pub IsSettled : (per_epoch : ℕ) → Half → Type 0
-IsSettled per_epoch half = (epoch : ℕ) → half.halted ≡ false → half.entered ≡ Some epoch → last per_epoch epoch < 2 ^ 64
-
--- .. and where the block at a height is that epoch's last, the next one's is, and the fence is ready for it
-abbrev pub MayPass : (per_epoch : ℕ) → Half → (ready : Option ℕ) → (height : ℕ) → Type 0
-MayPass per_epoch half ready height = (epoch : ℕ) → half.halted ≡ false → half.entered ≡ Some epoch
-    → (last per_epoch epoch < 2 ^ 64) × (height ≡ last per_epoch epoch → (last per_epoch (epoch + 1) < 2 ^ 64) × (is_ready ready (epoch + 1) ≡ true))
-
--- how a half's step ended, whatever it answered
-abbrev pub ends_on : Live directory.Unit → Result (Unit {0}) Stop → Ended NodeStop (core.Half directory.Unit)
-ends_on st (Ok done) = went (record { live = st; answer = core.Acknowledges })
-ends_on st (Err stop) = by_node_stop stop
 
 -- A NODE
 

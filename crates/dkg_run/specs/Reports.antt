@@ -15,7 +15,7 @@ use Rattle.dkg_script.specs.InForm.{is_in_form}
 use Rattle.dkg_script.specs.Inclusion.{IsFormOfInclusion}
 use Rattle.dkg_run.specs.Command.{IsTold}
 use Rattle.dkg_script.specs.Ends.{IsNodeFault}
-use Rattle.dkg_run.specs.Outside.{TookAll}
+use Rattle.dkg_outside.specs.Outside.{TookAll}
 use Rattle.dkg_promises.specs.Over.{Over}
 use Rattle.dkg_promises.specs.Promised.{RunsLives}
 use Rattle.dkg_run.specs.declared.command.Status.{Status}

@@ -4,24 +4,15 @@
 #![tactic(auto)]
 
 mod again;
-mod blocks;
-mod calls;
 mod command;
-mod half;
-mod held;
 mod lives;
 mod memory;
 mod node;
-mod players;
-mod sink;
-mod source;
-mod standard;
-mod transfer;
 
 pub use again::{acknowledges_as_before, runs_again};
 pub use command::{Status, run_command};
+pub use dkg_outside::{
+    Failed, MemorySink, MemorySource, Sink, Source, StdSink, StdSource, SureSink, SureSource,
+};
 pub use lives::run_lives;
 pub use memory::fresh_devices;
-pub use sink::{MemorySink, Sink, SureSink};
-pub use source::{Failed, MemorySource, Source, SureSource};
-pub use standard::{StdSink, StdSource};

@@ -31,9 +31,8 @@ ghost use Rattle.dkg_promises.specs.Promised.{DoesRun, Promised, SaysRun};
 ghost use Rattle.dkg_lives.specs.Stopped.{picks_at_end};
 ghost use Rattle.dkg_lives.specs.Ways.{by_lines, by_worlds, trace};
 
-use crate::blocks::blocks_of;
-use crate::held::HeldBlocks;
 use crate::node::Node;
+use dkg_around::{HeldBlocks, blocks_of};
 use dkg_ceremony::{Mem, Value};
 use dkg_journal::{Disk, Fuse};
 use dkg_reshare::{Stop, check_config};

@@ -22,11 +22,9 @@ ghost use Rattle.dkg_dealing.specs.Planless.{seen_planless};
 ghost use Rattle.dkg_lives.specs.Epochs.{MayStep};
 ghost use Rattle.dkg_lives.specs.Given.{IsUnplanned, Lived, at_step, blocks_in, limits_of, lived, starts_above, step_of};
 ghost use Rattle.dkg_run.specs.Nodes.{GoesIn, IsEventHere, IsMail, IsOfLife, IsReadyNode, IsView, Viewed, ViewedNew, ended_new, sent_event};
-ghost use Rattle.dkg_run.specs.Sources.{IsToOpen};
+ghost use Rattle.dkg_around.specs.Sources.{IsToOpen};
 
-use crate::half::Half;
-use crate::held::HeldBlocks;
-use crate::players::Players;
+use dkg_around::{Half, HeldBlocks, Players};
 use dkg_ceremony::{Blob, Key, Mem, Reveal, StandCeremony, StandSigner, Value};
 use dkg_fence::Fence;
 use dkg_journal::Disk;

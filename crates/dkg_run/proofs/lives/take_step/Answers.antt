@@ -11,7 +11,7 @@ use Rattle.dkg_lives.specs.Moving.{world_of}
 use Rattle.dkg_lives.specs.Ways.{by_lines, trace}
 use Rattle.dkg_run.proofs.Going.{went_moved, went_none, went_then}
 use Rattle.dkg_run.proofs.Starting.{fit_over, step_blames_from}
-use Rattle.dkg_run.proofs.Stepping.{step_wants}
+use Rattle.dkg_around.proofs.Stepping.{step_wants}
 use Rattle.dkg_run.proofs.Turns.{blocks_held, cut_lines, cut_over, cut_reached, event_here, node_lands, ready_over, ran_stopped, ran_told, ran_unheld, ran_untold, stopped_lines, told_lines, untold_lines}
 use Rattle.dkg_run.proofs.lives.take_step.Goals as goal
 

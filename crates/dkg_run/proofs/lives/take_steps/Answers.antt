@@ -14,7 +14,7 @@ use Rattle.dkg_run.proofs.Going.{went_none, went_then}
 use Rattle.dkg_lives.proofs.LivesStand.{lines_lead, worlds_lead}
 use Rattle.dkg_run.proofs.StepsOn.{IsHere, goes_in, here_first, may_step, step_here, steps_here, taken_event}
 use Rattle.dkg_run.proofs.Starting.{step_blames_from}
-use Rattle.dkg_run.proofs.Stepping.{takes_end, takes_first, takes_next, takes_stop}
+use Rattle.dkg_around.proofs.Stepping.{takes_end, takes_first, takes_next, takes_stop}
 use Rattle.dkg_run.proofs.Turns.{blocks_same, fit_on, node_lands, not_done, steps_of, stops_with}
 use Rattle.dkg_run.proofs.lives.take_steps.Goals as goal
 

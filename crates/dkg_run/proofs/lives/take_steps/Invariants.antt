@@ -10,7 +10,7 @@ use Rattle.dkg_lives.specs.Given.{Lived}
 use Rattle.dkg_lives.specs.Moving.{Went, world_of}
 use Rattle.dkg_run.specs.Nodes.{IsOfLife, IsReadyNode, IsStepHere, IsView}
 use Rattle.dkg_lives.specs.Ways.{by_lines, by_worlds, trace}
-use Rattle.dkg_run.proofs.Stepping.{TakenOn}
+use Rattle.dkg_around.proofs.Stepping.{TakenOn}
 use Rattle.dkg_run.proofs.StepsOn.{IsHere}
 use Rattle.dkg_run.proofs.lives.take_steps.Given as goal
 

@@ -8,8 +8,8 @@ use Rattle.dkg_types.specs.declared.directory.Unit as directory
 use Rattle.dkg_core.specs.Core.{no_inclusion}
 use Rattle.dkg_inclusion.specs.InclusionOf.{IsSeen, IsSettledInclusion}
 use Rattle.dkg_dealing.specs.declared.life.Life as reshare
-use Rattle.dkg_run.specs.Nodes.{IsSettled}
-use Rattle.dkg_run.specs.declared.players.Players as players
+use Rattle.dkg_around.specs.Orchestrator.{IsSettled}
+use Rattle.dkg_around.specs.declared.players.Players as players
 use Rattle.std.specs.Int.NonZero.{non_zero_u32_get, non_zero_u64_get}
 use Rattle.std.proofs.lemmas.Result.{err_from_is_err_and}
 use Rattle.dkg_store.specs.Acts.{by_want}

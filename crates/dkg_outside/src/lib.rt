@@ -1,0 +1,16 @@
+//! Where a command reads its script from, and where it writes its transcript to: a source and a sink of bytes, which may fail; those in memory, and
+//! any reader and any writer; and how all of a source is read, and a text written whole.
+//!
+//! It knows of no node, and of scripts no more than how many bytes one may have.
+#![tactic(auto)]
+
+mod calls;
+mod sink;
+mod source;
+mod standard;
+mod transfer;
+
+pub use sink::{MemorySink, Sink, SureSink};
+pub use source::{Failed, MemorySource, Source, SureSource};
+pub use standard::{StdSink, StdSource};
+pub use transfer::{ReadError, read_all, write_all};
