@@ -16,6 +16,7 @@ use Rattle.dkg_types.specs.declared.fault.Fault.{Fault}
 use Rattle.dkg_store.specs.Acts.{Ended, Moment, went}
 use Rattle.dkg_store.specs.Dealer.{AckMap, to_send, unsent, with_unsent}
 use Rattle.dkg_store.specs.declared.dealer.Dealer.{Dealer}
+use Rattle.dkg_store.specs.declared.player.Player.{Player}
 use Rattle.dkg_core.specs.Courses.{Course, Say, Do, Call, Ask, Goes, Stops, bind, on_devices}
 use Rattle.dkg_core.specs.Dealing as dealing
 use Rattle.dkg_core.specs.Fixed.{Fixed}
@@ -25,7 +26,7 @@ use Rattle.dkg_core.specs.Setup as setup
 use Rattle.dkg_dealing.specs.declared.life.Life.{Life}
 use Rattle.dkg_dealing.specs.declared.stop.Stop.{Stop}
 use Rattle.dkg_dealing.specs.Ends.{by_stop}
-use Rattle.dkg_dealing.specs.LiveOf.{Beside, dealer_of, live_of}
+use Rattle.dkg_dealing.specs.LiveOf.{Beside, dealer_of, live_of, seat_of}
 use Rattle.dkg_dealing.specs.Made.{MakesAt, Tells}
 use Rattle.dkg_dealing.specs.Steps.{SameHalves, halves_of, with_public}
 use Rattle.dkg_dealing.proofs.Burning.{makes_nothing}
@@ -267,6 +268,10 @@ module _ {Dir : Type 0} (c : Fixed Dir) (beside : Beside Dir) (fence : Readiness
 
   pub deals_unknown : life.round ≡ None → dealing.deals c st ≡ Goes st
   deals_unknown none = ap (λ (o : Option Round). by_parts o (option_map dealer_of life.dealer)) none
+
+  -- a life that only watches gives itself nothing
+  pub watches_itself : (round : Round) (public : List ℕ) (private : ℕ) → life.player ≡ None → dealing.offers_to_itself c round public private st ≡ Goes st
+  watches_itself round public private none = ap (λ (p : Option Player). dealing.offers_to_itself_in c round public private st (seat_of p)) none
 
   pub deals_without : life.dealer ≡ None → dealing.deals c st ≡ Goes st
   deals_without none = ap (λ (o : Option Dealer). by_parts life.round (option_map dealer_of o)) none ∙ either life.round

@@ -1,6 +1,8 @@
-use Rattle.std.proofs.Common.{Some, ap, refl, arith, length, ◌≤◌, ◌∙◌}
+use Rattle.std.proofs.Common.{Option, Some, ap, refl, subst, arith, length, ◌≤◌, ◌∙◌}
 use Rattle.std.proofs.lemmas.Result.{err_from_is_err_and}
 use Rattle.std.specs.Int.NonZero.{non_zero_u32_get}
+use Rattle.dkg_store.specs.Acts.{went}
+use Rattle.dkg_store.specs.declared.dealer.Dealer.{Dealer}
 use Rattle.dkg_store.specs.declared.store.Store.{Store}
 use Rattle.dkg_core.specs.Dealing as dealing
 use Rattle.dkg_dealing.specs.Ends.{by_stop}
@@ -9,6 +11,8 @@ use Rattle.dkg_dealing.proofs.Blamed.{blamed_behind}
 use Rattle.dkg_dealing.proofs.Burning.{speaks_makes}
 use Rattle.dkg_dealing.proofs.Dealt.{deals_number, dealt_number, halves_same, halves_some, ok_so, ready_acked, ready_heard, while_dealing}
 use Rattle.dkg_dealing.proofs.Kept.{moved_none, moved_then}
+use Rattle.dkg_dealing.specs.Made.{Tells}
+use Rattle.dkg_dealing.proofs.Offered.{passes_told, watches_itself}
 use Rattle.dkg_dealing.proofs.Owned.{given_made, given_said, no_dealer, own_few, own_seat, own_unrefused, refused_blames, refused_speaks, ungiven_made, ungiven_said}
 use Rattle.dkg_dealing.proofs.Said.{speaks_tells}
 use Rattle.dkg_dealing.proofs.Seated.{at_some}
@@ -27,6 +31,13 @@ returns-in_default-clause-moved g c = moved_none g.D.Disk.tells g.D.Disk.made g.
 
 pub returns-in_default-clause-stays : goal.returns-in_default-clause-stays
 returns-in_default-clause-stays g c = halves_same c.args.life.now.dealer
+
+pub returns-in_default-player-clause-tells : goal.returns-in_default-player-clause-tells
+returns-in_default-player-clause-tells g c = λ fixed round beside fence of by has.
+    let life = c.args.life.now in
+    let course = dealing.offers_to_itself fixed round c.args.public c.args.private (live_of beside fence life) in
+    subst (λ (o : Option Dealer). Tells course (went (live_of beside fence (record life { dealer = o }))) c.args.out.now.entries c.args.out.now.entries) c.in-Some.is
+    (passes_told course (live_of beside fence life) (watches_itself fixed beside fence life round c.args.public c.args.private c.in_default-player.is) c.args.out.now.entries)
 
 pub returns-in_default-player-clause-moved : goal.returns-in_default-player-clause-moved
 returns-in_default-player-clause-moved g c = moved_none g.D.Disk.tells g.D.Disk.made g.X.SecretStore.made g.D.Disk.faults g.X.SecretStore.faults g.met.D.Disk.made_none g.met.X.SecretStore.made_none c.args.devices.now
