@@ -34,80 +34,8 @@ fn keys(alloc: Global, count: u32) -> Result<Set, Fail> {
     Ok(Set::from_any(alloc, &keys)?)
 }
 
-/// What reading some bytes as a value gives: none, or why not.
-fn fault_of<T: Read + Drop>(alloc: Global, bytes: &[u8], cfg: &T::Cfg) -> Option<CodecError> {
-    decode_cfg::<T>(alloc, bytes, cfg).err()
-}
-
-/// What reading the first bytes gives, one of them another.
-fn fault_at<T: Read + Drop>(
-    alloc: Global,
-    bytes: &[u8],
-    edit: (usize, u8, usize),
-    cfg: &T::Cfg,
-) -> Result<Option<CodecError>, Fail> {
-    let (place, byte, len) = edit;
-    let mut bytes = bytes.to_vec(alloc)?;
-    if place >= bytes.len() || len > bytes.len() {
-        return Err(Fail::from("past the end"));
-    }
-    bytes[place] = byte;
-    Ok(fault_of::<T>(alloc, &bytes[..len], cfg))
-}
-
-fn number(word: Option<&str>) -> Result<usize, Fail> {
-    Ok(word.ok_or("no number")?.parse::<usize>()?)
-}
-
-/// The edit of a row: at which place stands which byte, and how many bytes there are.
-fn edit_of(row: &str) -> Result<(usize, u8, usize), Fail> {
-    let mut words = row.split(' ');
-    let place = number(words.next())?;
-    let byte = u8::try_from(number(words.next())?)?;
-    let len = number(words.next())?;
-    Ok((place, byte, len))
-}
-
-/// These rows, each of an edit, with what reading the bytes gives then in place of what stands behind it.
-fn edited<T: Read + Drop>(
-    alloc: Global,
-    bytes: &[u8],
-    cfg: &T::Cfg,
-    rows: &str,
-) -> Result<String, Fail> {
-    let mut told = String::new(alloc);
-    for row in rows.lines() {
-        let (place, byte, len) = edit_of(row)?;
-        let fault = fault_at::<T>(alloc, bytes, (place, byte, len), cfg)?;
-        let row = format!(in alloc; "{place} {byte} {len} {fault:?}\n")?;
-        told.push_str(row.as_str())?;
-    }
-    Ok(told)
-}
-
 fn limits() -> Result<(NonZeroU32, ModeVersion), Fail> {
     Ok((four()?, ModeVersion(0)))
-}
-
-/// Each row tells which byte of an info is another one, which, of how many bytes, and what reading them gives.
-const INFO_EDITS: &str = "\
-0 1 88 None
-0 2 88 Some(InvalidEnum(2))
-1 128 88 Some(InvalidVarint)
-10 1 88 Some(InvalidEnum(1))
-11 3 88 Some(Invalid(Output))
-54 5 88 Some(InvalidLength { got: 5, max: 4 })
-58 2 88 Some(Invalid(Set))
-71 3 88 Some(ExtraData)
-87 9 87 Some(EndOfBuffer)
-12 128 88 Some(InvalidVarint)
-";
-
-#[test]
-fn edited_infos_are_refused(rt: HostRuntime) -> Result<(), Fail> {
-    let told = edited::<EpochInfo<Unit>>(rt.alloc(), &INFO, &limits()?, INFO_EDITS)?;
-    is(&rt, told.as_str(), INFO_EDITS);
-    Ok(())
 }
 
 /// The worked info as a payload.
@@ -123,44 +51,6 @@ const LOG: [u8; 57] = [
     173, 37, 5, 89, 187, 0, 98, 236, 155, 100, 172, 158, 60, 96, 0, 53, 210, 90, 111, 49, 249, 160,
     0, 128, 143, 198, 40, 248, 59, 24, 184,
 ];
-
-/// The same of the worked info as a payload.
-const PAYLOAD_EDITS: &str = "\
-0 1 89 None
-0 2 89 Some(InvalidEnum(2))
-0 1 0 Some(EndOfBuffer)
-1 2 89 Some(InvalidEnum(2))
-2 128 89 Some(InvalidVarint)
-55 5 89 Some(InvalidLength { got: 5, max: 4 })
-12 3 89 Some(Invalid(Output))
-72 3 89 Some(ExtraData)
-";
-
-/// The same of the log.
-const LOG_EDITS: &str = "\
-4 9 57 None
-0 1 57 Some(InvalidEnum(1))
-5 0 57 Some(InvalidLength { got: 0, max: 4 })
-5 5 57 Some(InvalidLength { got: 5, max: 4 })
-12 5 57 Some(InvalidLength { got: 5, max: 4 })
-12 3 57 Some(ExtraData)
-13 2 57 Some(InvalidEnum(2))
-13 1 57 Some(InvalidEnum(132))
-55 0 56 Some(EndOfBuffer)
-";
-
-fn edited_payload(alloc: Global, bytes: &[u8], rows: &str) -> Result<String, Fail> {
-    edited::<Payload<Unit>>(alloc, bytes, &limits()?, rows)
-}
-
-#[test]
-fn edited_payloads_are_refused(rt: HostRuntime) -> Result<(), Fail> {
-    let told = edited_payload(rt.alloc(), &PAYLOAD, PAYLOAD_EDITS)?;
-    is(&rt, told.as_str(), PAYLOAD_EDITS);
-    let told = edited_payload(rt.alloc(), &LOG, LOG_EDITS)?;
-    is(&rt, told.as_str(), LOG_EDITS);
-    Ok(())
-}
 
 fn payload_of(alloc: Global, bytes: &[u8]) -> Result<Payload<Unit>, Fail> {
     Ok(decode_cfg::<Payload<Unit>>(alloc, bytes, &limits()?)?)
@@ -200,20 +90,6 @@ fn a_log_is_no_info(rt: HostRuntime) -> Result<(), Fail> {
     let block = block_of(alloc, log)?;
     holds(&rt, block.payload().is_some());
     holds(&rt, block.epoch_info().is_none());
-    Ok(())
-}
-
-#[test]
-fn an_info_is_spelled_as_it_was_read(rt: HostRuntime) -> Result<(), Fail> {
-    let alloc = rt.alloc();
-    holds(
-        &rt,
-        is_spelled::<EpochInfo<Unit>>(alloc, &INFO, &limits()?)?,
-    );
-    let value = info(alloc)?;
-    is(&rt, value.epoch, Epoch(0));
-    let payload = encode(alloc, &Payload::EpochInfo(value))?;
-    is(&rt, payload.as_slice(), PAYLOAD.as_slice());
     Ok(())
 }
 
@@ -315,24 +191,6 @@ fn messages_are_spelled_as_they_were_read(rt: HostRuntime) -> Result<(), Fail> {
         &rt,
         is_spelled::<Message>(alloc, &[1, 1, 2, 3, 4, 5, 6, 7, 8], &4)?,
     );
-    let fault = fault_of::<Message>(alloc, &[2], &4);
-    is(&rt, fault, Some(CodecError::InvalidEnum(2)));
-    let fault = fault_of::<Message>(alloc, &dealing[..9], &4);
-    is(&rt, fault, Some(CodecError::EndOfBuffer));
-    Ok(())
-}
-
-#[test]
-fn participants_are_spelled_as_they_were_read(rt: HostRuntime) -> Result<(), Fail> {
-    let alloc = rt.alloc();
-    let value = participants(alloc, (2, 3, 1))?;
-    let bytes = encode(alloc, &value)?;
-    holds(
-        &rt,
-        is_spelled::<Participants>(alloc, bytes.as_slice(), &3)?,
-    );
-    let again = decode_cfg::<Participants>(alloc, bytes.as_slice(), &3)?;
-    holds(&rt, again.same(&value));
     Ok(())
 }
 
@@ -469,26 +327,6 @@ fn a_copied_block_is_the_same(rt: HostRuntime) -> Result<(), Fail> {
     Ok(())
 }
 
-/// As those of an info.
-const BLOCK_EDITS: &str = "\
-0 2 163 None
-2 0 163 Some(InvalidVarint)
-73 2 163 Some(InvalidEnum(2))
-73 0 163 Some(ExtraData)
-74 2 163 Some(InvalidEnum(2))
-129 5 163 Some(InvalidLength { got: 5, max: 4 })
-86 3 163 Some(Invalid(Output))
-133 2 163 Some(Invalid(Set))
-162 0 162 Some(EndOfBuffer)
-";
-
-#[test]
-fn edited_blocks_are_refused(rt: HostRuntime) -> Result<(), Fail> {
-    let told = edited::<Block<Unit>>(rt.alloc(), &BLOCK, &limits()?, BLOCK_EDITS)?;
-    is(&rt, told.as_str(), BLOCK_EDITS);
-    Ok(())
-}
-
 #[test]
 fn a_finalization_bears_its_certificate(rt: HostRuntime) -> Result<(), Fail> {
     let alloc = rt.alloc();
@@ -538,48 +376,6 @@ fn a_transcript_keeps_its_entries(rt: HostRuntime) -> Result<(), Fail> {
     is(&rt, told.entries().len(), 2);
     is(&rt, Fault::from(NoMemory).number(), 1);
     is(&rt, Fault::FloorBlockMissing.copy(alloc)?.number(), 19);
-    Ok(())
-}
-
-/// The addresses of four peers, and a byte too many.
-const DIRECTORY: [u8; 47] = [
-    4, 0, 0, 0, 1, 0, 0, 0, 2, 0, 0, 0, 3, 0, 0, 0, 4, 4, 0, 0, 0, 0, 1, 0, 1, 0, 0, 0, 0, 2, 0, 2,
-    0, 0, 0, 0, 3, 0, 3, 0, 0, 0, 0, 4, 0, 4, 0,
-];
-
-/// As those of an info.
-const DIRECTORY_EDITS: &str = "\
-0 4 46 None
-0 3 46 Some(InvalidLength { got: 3, max: 4 })
-0 128 46 Some(InvalidVarint)
-4 2 46 Some(Invalid(Set))
-17 3 46 Some(InvalidLength { got: 3, max: 4 })
-18 2 46 Some(InvalidEnum(2))
-45 0 45 Some(EndOfBuffer)
-46 0 47 Some(ExtraData)
-";
-
-#[test]
-fn edited_directories_are_refused(rt: HostRuntime) -> Result<(), Fail> {
-    let told = edited::<Addresses>(rt.alloc(), &DIRECTORY, &4, DIRECTORY_EDITS)?;
-    is(&rt, told.as_str(), DIRECTORY_EDITS);
-    Ok(())
-}
-
-/// As those of an info, behind which stands the directory.
-const ADDRESSED_EDITS: &str = "\
-88 4 134 None
-88 3 134 Some(InvalidLength { got: 3, max: 4 })
-104 5 134 Some(Invalid(Directory))
-106 2 134 Some(InvalidEnum(2))
-";
-
-#[test]
-fn a_directory_is_of_the_peers(rt: HostRuntime) -> Result<(), Fail> {
-    let mut bytes = INFO.as_slice().to_vec(rt.alloc())?;
-    bytes.extend_from_slice(&DIRECTORY)?;
-    let told = edited::<EpochInfo<Addresses>>(rt.alloc(), &bytes, &limits()?, ADDRESSED_EDITS)?;
-    is(&rt, told.as_str(), ADDRESSED_EDITS);
     Ok(())
 }
 
