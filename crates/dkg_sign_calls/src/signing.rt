@@ -124,16 +124,6 @@ fn a_validator_signs(rt: HostRuntime) -> Result<(), Fail> {
     Ok(())
 }
 
-#[test]
-fn desks_sign_with_their_shares(rt: HostRuntime) -> Result<(), Fail> {
-    for (me, share, value) in [(1, 8, 54283), (2, 15, 60830), (3, 26, 61758)] {
-        let desk = first_desk(rt.alloc(), me, share)?;
-        let partial = desk.sign(Epoch(0), MESSAGE)?;
-        is_at(&rt, partial.value.get(), value, me);
-    }
-    Ok(())
-}
-
 /// What a desk makes of partials, each a signer, an epoch and a value.
 fn combined(
     alloc: Global,
@@ -229,14 +219,6 @@ const REPLACED: SignError = SignError::Replaced {
     current: Epoch(1),
 };
 
-#[test]
-fn a_later_epoch_replaces_an_earlier_one(rt: HostRuntime) -> Result<(), Fail> {
-    let desk = registered_twice(rt.alloc(), &mut SureDisk::new(rt.alloc()))?;
-    is(&rt, unsigned(&desk, 0), Some(REPLACED));
-    is(&rt, desk.sign(Epoch(1), MESSAGE)?.value.get(), 54283);
-    Ok(())
-}
-
 /// A disk with the record of epoch 1.
 fn recorded(alloc: Global) -> Result<SureDisk, Fail> {
     let mut disk = SureDisk::new(alloc);
@@ -251,20 +233,6 @@ fn an_opened_desk_has_its_epoch_without_material(rt: HostRuntime) -> Result<(), 
     is(&rt, unsigned(&desk, 0), Some(REPLACED));
     let unknown = SignError::Unknown { epoch: Epoch(1) };
     is(&rt, unsigned(&desk, 1), Some(unknown));
-    Ok(())
-}
-
-#[test]
-fn an_epoch_is_registered_again(rt: HostRuntime) -> Result<(), Fail> {
-    let mut disk = recorded(rt.alloc())?;
-    let mut desk = opened(rt.alloc(), &mut disk, 1)?;
-    let info = material(rt.alloc(), 1, Some(8))?;
-    is(
-        &rt,
-        registered(rt.alloc(), &mut disk, &mut desk, 1, info),
-        None,
-    );
-    is(&rt, desk.sign(Epoch(1), MESSAGE)?.value.get(), 54283);
     Ok(())
 }
 
@@ -407,30 +375,6 @@ fn no_life_signs_below_what_was_registered(rt: HostRuntime) -> Result<(), Fail> 
         let deeds = live_all(alloc, &mut disk, &lives)?;
         is_at(&rt, deeds.as_slice(), done, pick);
     }
-    Ok(())
-}
-
-#[test]
-fn lives_sign_for_the_newest_epoch(rt: HostRuntime) -> Result<(), Fail> {
-    let alloc = rt.alloc();
-    let lives: [Life<'_>; 2] = [
-        (
-            0,
-            1,
-            &[(true, 0), (false, 0), (true, 1), (false, 0), (false, 1)],
-        ),
-        (0, 0, &[(true, 0), (false, 0), (true, 1), (false, 1)]),
-    ];
-    let done: [(bool, u64); 6] = [
-        (false, 1),
-        (true, 1),
-        (false, 1),
-        (true, 1),
-        (false, 0),
-        (true, 0),
-    ];
-    let deeds = live_all(alloc, &mut SureDisk::new(alloc), &lives)?;
-    is(&rt, deeds.as_slice(), &done[..]);
     Ok(())
 }
 
