@@ -1,4 +1,4 @@
-use Rattle.std.proofs.Common.{◌+◌, Some, ap, sym, ◌∙◌}
+use Rattle.std.proofs.Common.{◌+◌, Some, ap, refl, sym, ◌∙◌}
 use Rattle.std.specs.Int.NonZero.{non_zero_u64_get}
 use Rattle.std.proofs.lemmas.Result.{err_from_is_err_and}
 use Rattle.dkg_ceremony.specs.Schedule.{epoch_of}
