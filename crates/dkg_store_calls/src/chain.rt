@@ -73,19 +73,21 @@ fn taken<D: Disk, X: SecretStore, Dir: Drop>(
     noted_and_pruned(alloc, devices, store, epoch, dealer, ack, new)
 }
 
-/// Takes a dealing with its acknowledgement, over what the devices hold.
-fn taken_once<D: Disk, X: SecretStore, Dir: Drop>(
+/// Takes a dealing with its acknowledgement.
+fn taken_in<D: Disk, X: SecretStore, Dir: Drop>(
     alloc: Global,
     devices: &mut Devices<'_, D, X>,
-) -> Result<bool, Fail> {
-    let mut store: Store<Dir> = opened(alloc, devices)?;
-    let public = public_of(alloc, [15, 7, 1])?;
+    store: &mut Store<Dir>,
+) -> Result<bool, Fail>
+    requires { IsTrue D.tells → IsOpen store.old.journal (D.files devices.old.disk.now) (D.image devices.old.disk.now) }
+{
     let private = Private(element(23)?);
     let ack = Ack(Mark([7; 8]));
+    let public = public_of(alloc, [15, 7, 1])?;
     Ok(taken(
         alloc,
         devices,
-        &mut store,
+        store,
         Epoch(1),
         Key(2),
         public,
@@ -94,14 +96,27 @@ fn taken_once<D: Disk, X: SecretStore, Dir: Drop>(
     )?)
 }
 
+/// That over what the devices hold.
+fn taken_once<D: Disk, X: SecretStore, Dir: Drop>(
+    alloc: Global,
+    devices: &mut Devices<'_, D, X>,
+) -> Result<bool, Fail> {
+    let mut store: Store<Dir> = opened(alloc, devices)?;
+    let taken = taken_in(alloc, devices, &mut store);
+    drop(store);
+    taken
+}
+
+/// That over empty devices.
+fn taken_in_memory(alloc: Global) -> Result<bool, Fail> {
+    let mut memory = Memory::new(alloc);
+    let taken = taken_once::<_, _, Unit>(alloc, &mut memory.devices());
+    drop(memory);
+    taken
+}
+
 #[test]
 fn four_calls_are_made_as_one(rt: HostRuntime) -> Result<(), Fail> {
-    let alloc = rt.alloc();
-    let mut memory = Memory::new(alloc);
-    is(
-        &rt,
-        taken_once::<_, _, Unit>(alloc, &mut memory.devices())?,
-        true,
-    );
+    is(&rt, taken_in_memory(rt.alloc())?, true);
     Ok(())
 }

@@ -2,7 +2,7 @@
 ghost use Rattle.std.specs.Prelude.{OnOk, IsTrue};
 ghost use Rattle.dkg_journal.specs.Journals.{IsOpen};
 
-use crate::asserts::{is, is_at};
+use crate::asserts::is;
 use crate::memory::{Memory, opened};
 use dkg_ceremony::DealerLog;
 use dkg_journal::Disk;
@@ -31,18 +31,22 @@ fn put_old<D: Disk>(alloc: Global, disk: &mut D) -> Result<(), Fail> {
     Ok(())
 }
 
-/// Whose logs count at a tip.
-fn counted<Dir: Drop>(
-    alloc: Global,
-    store: &Store<Dir>,
-    tip: Option<Height>,
-) -> Result<Vec<Key>, Fail> {
+/// Whose logs count at a tip: their keys as digits.
+fn counted<Dir: Drop>(alloc: Global, store: &Store<Dir>, tip: Option<Height>) -> Result<u32, Fail> {
     let logs = store.logs(alloc, Epoch(0), Height(4), tip)?;
-    let mut keys = Vec::new(alloc);
+    let mut digits = 0u32;
     for (key, _) in logs.iter() {
-        keys.push(key)?;
+        digits = digits.wrapping_mul(10).wrapping_add(key.0);
     }
-    Ok(keys)
+    Ok(digits)
+}
+
+/// That at height 3, at 4, at 5, and without a tip.
+fn counted_at<Dir: Drop>(alloc: Global, store: &Store<Dir>) -> Result<[u32; 4], Fail> {
+    let three = counted(alloc, store, Some(Height(3)))?;
+    let four = counted(alloc, store, Some(Height(4)))?;
+    let five = counted(alloc, store, Some(Height(5)))?;
+    Ok([three, four, five, counted(alloc, store, None)?])
 }
 
 /// Records this log of a dealer at height 5. Whether it is new.
@@ -62,32 +66,42 @@ fn noted<D: Disk, X: SecretStore, Dir: Drop>(
     Ok(store.append_log(alloc, devices, Epoch(0), dealer, Height(5), log)?)
 }
 
-/// Opens a store over that file, and records a log of key 3, and one of key 2. Whether each is new.
+/// Records a log of key 3, and one of key 2. Whether each is new, and whose logs count.
 fn two_logs<D: Disk, X: SecretStore, Dir: Drop>(
     alloc: Global,
     devices: &mut Devices<'_, D, X>,
-) -> Result<(Store<Dir>, bool, bool), Fail> {
+    store: &mut Store<Dir>,
+) -> Result<(bool, bool, [u32; 4]), Fail>
+    requires { IsTrue D.tells → IsOpen store.old.journal (D.files devices.old.disk.now) (D.image devices.old.disk.now) }
+{
+    let first = noted(alloc, devices, store, Key(3))?;
+    let second = noted(alloc, devices, store, Key(2))?;
+    Ok((first, second, counted_at(alloc, store)?))
+}
+
+/// That over a disk with that file.
+fn two_logs_in<D: Disk, X: SecretStore, Dir: Drop>(
+    alloc: Global,
+    devices: &mut Devices<'_, D, X>,
+) -> Result<(bool, bool, [u32; 4]), Fail> {
     put_old(alloc, devices.disk)?;
-    let mut store = opened(alloc, devices)?;
-    let first = noted(alloc, devices, &mut store, Key(3))?;
-    let second = noted(alloc, devices, &mut store, Key(2))?;
-    Ok((store, first, second))
+    let mut store: Store<Dir> = opened(alloc, devices)?;
+    let found = two_logs(alloc, devices, &mut store);
+    drop(store);
+    found
+}
+
+/// That over empty devices.
+fn two_logs_in_memory(alloc: Global) -> Result<(bool, bool, [u32; 4]), Fail> {
+    let mut memory = Memory::new(alloc);
+    let found = two_logs_in::<_, _, Unit>(alloc, &mut memory.devices());
+    drop(memory);
+    found
 }
 
 #[test]
 fn logs_count_from_their_heights_on(rt: HostRuntime) -> Result<(), Fail> {
-    let alloc = rt.alloc();
-    let mut memory = Memory::new(alloc);
-    let (store, first, second) = two_logs::<_, _, Unit>(alloc, &mut memory.devices())?;
-    is(&rt, (first, second), (true, false));
-    let rows: [(Option<Height>, &[Key]); 4] = [
-        (Some(Height(3)), &[]),
-        (Some(Height(4)), &[Key(2)]),
-        (Some(Height(5)), &[Key(2), Key(3)]),
-        (None, &[]),
-    ];
-    for (tip, wanted) in rows {
-        is_at(&rt, counted(alloc, &store, tip)?.as_slice(), wanted, tip);
-    }
+    let found = two_logs_in_memory(rt.alloc())?;
+    is(&rt, found, (true, false, [0, 2, 23, 0]));
     Ok(())
 }

@@ -3,7 +3,7 @@ ghost use Rattle.std.specs.Prelude.{IfOk, IsTrue};
 ghost use Rattle.dkg_journal.specs.Journals.{IsOpen};
 
 use dkg_journal::{Disk, Fuse, MemoryDisk};
-use dkg_store::{Devices, MemorySecrets, SecretStore, Store};
+use dkg_store::{Devices, MemorySecrets, SecretStore, Store, StoreError};
 use std::alloc::Global;
 use std::num::NonZeroU32;
 use std::test::Fail;
@@ -48,5 +48,17 @@ pub(crate) fn opened<D: Disk, X: SecretStore, Dir: Drop>(
     ensures open { IfOk result (λ store. IsTrue D.tells → IsOpen store.journal (D.files devices.new.disk.now) (D.image devices.new.disk.now)) }
 {
     let limit = NonZeroU32::new(4).ok_or("no limit")?;
-    Ok(Store::init(alloc, devices, limit)?)
+    Ok(opened_for(alloc, devices, limit)?)
+}
+
+/// That of so many participants.
+fn opened_for<D: Disk, X: SecretStore, Dir: Drop>(
+    alloc: Global,
+    devices: &mut Devices<'_, D, X>,
+    limit: NonZeroU32,
+) -> Result<Store<Dir>, StoreError>
+    ensures open { IfOk result (λ store. IsTrue D.tells → IsOpen store.journal (D.files devices.new.disk.now) (D.image devices.new.disk.now)) }
+{
+    let store = Store::init(alloc, devices, limit)?;
+    Ok(store)
 }

@@ -6,16 +6,16 @@ ghost use Rattle.dkg_journal.specs.Journals.{IsOpen};
 ghost use Rattle.dkg_store.specs.Recorded.{AreChecked, at_epoch};
 
 use crate::asserts::is;
-use crate::dealing::{ME, SEED, dealt_by, fits, round_of, three_from};
+use crate::dealing::{ME, round_of};
 use crate::memory::{Memory, opened};
 use dkg_ceremony::{
-    Ceremony, DealerLog, FinishError, Output, Private, Public, Round, Share, Signer, StandCeremony,
-    StandSigner,
+    Ceremony, DealerLog, FinishError, Output, Private, Public, Round, Share, SignedDealerLog,
+    Signer, StandCeremony, StandSigner, decode_cfg,
 };
-use dkg_journal::Disk;
-use dkg_store::{Devices, Player, SecretStore, Store};
+use dkg_journal::{Disk, MemoryDisk};
+use dkg_store::{Devices, MemorySecrets, Player, SecretStore, Store};
 use dkg_types::{Transcript, Unit};
-use dkg_values::{Epoch, Height, Key, Map};
+use dkg_values::{CodecError, Element, Epoch, Key, Map};
 use std::alloc::Global;
 use std::test::Fail;
 
@@ -129,35 +129,47 @@ fn played<C: Ceremony, D: Disk, X: SecretStore, Dir: Drop>(
     Ok(player.finalize(alloc, ceremony, logs))
 }
 
-/// The logs of these dealers, each with the acknowledgements of these players.
-fn logs_in<C: Ceremony, D: Disk, X: SecretStore, Dir: Drop>(
-    alloc: Global,
-    ceremony: &C,
-    dealers: &[C::Signer],
-    players: &[C::Signer],
-    devices: &mut Devices<'_, D, X>,
-    round: &Round,
-) -> Result<Map<DealerLog>, Fail> {
-    let mut store: Store<Dir> = opened(alloc, devices)?;
-    let _quorum = dealt_by(
-        alloc, ceremony, dealers, players, devices, &mut store, round,
-    )?;
-    Ok(store.logs(alloc, Epoch(0), Height(4), Some(Height(4)))?)
+/// The logs of dealers 1 to 3 in the round, as an executable model signs them: each deals 55779 + 1926x + 11950x², and all four players acknowledge.
+const LOGS: [[u8; 56]; 3] = [
+    [
+        0, 0, 0, 1, 3, 217, 227, 7, 134, 46, 174, 4, 0, 157, 175, 223, 238, 53, 87, 195, 182, 0,
+        86, 116, 41, 205, 101, 20, 133, 159, 0, 130, 10, 157, 65, 209, 103, 89, 70, 0, 51, 80, 187,
+        54, 204, 126, 143, 137, 255, 61, 32, 231, 116, 79, 112, 201,
+    ],
+    [
+        0, 0, 0, 2, 3, 217, 227, 7, 134, 46, 174, 4, 0, 52, 83, 37, 119, 162, 76, 232, 200, 0, 217,
+        1, 158, 104, 205, 206, 203, 143, 0, 61, 40, 13, 195, 223, 226, 199, 206, 0, 18, 81, 166,
+        76, 221, 111, 91, 26, 186, 134, 117, 110, 46, 15, 5, 167,
+    ],
+    [
+        0, 0, 0, 3, 3, 217, 227, 7, 134, 46, 174, 4, 0, 225, 248, 87, 14, 35, 29, 31, 114, 0, 186,
+        11, 144, 171, 8, 64, 60, 246, 0, 129, 45, 8, 192, 201, 206, 111, 73, 0, 241, 100, 81, 125,
+        242, 88, 242, 52, 130, 34, 132, 129, 239, 7, 140, 235,
+    ],
+];
+
+fn read_log(alloc: Global, bytes: &[u8]) -> Result<SignedDealerLog, CodecError> {
+    decode_cfg::<SignedDealerLog>(alloc, bytes, &4)
 }
 
-/// What this dealer deals to this node.
-fn dealing_from<C: Ceremony>(
-    alloc: Global,
-    ceremony: &C,
-    signer: &C::Signer,
-    round: &Round,
-) -> Result<Heard, Fail> {
-    let dealer = signer.public_key();
-    if !round.parts().dealers.has(dealer) {
-        return Err(Fail::from("the key doesn't deal"));
+/// The logs by dealer.
+fn logs(alloc: Global) -> Result<Map<DealerLog>, Fail> {
+    let mut pairs = Vec::new(alloc);
+    for bytes in LOGS.iter() {
+        let signed = read_log(alloc, bytes)?;
+        pairs.push((signed.dealer, signed.log))?;
     }
-    let (public, privates) = ceremony.deal(alloc, round, signer, None, &SEED)?;
-    let private = privates.get(ME).copied().ok_or("no private half")?;
+    if pairs.len() > 9 {
+        return Err(Fail::from("too many logs"));
+    }
+    Ok(Map::from_any(alloc, pairs)?)
+}
+
+/// What the dealer of a log deals to this node.
+fn dealing_of(alloc: Global, bytes: &[u8]) -> Result<Heard, Fail> {
+    let SignedDealerLog { dealer, log, .. } = read_log(alloc, bytes)?;
+    let DealerLog { public, .. } = log;
+    let private = Private(Element::new(4134).ok_or("no element")?);
     Ok(Heard {
         dealer,
         public,
@@ -165,26 +177,22 @@ fn dealing_from<C: Ceremony>(
     })
 }
 
-/// What these dealers deal to this node, each one behind the other.
-fn dealings_from<C: Ceremony>(
-    alloc: Global,
-    ceremony: &C,
-    dealers: &[C::Signer],
-    round: &Round,
-) -> Result<Vec<Heard>, Fail> {
+/// What the dealers of the logs at these places deal to this node, each one behind the other.
+fn dealings_of(alloc: Global, places: &[usize]) -> Result<Vec<Heard>, Fail> {
     let mut heard = Vec::new(alloc);
-    for dealer in dealers {
-        heard.push(dealing_from(alloc, ceremony, dealer, round)?)?;
+    for place in places {
+        let bytes = LOGS.get(*place).ok_or("no log")?;
+        heard.push(dealing_of(alloc, bytes)?)?;
     }
     Ok(heard)
 }
 
-/// What this node takes from the round, where it hears these dealers.
+/// What this node takes from the round, where it hears these dealings.
 fn ended_in<C: Ceremony, D: Disk, X: SecretStore, Dir: Drop>(
     alloc: Global,
     ceremony: &C,
     me: &C::Signer,
-    dealers: &[C::Signer],
+    heard: Vec<Heard>,
     devices: &mut Devices<'_, D, X>,
     round: &Round,
     logs: &Map<DealerLog>,
@@ -192,9 +200,8 @@ fn ended_in<C: Ceremony, D: Disk, X: SecretStore, Dir: Drop>(
     if !round.parts().players.has(me.public_key()) {
         return Err(Fail::from("the key is no player"));
     }
-    let heard = dealings_from(alloc, ceremony, dealers, round)?;
     let mut store: Store<Dir> = opened(alloc, devices)?;
-    played(
+    let ended = played(
         alloc,
         ceremony,
         me,
@@ -204,59 +211,80 @@ fn ended_in<C: Ceremony, D: Disk, X: SecretStore, Dir: Drop>(
         round,
         heard,
         logs,
-    )
+    );
+    drop(store);
+    ended
 }
 
-/// That over an empty disk.
-fn ended_in_memory(
+/// The share in what came of a round.
+fn share_in(found: &Option<(Output, Share)>) -> Option<u16> {
+    match found {
+        None => None,
+        Some((_, share)) => Some(share.0.get()),
+    }
+}
+
+/// The share that comes of these dealings.
+fn share_by(
     alloc: Global,
-    dealers: &[StandSigner],
+    heard: Vec<Heard>,
+    devices: &mut Devices<'_, MemoryDisk, MemorySecrets>,
     round: &Round,
     logs: &Map<DealerLog>,
-) -> Result<Result<Option<(Output, Share)>, FinishError>, Fail> {
-    let me = StandSigner::new(ME);
-    let mut memory = Memory::new(alloc);
-    ended_in::<_, _, _, Unit>(
+) -> Result<Result<Option<u16>, FinishError>, Fail> {
+    let ended = ended_in::<_, _, _, Unit>(
         alloc,
         &StandCeremony,
-        &me,
-        dealers,
-        &mut memory.devices(),
+        &StandSigner::new(ME),
+        heard,
+        devices,
         round,
         logs,
-    )
+    )?;
+    match ended {
+        Ok(found) => Ok(Ok(share_in(&found))),
+        Err(fault) => Ok(Err(fault)),
+    }
 }
 
-/// Whether the share that came of a round fits its output.
-fn ends_fit<C: Ceremony>(
-    ceremony: &C,
-    ended: Result<Option<(Output, Share)>, FinishError>,
-) -> Result<bool, Fail> {
-    let (output, share) = ended?.ok_or("no outcome")?;
-    Ok(fits(ceremony, &output, &share))
+/// The share that comes of the dealings of these places, over empty devices.
+fn share_in_memory(
+    alloc: Global,
+    places: &[usize],
+    round: &Round,
+    logs: &Map<DealerLog>,
+) -> Result<Result<Option<u16>, FinishError>, Fail> {
+    let heard = dealings_of(alloc, places)?;
+    let mut memory = Memory::new(alloc);
+    let share = share_by(alloc, heard, &mut memory.devices(), round, logs);
+    drop(memory);
+    share
+}
+
+/// That in a round of four.
+fn share_among_four(
+    alloc: Global,
+    places: &[usize],
+    logs: &Map<DealerLog>,
+) -> Result<Result<Option<u16>, FinishError>, Fail> {
+    let round = round_of(alloc, &StandCeremony)?;
+    let share = share_in_memory(alloc, places, &round, logs);
+    drop(round);
+    share
+}
+
+/// That with the logs of the three.
+fn share_of(alloc: Global, places: &[usize]) -> Result<Result<Option<u16>, FinishError>, Fail> {
+    let logs = logs(alloc)?;
+    let share = share_among_four(alloc, places, &logs);
+    drop(logs);
+    share
 }
 
 #[test]
 fn a_player_ends_its_round_from_its_own_dealings(rt: HostRuntime) -> Result<(), Fail> {
-    let alloc = rt.alloc();
-    let round = round_of(alloc, &StandCeremony)?;
-    let [one, two, three] = three_from(1);
-    let mut memory = Memory::new(alloc);
-    let logs = logs_in::<_, _, _, Unit>(
-        alloc,
-        &StandCeremony,
-        &[one, two, three],
-        &[one, two, three],
-        &mut memory.devices(),
-        &round,
-    )?;
-    let ended = ended_in_memory(alloc, &[three, one, two], &round, &logs)?;
-    is(&rt, ends_fit(&StandCeremony, ended)?, true);
-    let ended = ended_in_memory(alloc, &[three, one], &round, &logs)?;
-    is(
-        &rt,
-        ended.err(),
-        Some(FinishError::MissingDealing { dealer: Key(2) }),
-    );
+    let missing = FinishError::MissingDealing { dealer: Key(2) };
+    is(&rt, share_of(rt.alloc(), &[2, 0, 1])?, Ok(Some(12402)));
+    is(&rt, share_of(rt.alloc(), &[2, 0])?, Err(missing));
     Ok(())
 }

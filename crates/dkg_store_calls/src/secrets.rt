@@ -1,8 +1,8 @@
-//! The memory stores against the reference model: what a cut leaves, and which calls fail.
+//! The memory stores against the reference model: what a cut leaves.
 
-use crate::asserts::{is, is_at};
+use crate::asserts::is_at;
 use dkg_ceremony::{Private, Share};
-use dkg_secrets::{MemorySecrets, SecretError, SecretOp, SecretStore};
+use dkg_secrets::{MemorySecrets, SecretOp, SecretStore};
 use dkg_values::{Element, Epoch, Key, Seed};
 use std::alloc::Global;
 use std::test::Fail;
@@ -110,47 +110,5 @@ fn cut_prunes_go_by_the_bits(rt: HostRuntime) -> Result<(), Fail> {
         let left = left_of(alloc, &mut MemorySecrets::new(alloc), pick)?;
         is_at(&rt, left.as_str(), expected, pick);
     }
-    Ok(())
-}
-
-/// Whether a put that is cut is done.
-fn is_put<X: SecretStore>(alloc: Global, secrets: &mut X, pick: u64) -> Result<bool, Fail> {
-    let put = SecretOp::PutDealing {
-        epoch: Epoch(4),
-        dealer: Key(9),
-        private: Private(number(3)?),
-    };
-    secrets.cut(alloc, &put, pick)?;
-    secrets.crash(1);
-    Ok(secrets.get_dealing(alloc, Epoch(4), Key(9))?.is_some())
-}
-
-#[test]
-fn cut_puts_are_done_where_the_pick_is_even(rt: HostRuntime) -> Result<(), Fail> {
-    let alloc = rt.alloc();
-    for (pick, done) in [(0, true), (1, false), (6, true), (7, false)] {
-        let found = is_put(alloc, &mut MemorySecrets::new(alloc), pick)?;
-        is_at(&rt, found, done, pick);
-    }
-    Ok(())
-}
-
-/// Puts a share, and prunes and reads twice behind it: what came of the prune and of the first read, and whether the second gave the share.
-fn pruned<X: SecretStore>(
-    alloc: Global,
-    secrets: &mut X,
-) -> Result<(Option<SecretError>, Option<SecretError>, bool), Fail> {
-    secrets.put_share(alloc, Epoch(0), Share(number(1)?))?;
-    let pruned = secrets.prune(alloc, Epoch(1)).err();
-    let read = secrets.get_share(alloc, Epoch(0)).err();
-    Ok((pruned, read, secrets.get_share(alloc, Epoch(0))?.is_some()))
-}
-
-#[test]
-fn told_calls_fail_and_change_nothing(rt: HostRuntime) -> Result<(), Fail> {
-    let alloc = rt.alloc();
-    let mut secrets = MemorySecrets::failing(alloc, vec![in alloc; 2, 3]?);
-    let failed = Some(SecretError::Failed);
-    is(&rt, pruned(alloc, &mut secrets)?, (failed, failed, true));
     Ok(())
 }
