@@ -4,6 +4,12 @@
 #[cfg(test)]
 mod asserts;
 #[cfg(test)]
-mod probe;
+mod lock;
+#[cfg(test)]
+mod parts;
 #[cfg(test)]
 mod probe_cases;
+#[cfg(test)]
+mod steps;
+#[cfg(test)]
+mod wire;
