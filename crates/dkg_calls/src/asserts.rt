@@ -22,8 +22,3 @@ pub(crate) fn is_at<T: PartialEq + Debug + Drop, L: Debug + Drop>(
 pub(crate) fn holds(rt: &impl Abort, test: bool) {
     assert!(rt; test);
 }
-
-/// A test holds, of a row with this label.
-pub(crate) fn holds_at<L: Debug + Drop>(rt: &impl Abort, test: bool, label: L) {
-    assert!(rt; test, "at {label:?}");
-}

@@ -1,5 +1,5 @@
 use crate::asserts::{holds, is, is_at};
-use crate::reading::{fault_of, faults_of};
+use crate::reading::faults_of;
 use dkg_ceremony::*;
 use std::alloc::Global;
 use std::test::Fail;
@@ -29,34 +29,18 @@ fn publics_are_refused(rt: HostRuntime) -> Result<(), Fail> {
     Ok(())
 }
 
-/// An output whose bytes are those of the worked one but for one.
-fn fault_of_edit(alloc: Global, place: usize, byte: u8) -> Option<CodecError> {
-    let mut bytes = OUTPUT;
-    if place < 52 {
-        bytes[place] = byte;
-    }
-    fault_of::<Output>(alloc, &bytes, &(4, ModeVersion(0)))
-}
-
-#[test]
-fn edited_outputs_are_refused(rt: HostRuntime) -> Result<(), Fail> {
-    let rows: [(usize, u8, Option<CodecError>); 9] = [
-        (0, 7, None),
-        (8, 1, Some(CodecError::InvalidEnum(1))),
-        (8, 2, Some(CodecError::InvalidEnum(2))),
-        (9, 3, Some(CodecError::Invalid(What::Output))),
-        (10, 133, Some(CodecError::InvalidVarint)),
-        (17, 5, Some(CodecError::InvalidLength { got: 5, max: 4 })),
-        (25, 1, Some(CodecError::Invalid(What::Set))),
-        (34, 3, Some(CodecError::Invalid(What::Output))),
-        (51, 1, Some(CodecError::EndOfBuffer)),
-    ];
-    for (place, byte, want) in rows {
-        let fault = fault_of_edit(rt.alloc(), place, byte);
-        is_at(&rt, fault, want, (byte, place));
-    }
-    Ok(())
-}
+/// The worked output's bytes, of which one is another, and what reading them gives.
+const EDITS: &str = "\
+07000000000000000004030005000100020400000001000000020000000300000004040000000100000002000000030000000400 None
+00000000000000000104030005000100020400000001000000020000000300000004040000000100000002000000030000000400 Some(InvalidEnum(1))
+00000000000000000204030005000100020400000001000000020000000300000004040000000100000002000000030000000400 Some(InvalidEnum(2))
+00000000000000000003030005000100020400000001000000020000000300000004040000000100000002000000030000000400 Some(Invalid(Output))
+00000000000000000004850005000100020400000001000000020000000300000004040000000100000002000000030000000400 Some(InvalidVarint)
+00000000000000000004030005000100020500000001000000020000000300000004040000000100000002000000030000000400 Some(InvalidLength { got: 5, max: 4 })
+00000000000000000004030005000100020400000001000000010000000300000004040000000100000002000000030000000400 Some(Invalid(Set))
+00000000000000000004030005000100020400000001000000020000000300000004030000000100000002000000030000000400 Some(Invalid(Output))
+00000000000000000004030005000100020400000001000000020000000300000004040000000100000002000000030000000401 Some(EndOfBuffer)
+";
 
 /// Bytes of an output whose parts are each read, and what reading them gives.
 const OUTPUTS: &str = "\
@@ -70,6 +54,8 @@ const OUTPUTS: &str = "\
 
 #[test]
 fn outputs_whose_parts_differ_are_refused(rt: HostRuntime) -> Result<(), Fail> {
+    let told = faults_of::<Output>(rt.alloc(), EDITS, &(4, ModeVersion(0)))?;
+    is(&rt, told.as_str(), EDITS);
     let told = faults_of::<Output>(rt.alloc(), OUTPUTS, &(4, ModeVersion(1)))?;
     is(&rt, told.as_str(), OUTPUTS);
     Ok(())
@@ -357,6 +343,7 @@ fn copied_bytes(alloc: Global) -> Result<Blob, Fail> {
 fn a_copied_output_spells_the_same(rt: HostRuntime) -> Result<(), Fail> {
     let bytes = copied_bytes(rt.alloc())?;
     is(&rt, bytes.as_slice(), OUTPUT.as_slice());
+    is(&rt, output(rt.alloc())?.encode_size(), 52);
     Ok(())
 }
 
@@ -422,8 +409,10 @@ fn share_again(
 /// Whether the worked output is the same when it is read again, if so many participants allow it.
 fn is_read_again(alloc: Global, most: u32) -> Result<Option<bool>, Fail> {
     let value = output(alloc)?;
-    let again = read_again(alloc, &value, &(most, ModeVersion(0)))?;
-    Ok(again.map(|again| again.same(&value)))
+    match read_again(alloc, &value, &(most, ModeVersion(0)))? {
+        Some(again) => Ok(Some(again.same(&value))),
+        None => Ok(None),
+    }
 }
 
 #[test]
@@ -431,12 +420,6 @@ fn outputs_are_written_and_read(rt: HostRuntime) -> Result<(), Fail> {
     is(&rt, is_read_again(rt.alloc(), 4)?, Some(true));
     is(&rt, is_read_again(rt.alloc(), 3)?, None);
     no_prefix::<Output>();
-    Ok(())
-}
-
-#[test]
-fn an_output_has_a_size(rt: HostRuntime) -> Result<(), Fail> {
-    is(&rt, output(rt.alloc())?.encode_size(), 52);
     Ok(())
 }
 

@@ -2,7 +2,7 @@
 use crate::asserts::{holds, is, is_at};
 use crate::ceremony::{followed_round, output, worked_round};
 use crate::reading::faults_of;
-use crate::rounds::{deal, finish, map_of, observe};
+use crate::rounds::{deal, finish, is_seen, map_of, observe};
 use dkg_ceremony::*;
 use std::alloc::Global;
 use std::test::Fail;
@@ -114,6 +114,18 @@ fn worked_logs_make_the_outcome(rt: HostRuntime) -> Result<(), Fail> {
     Ok(())
 }
 
+#[test]
+fn a_share_fits_its_output(rt: HostRuntime) -> Result<(), Fail> {
+    let output = output(rt.alloc())?;
+    for (value, want) in [(8, true), (9, false)] {
+        let share = Share(Element::new(value).ok_or("an element")?);
+        is_at(&rt, is_seen(&StandCeremony, &output, &share), want, value);
+    }
+    dealers_pass::<StandCeremony>();
+    finishes_agree::<StandCeremony>();
+    Ok(())
+}
+
 /// Whether any ceremony accepts a log, and finds the acknowledgement of a player in it.
 fn is_accepted<C: Ceremony>(
     ceremony: &C,
@@ -156,7 +168,10 @@ fn refusal(alloc: Global, follows: bool, share: u16) -> Result<Option<DealError>
     let previous = output(alloc)?;
     let previous = if follows { Some(&previous) } else { None };
     let round = worked_round(alloc, previous)?;
-    let share = Element::new(share).map(|element| Share(element));
+    let share = match Element::new(share) {
+        Some(element) => Some(Share(element)),
+        None => None,
+    };
     let seed = Seed([7; 32]);
     let signer = StandSigner::new(Key(1));
     let dealt = deal(

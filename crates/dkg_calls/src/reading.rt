@@ -5,11 +5,7 @@ use std::alloc::Global;
 use std::test::Fail;
 
 /// Why bytes are no value.
-pub(crate) fn fault_of<T: Read + Drop>(
-    alloc: Global,
-    bytes: &[u8],
-    cfg: &T::Cfg,
-) -> Option<CodecError> {
+fn fault_of<T: Read + Drop>(alloc: Global, bytes: &[u8], cfg: &T::Cfg) -> Option<CodecError> {
     decode_cfg::<T>(alloc, bytes, cfg).err()
 }
 
