@@ -2,7 +2,6 @@ pub mod AckLaws
 pub mod Acks
 pub mod Agreement
 pub mod AgreementTest
-pub mod Coefficients
 pub mod DealLaws
 pub mod Dealings
 pub mod Deals
@@ -36,7 +35,6 @@ pub mod ShareLaws
 pub mod SharingGrammar
 pub mod SharingLimits
 pub mod Sharings
-pub mod ShortRows
 pub mod SumLaws
 pub mod Thresholds
 pub mod ValidLogLaws

@@ -4,7 +4,6 @@
 ghost use Rattle.std.specs.Prelude.{◌≡◌, ◌↔◌, ℕ, ◌+◌, ◌*◌, ◌<◌, ◌≤◌, ◌^◌, ◌++◌, IfOk, IsTrue, OnErr, OnOk, length, slice_index, vec_len};
 ghost use Rattle.dkg_values.specs.Codec.{StandsInFront};
 ghost use Rattle.dkg_values.specs.Lists.{public_spelling, PublicFits};
-ghost use Rattle.dkg_ceremony.specs.Coefficients.{coefficients};
 ghost use Rattle.dkg_ceremony.specs.Publics.{IsPublic};
 
 use bytes::{BufMut, BytesMut};
@@ -15,50 +14,20 @@ use dkg_values::{
 use std::alloc::Global;
 use std::marker::Model;
 
-/// The most coefficients that lie in a public half itself. With them it takes 16 bytes, as where they lie apart.
-const FEW: usize = 6;
-
-/// So many coefficients, and zeros behind them.
+/// The coefficients of a polynomial, from the constant one on: at least one and fewer than 2^32, which contracts see as a list. They lie apart, in memory that copies share.
 #[derive(Debug, Drop)]
-struct Short {
-    count: u8,
-    elements: [Element; 6],
-}
-
-impl Model for Short {
-    ghost use Rattle.std.specs.Prelude.{List, ℕ, ◌≤◌, take};
-
-    ghost Value = { List ℕ };
-
-    ghost view = { λ s. take s.count s.elements };
-
-    ghost invariant = { λ s. s.count ≤ 6 };
-}
-
-/// Where the coefficients lie: few of them in their place, and many apart, in memory that copies share.
-#[derive(Debug, Drop)]
-enum Form {
-    Few(Short),
-    Many(Shared<Vec<Element>>),
-}
-
-/// The coefficients of a polynomial, from the constant one on: at least one and fewer than 2^32, which contracts see as a list.
-#[derive(Debug, Drop)]
-pub struct Public {
-    form: Form,
-}
+pub struct Public(Shared<Vec<Element>>);
 
 impl Model for Public {
     ghost use Rattle.std.specs.Prelude.{List, ℕ};
 
     ghost Value = { List ℕ };
 
-    ghost use Rattle.dkg_ceremony.specs.Coefficients.{coefficients};
     ghost use Rattle.dkg_ceremony.specs.Publics.{IsPublic};
 
-    ghost view = { λ p. coefficients p.form };
+    ghost view = { λ p. p.0.items };
 
-    ghost invariant = { λ p. IsPublic (coefficients p.form) };
+    ghost invariant = { λ p. IsPublic p.0.items };
 }
 
 /// Each element is below 65,521: to know it, each is read.
@@ -70,98 +39,12 @@ fn known(elements: &[Element])
     }
 }
 
-fn zero() -> Element
-    ensures { result ≡ 0 }
-{
-    match Element::new(0) {
-        Some(element) => element,
-        None => unreachable!(),
-    }
-}
-
-/// The element at a place, and zero behind the last.
-#[tactic(auto, using(std::proofs::lemmas::List::get_or_past))]
-fn coefficient(elements: &[Element], place: usize) -> Element
-    ensures { result ≡ slice_index elements.now place }
-{
-    if place < elements.len() {
-        elements[place]
-    } else {
-        zero()
-    }
-}
-
-impl Short {
-    fn of(elements: &[Element]) -> Short
-        requires { length elements.now ≤ 6 }
-        ensures { result ≡ elements.now }
-    {
-        Short {
-            count: elements.len() as u8,
-            elements: [
-                coefficient(elements, 0),
-                coefficient(elements, 1),
-                coefficient(elements, 2),
-                coefficient(elements, 3),
-                coefficient(elements, 4),
-                coefficient(elements, 5),
-            ],
-        }
-    }
-
-    fn as_slice(&self) -> &[Element]
-        ensures items { result.now ≡ self.now }
-        ensures few { length result.now ≤ 6 }
-    {
-        let (elements, _zeros) = self.elements.split_at(self.count as usize);
-        elements
-    }
-}
-
-impl Form {
-    fn of(alloc: Global, elements: Vec<Element>) -> Mem<Form>
-        ensures { IfOk result (λ form. coefficients form ≡ elements.items) }
-    {
-        if elements.len() <= FEW {
-            return Ok(Form::Few(Short::of(&elements)));
-        }
-        Ok(Form::Many(Shared::of(alloc, elements)?))
-    }
-
-    fn as_slice(&self) -> &[Element]
-        ensures { result.now ≡ coefficients self.now }
-    {
-        match self {
-            Form::Few(short) => short.as_slice(),
-            Form::Many(elements) => elements.get().as_slice(),
-        }
-    }
-
-    fn share(&self) -> Mem<Form>
-        ensures { IfOk result (λ form. coefficients form ≡ coefficients self.now) }
-    {
-        match self {
-            Form::Few(short) => Ok(Form::Few(Short::of(short.as_slice()))),
-            Form::Many(elements) => Ok(Form::Many(elements.share()?)),
-        }
-    }
-}
-
-/// The polynomial of coefficients that lie somewhere.
-fn formed(form: Form) -> Public
-    requires { IsPublic (coefficients form) }
-    ensures { result ≡ coefficients form }
-{
-    Public { form }
-}
-
 /// The polynomial of these coefficients.
 fn public_of(alloc: Global, elements: Vec<Element>) -> Mem<Public>
     requires { IsPublic elements.items }
     ensures { IfOk result (λ made. made ≡ elements.items) }
 {
-    let form = Form::of(alloc, elements)?;
-    Ok(formed(form))
+    Ok(Public(Shared::of(alloc, elements)?))
 }
 
 /// Whether both are the same coefficients.
@@ -210,7 +93,7 @@ impl Public {
         ensures items { result.now ≡ self.now }
         ensures kept { IsPublic self.now }
     {
-        self.form.as_slice()
+        self.0.get().as_slice()
     }
 
     /// A polynomial may be read under each limit that is no less than its length.
@@ -224,8 +107,7 @@ impl Public {
 
 impl Value for Public {
     fn copy(&self, _alloc: Global) -> Mem<Public> {
-        let form = self.form.share()?;
-        Ok(formed(form))
+        Ok(Public(self.0.share()?))
     }
 
     fn same(&self, other: &Public) -> bool {
