@@ -24,11 +24,14 @@ impl Asked {
         }
     }
 
-    /// Whether a request was named.
+    /// Whether a request was named. Requests mostly rise: one above all that were isn't looked for.
     pub(crate) fn has(&self, request: u64) -> bool
         ensures { result ≡ has_number self.now.numbers request }
     {
-        self.numbers.contains_key(&request)
+        match self.numbers.last_key_value() {
+            Some((last, _)) if *last < request => false,
+            _ => self.numbers.contains_key(&request),
+        }
     }
 
     fn insert(&mut self, number: u64) -> Mem<()>
