@@ -66,24 +66,26 @@ fn noted<D: Disk, X: SecretStore, Dir: Drop>(
     Ok(store.append_log(alloc, devices, Epoch(0), dealer, Height(5), log)?)
 }
 
-/// Records a log of key 3, and one of key 2. Whether each is new, and whose logs count.
+/// Records a log of key 3, and one of key 2. Whether each is new, whether keys 3 and 4 have a log then, and whose logs count.
 fn two_logs<D: Disk, X: SecretStore, Dir: Drop>(
     alloc: Global,
     devices: &mut Devices<'_, D, X>,
     store: &mut Store<Dir>,
-) -> Result<(bool, bool, [u32; 4]), Fail>
+) -> Result<([bool; 4], [u32; 4]), Fail>
     requires { IsTrue D.tells → IsOpen store.old.journal (D.files devices.old.disk.now) (D.image devices.old.disk.now) }
 {
     let first = noted(alloc, devices, store, Key(3))?;
     let second = noted(alloc, devices, store, Key(2))?;
-    Ok((first, second, counted_at(alloc, store)?))
+    let third = store.has_log(Epoch(0), Key(3));
+    let fourth = store.has_log(Epoch(0), Key(4));
+    Ok(([first, second, third, fourth], counted_at(alloc, store)?))
 }
 
 /// That over a disk with that file.
 fn two_logs_in<D: Disk, X: SecretStore, Dir: Drop>(
     alloc: Global,
     devices: &mut Devices<'_, D, X>,
-) -> Result<(bool, bool, [u32; 4]), Fail> {
+) -> Result<([bool; 4], [u32; 4]), Fail> {
     put_old(alloc, devices.disk)?;
     let mut store: Store<Dir> = opened(alloc, devices)?;
     let found = two_logs(alloc, devices, &mut store);
@@ -92,7 +94,7 @@ fn two_logs_in<D: Disk, X: SecretStore, Dir: Drop>(
 }
 
 /// That over empty devices.
-fn two_logs_in_memory(alloc: Global) -> Result<(bool, bool, [u32; 4]), Fail> {
+fn two_logs_in_memory(alloc: Global) -> Result<([bool; 4], [u32; 4]), Fail> {
     let mut memory = Memory::new(alloc);
     let found = two_logs_in::<_, _, Unit>(alloc, &mut memory.devices());
     drop(memory);
@@ -102,6 +104,6 @@ fn two_logs_in_memory(alloc: Global) -> Result<(bool, bool, [u32; 4]), Fail> {
 #[test]
 fn logs_count_from_their_heights_on(rt: HostRuntime) -> Result<(), Fail> {
     let found = two_logs_in_memory(rt.alloc())?;
-    is(&rt, found, (true, false, [0, 2, 23, 0]));
+    is(&rt, found, ([true, false, true, false], [0, 2, 23, 0]));
     Ok(())
 }

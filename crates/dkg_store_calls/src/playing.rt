@@ -288,3 +288,46 @@ fn a_player_ends_its_round_from_its_own_dealings(rt: HostRuntime) -> Result<(), 
     is(&rt, share_of(rt.alloc(), &[2, 0])?, Err(missing));
     Ok(())
 }
+
+/// Whether a store makes a player of the round beside these logs.
+fn plays_beside<C: Ceremony, Dir: Drop>(
+    alloc: Global,
+    ceremony: &C,
+    store: &Store<Dir>,
+    round: &Round,
+    logs: &Map<DealerLog>,
+) -> Result<bool, Fail> {
+    if !round.parts().players.has(ME) {
+        return Err(Fail::from("the key is no player"));
+    }
+    let player = store.create_player_with_logs(alloc, ceremony, Epoch(0), ME, round, logs)?;
+    Ok(player.is_some())
+}
+
+/// That of a store in which nothing is recorded, in a round of four.
+fn plays_beside_in<D: Disk, X: SecretStore>(
+    alloc: Global,
+    devices: &mut Devices<'_, D, X>,
+    logs: &Map<DealerLog>,
+) -> Result<bool, Fail> {
+    let round = round_of(alloc, &StandCeremony)?;
+    let store: Store<Unit> = opened(alloc, devices)?;
+    plays_beside(alloc, &StandCeremony, &store, &round, logs)
+}
+
+/// That over empty devices.
+fn plays_beside_these(alloc: Global, logs: &Map<DealerLog>) -> Result<bool, Fail> {
+    let mut memory = Memory::new(alloc);
+    let plays = plays_beside_in(alloc, &mut memory.devices(), logs);
+    drop(memory);
+    plays
+}
+
+#[test]
+fn whoever_has_lost_what_it_acknowledged_does_not_play(rt: HostRuntime) -> Result<(), Fail> {
+    let acknowledged = logs(rt.alloc())?;
+    let none: Map<DealerLog> = Map::from_any(rt.alloc(), Vec::new(rt.alloc()))?;
+    is(&rt, plays_beside_these(rt.alloc(), &acknowledged)?, false);
+    is(&rt, plays_beside_these(rt.alloc(), &none)?, true);
+    Ok(())
+}

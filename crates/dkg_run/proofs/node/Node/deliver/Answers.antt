@@ -18,7 +18,7 @@ deliver-requires-clause-within g c = c.requires.within
 pub deliver-requires-clause-including : goal.deliver-requires-clause-including
 deliver-requires-clause-including g c = c.requires.ready.including
 
--- IT (record c.args.self.now { actor = c.deliver.new.self; fence = c.deliver-2.new.fence; half = c.deliver-2.new.self })ED in the reshare half
+-- IT ENDED in the reshare half
 
 pub returns-in_err-deliver-clause-ready : goal.returns-in_err-deliver-clause-ready
 returns-in_err-deliver-clause-ready g c = let p = err_from_is_err_and c.from_residual.result c.from_residual.ensures.1 in rw p.1 tt
