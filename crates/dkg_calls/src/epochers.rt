@@ -58,13 +58,7 @@ fn epochs_begin_and_end(rt: HostRuntime) -> Result<(), Fail> {
     for (blocks, epoch, want) in rows {
         let epochs = epochs_of(blocks)?;
         let [first, midpoint, last] = match want {
-            Some([first, midpoint, last]) => {
-                [
-                    Some(Height(first)),
-                    Some(Height(midpoint)),
-                    Some(Height(last)),
-                ]
-            }
+            Some(heights) => heights.map(|height| Some(Height(height))),
             None => [None, None, None],
         };
         is_at(&rt, epochs.first(Epoch(epoch)), first, (epoch, blocks));
