@@ -29,11 +29,11 @@ use Rattle.dkg_core.specs.Entering.{Acknowledges, Withholds, acked_at, acked_lat
 use Rattle.dkg_core.specs.Fixed.{Fixed}
 use Rattle.dkg_core.specs.Live.{Faulted, Live, NodeStop, Orchestrator, Waiting, with_orchestrator}
 use Rattle.dkg_core.specs.Splitting.{named}
-use Rattle.dkg_dealing.specs.Ends.{by_cause, cause_in}
-use Rattle.dkg_dealing.specs.Made.{Speaks}
-use Rattle.dkg_dealing.specs.declared.stop.Stop.{Stop}
-use Rattle.dkg_dealing.specs.declared.stop.Stop.TheVariants as stop
-use Rattle.dkg_dealing.proofs.Under.{on_bind}
+use Rattle.dkg_life.specs.Ends.{by_cause, cause_in}
+use Rattle.dkg_life.specs.Made.{Speaks}
+use Rattle.dkg_life.specs.declared.stop.Stop.{Stop}
+use Rattle.dkg_life.specs.declared.stop.Stop.TheVariants as stop
+use Rattle.dkg_life.proofs.Under.{on_bind}
 use Rattle.dkg_lives.specs.Ended.{by_node_stop, ends_node}
 use Rattle.dkg_around.specs.Halves.{beginning_of}
 use Rattle.dkg_around.specs.Orchestrator.{HasHalf, IsSettled, MayGoOn, MayPass, ends_on, with_half}

@@ -14,10 +14,10 @@ use Rattle.dkg_store.specs.Acts.{Ended, Moment, Stands, at, by_cut, by_want, bro
 use Rattle.dkg_core.specs.Courses.{Course, on_devices}
 use Rattle.dkg_core.specs.Live.{Faulted, Live, NodeStop}
 use Rattle.dkg_core.specs.Splitting.{named}
-use Rattle.dkg_dealing.specs.Ends.{by_fault}
-use Rattle.dkg_dealing.specs.Made.{MakesAt, Tells}
-use Rattle.dkg_dealing.specs.declared.stop.Stop.{Stop}
-use Rattle.dkg_dealing.specs.declared.stop.Stop.TheVariants.{Cut, Failed, Fault as FaultOf}
+use Rattle.dkg_life.specs.Ends.{by_fault}
+use Rattle.dkg_life.specs.Made.{MakesAt, Tells}
+use Rattle.dkg_life.specs.declared.stop.Stop.{Stop}
+use Rattle.dkg_life.specs.declared.stop.Stop.TheVariants.{Cut, Failed, Fault as FaultOf}
 use Rattle.dkg_text.specs.declared.script.Event.{Event}
 use Rattle.dkg_lives.specs.Ended.{by_node_stop}
 use Rattle.dkg_lives.specs.Given.{Lived, step_of}

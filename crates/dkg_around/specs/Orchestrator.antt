@@ -13,7 +13,7 @@ use Rattle.dkg_core.specs.Fixed.{Fixed}
 use Rattle.dkg_core.specs.Live.{Live, NodeStop, with_orchestrator}
 use Rattle.dkg_core.specs.Sources.{Source}
 use Rattle.dkg_core.specs.Endings.{OnInfo, first_epoch}
-use Rattle.dkg_dealing.specs.declared.stop.Stop.{Stop}
+use Rattle.dkg_life.specs.declared.stop.Stop.{Stop}
 use Rattle.dkg_lives.specs.Ended.{by_node_stop}
 use Rattle.dkg_lives.specs.Given.{IsUnplanned}
 use Rattle.dkg_around.specs.declared.half.Half.{Half}

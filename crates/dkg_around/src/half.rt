@@ -16,16 +16,17 @@ ghost use Rattle.dkg_core.specs.Entering.{acked_at, takes_delivered, delivered_i
 ghost use Rattle.dkg_core.specs.Fixed.{Fixed};
 ghost use Rattle.dkg_core.specs.Live.{Live};
 ghost use Rattle.dkg_core.specs.Node.{kept_material};
-ghost use Rattle.dkg_dealing.specs.Ends.{IsCaused};
-ghost use Rattle.dkg_dealing.specs.Made.{Speaks};
-ghost use Rattle.dkg_dealing.specs.declared.stop.Stop.TheVariants.{Fault as FaultOf};
+ghost use Rattle.dkg_life.specs.Ends.{IsCaused};
+ghost use Rattle.dkg_life.specs.Made.{Speaks};
+ghost use Rattle.dkg_life.specs.declared.stop.Stop.TheVariants.{Fault as FaultOf};
 ghost use Rattle.dkg_types.specs.declared.fault.Fault.TheVariants.{NoMemory};
 ghost use Rattle.dkg_lives.specs.Ended.{ends_node};
 ghost use Rattle.dkg_around.specs.Halves.{IsStartOf, beginning_of};
 ghost use Rattle.dkg_around.specs.Orchestrator.{HasHalf, IsFenceReady, IsHalfGiven, IsSettled, MayEnter, MayGoOn, MayPass, ends_half, ends_on, with_half};
 
 use dkg_ceremony::{Bounds, Epoch, Epocher, Height};
-use dkg_dealing::{BlockSource, Stop, Tip, startup};
+use dkg_dealing::{BlockSource, startup};
+use dkg_life::{Stop, Tip};
 use dkg_fence::{Fence, Waited};
 use dkg_types::{Block, Entry, Fault, Transcript, Unit};
 use std::num::NonZeroU64;

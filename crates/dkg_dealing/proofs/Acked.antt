@@ -32,16 +32,16 @@ use Rattle.dkg_core.specs.Fixed.{Fixed}
 use Rattle.dkg_core.specs.Live as live
 use Rattle.dkg_core.specs.Live.{Live, recorded_at}
 use Rattle.dkg_core.specs.Said.{Said}
-use Rattle.dkg_dealing.specs.declared.life.Life.{Life}
-use Rattle.dkg_dealing.specs.declared.stop.Stop.{Stop}
-use Rattle.dkg_dealing.specs.declared.stop.Stop.TheVariants.{Fault as Faulted}
-use Rattle.dkg_dealing.specs.Ends.{by_stop, ends_in, fault_of}
-use Rattle.dkg_dealing.specs.LiveOf.{Beside, dealer_of, live_of}
-use Rattle.dkg_dealing.specs.Made.{MakesAt}
-use Rattle.dkg_dealing.specs.Rules.{CheckAckOf}
-use Rattle.dkg_dealing.proofs.Burning.{line_makes, makes_early, makes_next, makes_nothing}
+use Rattle.dkg_life.specs.declared.life.Life.{Life}
+use Rattle.dkg_life.specs.declared.stop.Stop.{Stop}
+use Rattle.dkg_life.specs.declared.stop.Stop.TheVariants.{Fault as Faulted}
+use Rattle.dkg_life.specs.Ends.{by_stop, ends_in, fault_of}
+use Rattle.dkg_life.specs.LiveOf.{Beside, dealer_of, live_of}
+use Rattle.dkg_life.specs.Made.{MakesAt}
+use Rattle.dkg_life.specs.Rules.{CheckAckOf}
+use Rattle.dkg_life.proofs.Burning.{line_makes, makes_early, makes_next, makes_nothing}
 use Rattle.dkg_dealing.proofs.Counted.{counts_one, records_one}
-use Rattle.dkg_dealing.proofs.Lines.{line_said}
+use Rattle.dkg_life.proofs.Lines.{line_said}
 
 module _ {Dir : Type 0} (round : Round) (d : live.Dealer) (from : ℕ) (ack : List ℕ) (st : Live Dir) where
   -- what is in memory then, where it passed

@@ -7,7 +7,7 @@ use Rattle.dkg_store.specs.Both.{Call}
 use Rattle.dkg_store.specs.Called.{Called}
 use Rattle.dkg_store.specs.declared.devices.Devices.{Devices}
 use Rattle.dkg_secrets.specs.declared.secrets.SecretOp.{SecretOp}
-use Rattle.dkg_dealing.specs.Moved.{Moved}
+use Rattle.dkg_life.specs.Moved.{Moved}
 
 -- What is known of them on a disk that tells.
 pub moved_called : {D X : Type 0} (tells : Bool) (disk : D → D → List (DeviceCall Op) → Type 0) (secrets : X → X → List (DeviceCall SecretOp) → Type 0) (disk_faults : D → ℕ) (secret_faults : X → ℕ) {old new : Devices D X}

@@ -27,18 +27,18 @@ use Rattle.dkg_core.specs.Fixed.{Fixed}
 use Rattle.dkg_core.specs.Live.{Live, awaited_height, phase_of, with_participation}
 use Rattle.dkg_core.specs.Setup as setup
 use Rattle.dkg_core.specs.Sources.{Tip}
-use Rattle.dkg_dealing.specs.declared.config.Terms.{Terms}
-use Rattle.dkg_dealing.specs.declared.stop.Stop.{Stop}
-use Rattle.dkg_dealing.specs.declared.stop.Stop.TheVariants.{Fault as Faulted}
-use Rattle.dkg_dealing.specs.Ends.{IsCaused, by_stop, ends_in}
-use Rattle.dkg_dealing.specs.Given.{IsOf}
+use Rattle.dkg_life.specs.declared.config.Terms.{Terms}
+use Rattle.dkg_life.specs.declared.stop.Stop.{Stop}
+use Rattle.dkg_life.specs.declared.stop.Stop.TheVariants.{Fault as Faulted}
+use Rattle.dkg_life.specs.Ends.{IsCaused, by_stop, ends_in}
+use Rattle.dkg_life.specs.Given.{IsOf}
 use Rattle.dkg_fence.specs.Readiness.{Readiness}
-use Rattle.dkg_dealing.specs.declared.life.Life.{Life}
-use Rattle.dkg_dealing.specs.LiveOf.{Beside, IsDealing, IsFresh, PlayerSits, IsWithin, dealer_of, live_of, seat_of}
-use Rattle.dkg_dealing.specs.Made.{Speaks}
-use Rattle.dkg_dealing.specs.Rules.{AckOf, CheckAckOf, DealOf, DealsBy, RoundOf, SignLogOf}
-use Rattle.dkg_dealing.specs.Steps.{IsFaultOrWant, MakesDealer, MakesPlayer, StandsIn, no_round, refusal_of, refused_by, stage_in}
-use Rattle.dkg_dealing.proofs.Speaking.{gives_speaks, says_speaks, wants_speaks}
+use Rattle.dkg_life.specs.declared.life.Life.{Life}
+use Rattle.dkg_life.specs.LiveOf.{Beside, IsDealing, IsFresh, PlayerSits, IsWithin, dealer_of, live_of, seat_of}
+use Rattle.dkg_life.specs.Made.{Speaks}
+use Rattle.dkg_life.specs.Rules.{AckOf, CheckAckOf, DealOf, DealsBy, RoundOf, SignLogOf}
+use Rattle.dkg_life.specs.Steps.{IsFaultOrWant, MakesDealer, MakesPlayer, StandsIn, no_round, refusal_of, refused_by, stage_in}
+use Rattle.dkg_life.proofs.Speaking.{gives_speaks, says_speaks, wants_speaks}
 
 module _ {Dir : Type 0} (c : Fixed Dir) (p : Participants) (output : Output) (share : Option ℕ) (seed : List ℕ) (st : Live Dir) where
   abbrev its_phase : Phase

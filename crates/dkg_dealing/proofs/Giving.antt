@@ -20,8 +20,8 @@ use Rattle.dkg_store.specs.declared.event.Event.TheVariants as events
 use Rattle.dkg_secrets.specs.declared.secrets.SecretOp.TheVariants.{Prune}
 use Rattle.dkg_secrets.proofs.Map.{below_or, exact_keys}
 use Rattle.dkg_store.proofs.Pruned.{recovered_from}
-use Rattle.dkg_dealing.specs.Given.{AreGivenFrom}
-use Rattle.dkg_dealing.specs.Moved.{StaysAbove, StaysFrom}
+use Rattle.dkg_life.specs.Given.{AreGivenFrom}
+use Rattle.dkg_life.specs.Moved.{StaysAbove, StaysFrom}
 
 -- FROM AN EPOCH ON
 

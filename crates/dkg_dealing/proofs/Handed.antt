@@ -17,10 +17,10 @@ use Rattle.dkg_journal.specs.Names.{Files}
 use Rattle.dkg_journal.specs.declared.journal.Journal.{Journal}
 use Rattle.dkg_store.specs.declared.player.Player.{Player}
 use Rattle.dkg_store.specs.declared.store.Store.{Store}
-use Rattle.dkg_dealing.specs.Heard.{pairs_after}
-use Rattle.dkg_dealing.specs.LiveOf.{SitsAt, SitsIn}
-use Rattle.dkg_dealing.specs.Moved.{IsFirm}
-use Rattle.dkg_dealing.specs.Ends.{fault_of}
+use Rattle.dkg_life.specs.Heard.{pairs_after}
+use Rattle.dkg_life.specs.LiveOf.{SitsAt, SitsIn}
+use Rattle.dkg_life.specs.Moved.{IsFirm}
+use Rattle.dkg_life.specs.Ends.{fault_of}
 use Rattle.dkg_core.specs.Said.{Said}
 
 same_pair : (v w : List ℕ × ℕ) → ◌≡◌ {A = Option (List ℕ × ℕ)} (Some v) (Some w) → v ≡ w

@@ -19,20 +19,20 @@ use Rattle.dkg_core.specs.Courses.{Course, on_devices}
 use Rattle.dkg_core.specs.Dealing as dealing
 use Rattle.dkg_core.specs.Fixed.{Fixed}
 use Rattle.dkg_core.specs.Live.{Live}
-use Rattle.dkg_dealing.specs.declared.config.Terms.{Terms}
-use Rattle.dkg_dealing.specs.declared.life.Life.{Life}
-use Rattle.dkg_dealing.specs.declared.stop.Stop.{Stop}
-use Rattle.dkg_dealing.specs.declared.stop.Stop.TheVariants.{Fault as Faulted}
-use Rattle.dkg_dealing.specs.Ends.{by_stop, ends_in}
-use Rattle.dkg_dealing.specs.Given.{IsOf}
-use Rattle.dkg_dealing.specs.Heard.{answers, pairs_after, round_dealt}
-use Rattle.dkg_dealing.specs.LiveOf.{Beside, PlayerSits, Sits, SitsAt, live_of, seat_of}
-use Rattle.dkg_dealing.specs.Made.{MakesAt}
-use Rattle.dkg_dealing.specs.Rules.{AckOf, AnswersBy, CheckAckOf, DealingOf}
+use Rattle.dkg_life.specs.declared.config.Terms.{Terms}
+use Rattle.dkg_life.specs.declared.life.Life.{Life}
+use Rattle.dkg_life.specs.declared.stop.Stop.{Stop}
+use Rattle.dkg_life.specs.declared.stop.Stop.TheVariants.{Fault as Faulted}
+use Rattle.dkg_life.specs.Ends.{by_stop, ends_in}
+use Rattle.dkg_life.specs.Given.{IsOf}
+use Rattle.dkg_life.specs.Heard.{answers, pairs_after, round_dealt}
+use Rattle.dkg_life.specs.LiveOf.{Beside, PlayerSits, Sits, SitsAt, live_of, seat_of}
+use Rattle.dkg_life.specs.Made.{MakesAt}
+use Rattle.dkg_life.specs.Rules.{AckOf, AnswersBy, CheckAckOf, DealingOf}
 use Rattle.dkg_core.specs.Said.{Said}
-use Rattle.dkg_dealing.specs.Steps.{told_by}
+use Rattle.dkg_life.specs.Steps.{told_by}
 use Rattle.dkg_dealing.proofs.Hearing.{dealing_made, dealing_said, dealing_stopped, dealing_unsaid, ends_at}
-use Rattle.dkg_dealing.proofs.Seated.{at_some, round_is, sits_at}
+use Rattle.dkg_life.proofs.Seated.{at_some, round_is, sits_at}
 
 module _ {Dir : Type 0} (dealing_of : DealingOf) (ack_of : AckOf) (its : ℕ) (terms : Terms) (old : Life Dir) (player : Player) (epoch from : ℕ) (public : List ℕ) (private : ℕ)
     (is : old.player ≡ Some player) (seated : PlayerSits ack_of terms.me old) (mine : terms.me ≡ its) (dealt : round_dealt old ≡ Some epoch)

@@ -21,19 +21,19 @@ use Rattle.dkg_core.specs.Dealing as dealing
 use Rattle.dkg_core.specs.Fixed.{Fixed}
 use Rattle.dkg_core.specs.Live.{Live, Plays, Seat, recorded_at}
 use Rattle.dkg_core.proofs.Agreeing.{put_same}
-use Rattle.dkg_dealing.specs.declared.life.Life.{Life}
-use Rattle.dkg_dealing.specs.declared.stop.Stop.{Stop}
-use Rattle.dkg_dealing.specs.declared.stop.Stop.TheVariants.{Fault as Faulted}
-use Rattle.dkg_dealing.specs.Ends.{by_stop, ends_in}
-use Rattle.dkg_dealing.specs.Heard.{answers, pairs_after}
-use Rattle.dkg_dealing.specs.Made.{MakesAt}
-use Rattle.dkg_dealing.specs.LiveOf.{Beside, live_of, seat_of}
-use Rattle.dkg_dealing.specs.Rules.{AckOf, DealingOf}
+use Rattle.dkg_life.specs.declared.life.Life.{Life}
+use Rattle.dkg_life.specs.declared.stop.Stop.{Stop}
+use Rattle.dkg_life.specs.declared.stop.Stop.TheVariants.{Fault as Faulted}
+use Rattle.dkg_life.specs.Ends.{by_stop, ends_in}
+use Rattle.dkg_life.specs.Heard.{answers, pairs_after}
+use Rattle.dkg_life.specs.Made.{MakesAt}
+use Rattle.dkg_life.specs.LiveOf.{Beside, live_of, seat_of}
+use Rattle.dkg_life.specs.Rules.{AckOf, DealingOf}
 use Rattle.dkg_core.specs.Said.{Said}
-use Rattle.dkg_dealing.specs.Steps.{told_by}
-use Rattle.dkg_dealing.proofs.Burning.{line_makes, makes_early, makes_next}
-use Rattle.dkg_dealing.proofs.Lines.{line_said}
-use Rattle.dkg_dealing.proofs.Said.{said_next, said_early}
+use Rattle.dkg_life.specs.Steps.{told_by}
+use Rattle.dkg_life.proofs.Burning.{line_makes, makes_early, makes_next}
+use Rattle.dkg_life.proofs.Lines.{line_said}
+use Rattle.dkg_life.proofs.Said.{said_next, said_early}
 
 module _ {Dir : Type 0} (c : Fixed Dir) (round : Round) (from : ℕ) (public : List ℕ) (private : ℕ) (st : Live Dir) where
   -- what is in memory then

@@ -10,8 +10,8 @@ use Rattle.dkg_core.specs.Courses.{Course, Stops, bind}
 use Rattle.dkg_core.specs.Fixed.{Fixed}
 use Rattle.dkg_core.specs.Live.{Live}
 use Rattle.dkg_core.specs.Setup as setup
-use Rattle.dkg_dealing.specs.Steps.{reads_secrets, refusal_of, refused_by}
-use Rattle.dkg_dealing.proofs.Seated.{same_some}
+use Rattle.dkg_life.specs.Steps.{reads_secrets, refusal_of, refused_by}
+use Rattle.dkg_life.proofs.Seated.{same_some}
 
 module _ {Dir : Type 0} (c : Fixed Dir) (standing : setup.Standing) (info : EpochInfo Dir) (st : Live Dir) where
   -- the setup behind the share and the seed

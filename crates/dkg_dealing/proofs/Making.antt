@@ -20,10 +20,10 @@ use Rattle.dkg_core.specs.Live.{Live, Plays, Watches, of_epoch}
 use Rattle.dkg_core.specs.Live as live
 use Rattle.dkg_core.specs.Logs.{logs_of}
 use Rattle.dkg_core.specs.Setup as setup
-use Rattle.dkg_dealing.specs.Ends.{stop_of}
-use Rattle.dkg_dealing.specs.LiveOf.{SitsIn, records_of}
-use Rattle.dkg_dealing.specs.Rules.{AckOf, BearsAckOf, DealingOf}
-use Rattle.dkg_dealing.specs.Steps.{MakesPlayer}
+use Rattle.dkg_life.specs.Ends.{stop_of}
+use Rattle.dkg_life.specs.LiveOf.{SitsIn, records_of}
+use Rattle.dkg_life.specs.Rules.{AckOf, BearsAckOf, DealingOf}
+use Rattle.dkg_life.specs.Steps.{MakesPlayer}
 
 at_none : (b : Bool) → false ≡ not b → b ≡ true
 at_none true e = refl

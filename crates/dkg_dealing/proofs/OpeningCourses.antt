@@ -22,11 +22,11 @@ use Rattle.dkg_core.specs.Live.{Live, Records, awaited_height}
 use Rattle.dkg_core.specs.Plans as plans
 use Rattle.dkg_core.specs.Setup as setup
 use Rattle.dkg_core.specs.Sources.{Source, Tip, startup}
-use Rattle.dkg_dealing.specs.declared.life.Life.{Life}
-use Rattle.dkg_dealing.specs.declared.life.Stage.TheVariants.{Following}
-use Rattle.dkg_dealing.specs.LiveOf.{live_of, no_fence, nothing_beside, records_of}
-use Rattle.dkg_dealing.specs.Made.{MakesAt, Tells}
-use Rattle.dkg_dealing.specs.Opened.{opens_store, startup_of}
+use Rattle.dkg_life.specs.declared.life.Life.{Life}
+use Rattle.dkg_life.specs.declared.life.Stage.TheVariants.{Following}
+use Rattle.dkg_life.specs.LiveOf.{live_of, no_fence, nothing_beside, records_of}
+use Rattle.dkg_life.specs.Made.{MakesAt, Tells}
+use Rattle.dkg_life.specs.Opened.{opens_store, startup_of}
 
 -- THE STORE
 

@@ -45,24 +45,24 @@ use Rattle.dkg_core.specs.Sources.{Source}
 use Rattle.dkg_core.proofs.Agreeing.{setups_agree}
 use Rattle.dkg_core.specs.Said.{SaysBy}
 use Rattle.dkg_core.specs.Seen.{Seen}
-use Rattle.dkg_dealing.specs.declared.stop.Stop.{Stop}
-use Rattle.dkg_dealing.specs.declared.stop.Stop.TheVariants.{Fault as Faulted, Cut, Failed}
-use Rattle.dkg_dealing.specs.Ready.{IsFoundAt}
-use Rattle.dkg_dealing.specs.declared.config.Terms.{Terms}
-use Rattle.dkg_dealing.specs.declared.life.Life.{Life}
-use Rattle.dkg_dealing.specs.declared.life.Stage.TheVariants.{Following}
-use Rattle.dkg_dealing.specs.Ends.{IsCausedBy, by_stop, ends_in, stop_of}
-use Rattle.dkg_dealing.specs.Given.{AreGivenFrom, CanRead, HasRead, IsLent, reading}
-use Rattle.dkg_dealing.specs.LiveOf.{live_of, no_fence, nothing_beside, records_of}
-use Rattle.dkg_dealing.specs.Made.{MakesAt, Tells, UnlessBroken}
-use Rattle.dkg_dealing.specs.Moved.{StaysFrom}
-use Rattle.dkg_dealing.specs.Opened.{IsInGrammar, OpensReadable, opens_store, startup_of}
-use Rattle.dkg_dealing.specs.Planless.{IsBareOpening, seen_planless}
+use Rattle.dkg_life.specs.declared.stop.Stop.{Stop}
+use Rattle.dkg_life.specs.declared.stop.Stop.TheVariants.{Fault as Faulted, Cut, Failed}
+use Rattle.dkg_life.specs.Ready.{IsFoundAt}
+use Rattle.dkg_life.specs.declared.config.Terms.{Terms}
+use Rattle.dkg_life.specs.declared.life.Life.{Life}
+use Rattle.dkg_life.specs.declared.life.Stage.TheVariants.{Following}
+use Rattle.dkg_life.specs.Ends.{IsCausedBy, by_stop, ends_in, stop_of}
+use Rattle.dkg_life.specs.Given.{AreGivenFrom, CanRead, HasRead, IsLent, reading}
+use Rattle.dkg_life.specs.LiveOf.{live_of, no_fence, nothing_beside, records_of}
+use Rattle.dkg_life.specs.Made.{MakesAt, Tells, UnlessBroken}
+use Rattle.dkg_life.specs.Moved.{StaysFrom}
+use Rattle.dkg_life.specs.Opened.{IsInGrammar, OpensReadable, opens_store, startup_of}
+use Rattle.dkg_life.specs.Planless.{IsBareOpening, seen_planless}
 use Rattle.dkg_dealing.proofs.OpeningCourses.{begun_at, begun_live, makes_as, opening_as, recorded, sets_up_over, tells_as}
-use Rattle.dkg_dealing.proofs.Burning.{burns_counted, by_stop_alike, line_makes, makes_early, makes_error, makes_next, makes_under, outside_of_pruning, unless_outside, unless_so}
-use Rattle.dkg_dealing.proofs.Chained.{early_makes, early_told, then_makes, then_told}
+use Rattle.dkg_life.proofs.Burning.{burns_counted, by_stop_alike, line_makes, makes_early, makes_error, makes_next, makes_under, outside_of_pruning, unless_outside, unless_so}
+use Rattle.dkg_life.proofs.Chained.{early_makes, early_told, then_makes, then_told}
 use Rattle.dkg_dealing.proofs.Giving.{given_above, given_on}
-use Rattle.dkg_dealing.proofs.Said.{nothing_held, said_none}
+use Rattle.dkg_life.proofs.Said.{nothing_held, said_none}
 
 -- A JOURNAL IN ITS GRAMMAR
 

@@ -30,22 +30,22 @@ use Rattle.dkg_core.specs.Fixed.{Fixed}
 use Rattle.dkg_core.specs.Live as live
 use Rattle.dkg_core.specs.Live.{Live, recorded_at}
 use Rattle.dkg_core.specs.Said.{Said, SaysAll}
-use Rattle.dkg_dealing.specs.declared.config.Terms.{Terms}
-use Rattle.dkg_dealing.specs.declared.life.Life.{Life}
-use Rattle.dkg_dealing.specs.declared.stop.Stop.{Stop}
-use Rattle.dkg_dealing.specs.declared.stop.Stop.TheVariants.{Fault as Faulted}
-use Rattle.dkg_dealing.specs.Ends.{IsCaused, by_stop}
-use Rattle.dkg_dealing.specs.Given.{IsOf}
-use Rattle.dkg_dealing.specs.Heard.{answers, pairs_after, round_dealt}
-use Rattle.dkg_dealing.specs.LiveOf.{Beside, DealsIn, IsDealing, PlayerSits, IsWithin, Sits, SitsAt, dealer_of, live_of, seat_of}
-use Rattle.dkg_dealing.specs.Made.{MakesAt, Speaks}
-use Rattle.dkg_dealing.specs.Rules.{AckOf, AnswersBy, CheckAckOf, DealOf, DealingOf}
-use Rattle.dkg_dealing.proofs.Burning.{makes_early, makes_next}
-use Rattle.dkg_dealing.proofs.Dealt.{deals_round, dealt_number}
+use Rattle.dkg_life.specs.declared.config.Terms.{Terms}
+use Rattle.dkg_life.specs.declared.life.Life.{Life}
+use Rattle.dkg_life.specs.declared.stop.Stop.{Stop}
+use Rattle.dkg_life.specs.declared.stop.Stop.TheVariants.{Fault as Faulted}
+use Rattle.dkg_life.specs.Ends.{IsCaused, by_stop}
+use Rattle.dkg_life.specs.Given.{IsOf}
+use Rattle.dkg_life.specs.Heard.{answers, pairs_after, round_dealt}
+use Rattle.dkg_life.specs.LiveOf.{Beside, DealsIn, IsDealing, PlayerSits, IsWithin, Sits, SitsAt, dealer_of, live_of, seat_of}
+use Rattle.dkg_life.specs.Made.{MakesAt, Speaks}
+use Rattle.dkg_life.specs.Rules.{AckOf, AnswersBy, CheckAckOf, DealOf, DealingOf}
+use Rattle.dkg_life.proofs.Burning.{makes_early, makes_next}
+use Rattle.dkg_life.proofs.Dealt.{deals_round, dealt_number}
 use Rattle.dkg_dealing.proofs.Hearing.{heard, heard_live}
-use Rattle.dkg_dealing.proofs.Said.{said_early, said_next}
-use Rattle.dkg_dealing.proofs.Seated.{at_some, round_is, same_some, sits_at}
-use Rattle.dkg_dealing.proofs.Speaking.{gives_speaks, wants_speaks}
+use Rattle.dkg_life.proofs.Said.{said_early, said_next}
+use Rattle.dkg_life.proofs.Seated.{at_some, round_is, same_some, sits_at}
+use Rattle.dkg_life.proofs.Speaking.{gives_speaks, wants_speaks}
 
 -- WHAT A DEALER DEALS
 

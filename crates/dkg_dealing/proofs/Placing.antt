@@ -23,20 +23,20 @@ use Rattle.dkg_core.specs.Live.{Live, awaited_height}
 use Rattle.dkg_core.specs.Setup as setup
 use Rattle.dkg_core.specs.Setup.{Uncommitted, WasCommitted}
 use Rattle.dkg_core.specs.Sources.{Source, Tip}
-use Rattle.dkg_dealing.specs.declared.life.Life.{Life}
-use Rattle.dkg_dealing.specs.declared.life.Stage.{Stage}
-use Rattle.dkg_dealing.specs.declared.life.Stage.TheVariants.{Dealing, Including, Following}
-use Rattle.dkg_dealing.specs.declared.config.Terms.{Terms}
-use Rattle.dkg_dealing.specs.Ready.{IsReadyLife, IsSetUp}
-use Rattle.dkg_dealing.specs.LiveOf.{Beside, IsDealing, IsFresh, IsPlaced, PlayerSits, IsWithin, awaited_of, live_of}
-use Rattle.dkg_dealing.specs.Moved.{IsFirm}
-use Rattle.dkg_dealing.specs.Given.{IsLent, IsOf, ReadsPlanless}
-use Rattle.dkg_dealing.specs.Rules.{AckOf, BearsAckOf, CheckAckOf, DealOf, DealingOf, IsRuledBy, PartialPublicOf, RoundOf, SharePublicOf, SignLogOf}
-use Rattle.dkg_dealing.specs.Planless.{seen_planless}
+use Rattle.dkg_life.specs.declared.life.Life.{Life}
+use Rattle.dkg_life.specs.declared.life.Stage.{Stage}
+use Rattle.dkg_life.specs.declared.life.Stage.TheVariants.{Dealing, Including, Following}
+use Rattle.dkg_life.specs.declared.config.Terms.{Terms}
+use Rattle.dkg_life.specs.Ready.{IsReadyLife, IsSetUp}
+use Rattle.dkg_life.specs.LiveOf.{Beside, IsDealing, IsFresh, IsPlaced, PlayerSits, IsWithin, awaited_of, live_of}
+use Rattle.dkg_life.specs.Moved.{IsFirm}
+use Rattle.dkg_life.specs.Given.{IsLent, IsOf, ReadsPlanless}
+use Rattle.dkg_life.specs.Rules.{AckOf, BearsAckOf, CheckAckOf, DealOf, DealingOf, IsRuledBy, PartialPublicOf, RoundOf, SharePublicOf, SignLogOf}
+use Rattle.dkg_life.specs.Planless.{seen_planless}
 use Rattle.dkg_values.specs.declared.codec.CodecError.TheVariants.{EndOfBuffer}
-use Rattle.dkg_dealing.specs.Steps.{AreBoundsAt, StandsIn, stage_in}
+use Rattle.dkg_life.specs.Steps.{AreBoundsAt, StandsIn, stage_in}
 use Rattle.dkg_dealing.proofs.OpeningCourses.{out_of_range, sets_up_as}
-use Rattle.dkg_dealing.proofs.Beside.{fresh_stays}
+use Rattle.dkg_life.proofs.Beside.{fresh_stays}
 use Rattle.dkg_dealing.proofs.Ranges.{is_past, not_past}
 
 pub first_is : (n height : ℕ) (bounds : Bounds) → AreBoundsAt n bounds height → bounds.first ≡ first n bounds.epoch

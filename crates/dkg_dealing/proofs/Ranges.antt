@@ -5,7 +5,7 @@ use Rattle.std.proofs.lemmas.Bool.Decides.{nat_tests}
 use Rattle.std.proofs.Math.Nat.{lt-div-mul-add}
 use Rattle.dkg_ceremony.specs.Schedule.{bounds_at, epoch_of, in_range, last}
 use Rattle.dkg_ceremony.specs.declared.epocher.Bounds.{Bounds}
-use Rattle.dkg_dealing.specs.Steps.{AreBoundsAt}
+use Rattle.dkg_life.specs.Steps.{AreBoundsAt}
 
 same_bounds : (x y : Bounds) → ◌≡◌ {A = Option Bounds} (Some x) (Some y) → x ≡ y
 same_bounds x y e = cc

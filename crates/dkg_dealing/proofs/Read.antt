@@ -14,10 +14,10 @@ use Rattle.dkg_core.specs.Courses.{Course, on_devices}
 use Rattle.dkg_core.specs.Dealing as dealing
 use Rattle.dkg_core.specs.Fixed.{Fixed}
 use Rattle.dkg_core.specs.Live.{Live}
-use Rattle.dkg_dealing.specs.declared.life.Life.{Life}
-use Rattle.dkg_dealing.specs.Heard.{round_dealt}
-use Rattle.dkg_dealing.specs.Made.{MakesAt, Tells}
-use Rattle.dkg_dealing.specs.LiveOf.{Beside, live_of}
+use Rattle.dkg_life.specs.declared.life.Life.{Life}
+use Rattle.dkg_life.specs.Heard.{round_dealt}
+use Rattle.dkg_life.specs.Made.{MakesAt, Tells}
+use Rattle.dkg_life.specs.LiveOf.{Beside, live_of}
 use Rattle.dkg_dealing.proofs.Reading.{Reads, reads_it, reads_message}
 
 module _ {Dir : Type 0} (c : Fixed Dir) (from : ℕ) (bytes : List ℕ) (beside : Beside Dir) (fence : Readiness) (life : Life Dir) (epoch : ℕ) (dealt : round_dealt life ≡ Some epoch)

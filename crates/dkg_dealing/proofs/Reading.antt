@@ -14,13 +14,13 @@ use Rattle.dkg_core.specs.Courses.{Course, Goes}
 use Rattle.dkg_core.specs.Dealing as dealing
 use Rattle.dkg_core.specs.Fixed.{Fixed}
 use Rattle.dkg_core.specs.Live.{Live}
-use Rattle.dkg_dealing.specs.declared.life.Life.{Life}
-use Rattle.dkg_dealing.specs.declared.life.Stage.{Stage}
-use Rattle.dkg_dealing.specs.declared.life.Stage.TheVariants.{Dealing, Including, Following}
-use Rattle.dkg_dealing.specs.Heard.{round_dealt}
-use Rattle.dkg_dealing.specs.LiveOf.{Beside, live_of, stage_of}
-use Rattle.dkg_dealing.specs.Steps.{is_dealing}
-use Rattle.dkg_dealing.proofs.Seated.{same_some}
+use Rattle.dkg_life.specs.declared.life.Life.{Life}
+use Rattle.dkg_life.specs.declared.life.Stage.{Stage}
+use Rattle.dkg_life.specs.declared.life.Stage.TheVariants.{Dealing, Including, Following}
+use Rattle.dkg_life.specs.Heard.{round_dealt}
+use Rattle.dkg_life.specs.LiveOf.{Beside, live_of, stage_of}
+use Rattle.dkg_life.specs.Steps.{is_dealing}
+use Rattle.dkg_life.proofs.Seated.{same_some}
 
 module _ {Dir : Type 0} (c : Fixed Dir) (from : ℕ) (bytes : List ℕ) (beside : Beside Dir) (fence : Readiness) (life : Life Dir) where
   abbrev st : Live Dir

@@ -15,17 +15,17 @@ use Rattle.dkg_core.specs.Fixed.{Fixed}
 use Rattle.dkg_core.specs.Live.{Live}
 use Rattle.dkg_core.specs.Setup as setup
 use Rattle.dkg_core.specs.Said.{Said}
-use Rattle.dkg_dealing.specs.declared.stop.Stop.{Stop}
-use Rattle.dkg_dealing.specs.Ends.{by_stop, cause_in}
-use Rattle.dkg_dealing.specs.Given.{CanRead, GivesBoth}
-use Rattle.dkg_dealing.specs.declared.life.Life.{Life}
-use Rattle.dkg_dealing.specs.LiveOf.{Beside, live_of}
-use Rattle.dkg_dealing.specs.Made.{MakesAt, Speaks, Tells}
-use Rattle.dkg_dealing.specs.Steps.{IsFaultOrWant, reads_secrets, refusal_of, refused_by}
-use Rattle.dkg_dealing.proofs.Chained.{early_makes, early_told, then_makes, then_told}
+use Rattle.dkg_life.specs.declared.stop.Stop.{Stop}
+use Rattle.dkg_life.specs.Ends.{by_stop, cause_in}
+use Rattle.dkg_life.specs.Given.{CanRead, GivesBoth}
+use Rattle.dkg_life.specs.declared.life.Life.{Life}
+use Rattle.dkg_life.specs.LiveOf.{Beside, live_of}
+use Rattle.dkg_life.specs.Made.{MakesAt, Speaks, Tells}
+use Rattle.dkg_life.specs.Steps.{IsFaultOrWant, reads_secrets, refusal_of, refused_by}
+use Rattle.dkg_life.proofs.Chained.{early_makes, early_told, then_makes, then_told}
 use Rattle.dkg_dealing.proofs.Judging.{behind_secrets, judged_as, passed, refused}
-use Rattle.dkg_dealing.proofs.Seated.{same_some}
-use Rattle.dkg_dealing.proofs.Speaking.{gives_speaks, wants_speaks}
+use Rattle.dkg_life.proofs.Seated.{same_some}
+use Rattle.dkg_life.proofs.Speaking.{gives_speaks, wants_speaks}
 
 module _ {Dir : Type 0} (c : Fixed Dir) (standing : setup.Standing) (info : EpochInfo Dir) (share : Option ℕ) (seed : List ℕ) where
   abbrev pub committing : Live Dir → Course Dir Fault (Live Dir)

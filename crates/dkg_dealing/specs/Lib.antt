@@ -1,14 +1,2 @@
 pub mod Anchors
-pub mod Configured
-pub mod Ends
-pub mod Given
-pub mod Heard
-pub mod Judged
-pub mod LiveOf
-pub mod Made
-pub mod Moved
-pub mod Opened
-pub mod Planless
-pub mod Ready
-pub mod Rules
-pub mod Steps
+pub mod Standings

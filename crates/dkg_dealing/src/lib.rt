@@ -4,20 +4,14 @@
 //! `reshare::actor::setup` and `reshare::actor::dealing`.
 #![tactic(auto)]
 
-mod config;
 mod dealing;
 mod decoded;
-mod life;
 mod offers;
 mod opening;
 mod setup;
 mod source;
-mod stop;
-mod tip;
 
-pub use config::{Config, Terms, check_config};
 pub use dealing::hear_peer;
-pub use life::{Life, Stage};
 pub use offers::{begin_inclusion, deal};
 pub use opening::open_life;
 pub use setup::{
@@ -25,5 +19,3 @@ pub use setup::{
     set_up_committed,
 };
 pub use source::{BlockSource, Processed, startup};
-pub use stop::Stop;
-pub use tip::{Judged, Tip, awaited, judge, tip_of};

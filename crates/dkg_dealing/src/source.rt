@@ -4,7 +4,7 @@ ghost use Rattle.std.specs.Option.{option_copied};
 ghost use Rattle.dkg_core.specs.Sources.{over_floor, position, position_of, startup};
 ghost use Rattle.dkg_dealing.specs.Anchors.{processed_of};
 
-use crate::tip::Tip;
+use dkg_life::Tip;
 use dkg_types::{Block, Directory, Finalization};
 use dkg_values::{Digest, Height, Mem};
 

@@ -18,15 +18,15 @@ use Rattle.dkg_core.specs.Fixed.{Fixed, OneShot}
 use Rattle.dkg_core.specs.Including as including
 use Rattle.dkg_core.specs.Including.{Next}
 use Rattle.dkg_core.specs.Live.{Live, Artifact, VerifiedLogs}
-use Rattle.dkg_dealing.specs.declared.stop.Stop.{Stop}
-use Rattle.dkg_dealing.specs.Ends.{by_stop, cause_in}
+use Rattle.dkg_life.specs.declared.stop.Stop.{Stop}
+use Rattle.dkg_life.specs.Ends.{by_stop, cause_in}
 use Rattle.dkg_inclusion.specs.Including.{derives_in, ended_by, stops_by, unprovided}
 use Rattle.dkg_inclusion.specs.InclusionOf.{verified_of}
-use Rattle.dkg_dealing.specs.Made.{Speaks}
-use Rattle.dkg_dealing.specs.Rules.{SameProvided}
-use Rattle.dkg_dealing.specs.Steps.{IsFaultOrWant}
+use Rattle.dkg_life.specs.Made.{Speaks}
+use Rattle.dkg_life.specs.Rules.{SameProvided}
+use Rattle.dkg_life.specs.Steps.{IsFaultOrWant}
 use Rattle.dkg_inclusion.proofs.Deriving.{derived}
-use Rattle.dkg_dealing.proofs.Speaking.{gives_speaks, wants_speaks}
+use Rattle.dkg_life.proofs.Speaking.{gives_speaks, wants_speaks}
 
 module _ {Dir : Type 0} (c : Fixed Dir) where
   -- what is cached is not derived again

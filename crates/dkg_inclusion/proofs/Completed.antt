@@ -12,11 +12,11 @@ use Rattle.dkg_core.specs.Fixed.{Fixed}
 use Rattle.dkg_core.specs.Including as including
 use Rattle.dkg_core.specs.Live as core
 use Rattle.dkg_inclusion.specs.declared.inclusion.Inclusion.{Inclusion}
-use Rattle.dkg_dealing.specs.declared.life.Life.{Life}
+use Rattle.dkg_life.specs.declared.life.Life.{Life}
 use Rattle.dkg_inclusion.specs.Including.{caching, telling}
 use Rattle.dkg_inclusion.specs.InclusionOf.{IsSeen}
-use Rattle.dkg_dealing.specs.LiveOf.{Beside, EndsWith, live_of}
-use Rattle.dkg_dealing.specs.Made.{Makes, Tells}
+use Rattle.dkg_life.specs.LiveOf.{Beside, EndsWith, live_of}
+use Rattle.dkg_life.specs.Made.{Makes, Tells}
 use Rattle.dkg_inclusion.proofs.Completing.{completed_makes, completed_told}
 use Rattle.dkg_inclusion.proofs.Within.{NoMore}
 

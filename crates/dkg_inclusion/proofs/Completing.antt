@@ -32,27 +32,27 @@ use Rattle.dkg_core.specs.Logs.{canonical}
 use Rattle.dkg_core.specs.Same.{same_logs}
 use Rattle.dkg_core.proofs.Same.{logs_decide, one_logs}
 use Rattle.dkg_inclusion.specs.declared.inclusion.Inclusion.{Inclusion}
-use Rattle.dkg_dealing.specs.declared.life.Life.{Life}
-use Rattle.dkg_dealing.specs.declared.life.Stage.{Stage}
-use Rattle.dkg_dealing.specs.declared.life.Stage.TheVariants.{Including, Following}
-use Rattle.dkg_dealing.specs.declared.stop.Stop.{Stop}
-use Rattle.dkg_dealing.specs.declared.stop.Stop.TheVariants.{Fault as Faulted}
+use Rattle.dkg_life.specs.declared.life.Life.{Life}
+use Rattle.dkg_life.specs.declared.life.Stage.{Stage}
+use Rattle.dkg_life.specs.declared.life.Stage.TheVariants.{Including, Following}
+use Rattle.dkg_life.specs.declared.stop.Stop.{Stop}
+use Rattle.dkg_life.specs.declared.stop.Stop.TheVariants.{Fault as Faulted}
 use Rattle.dkg_inclusion.specs.declared.told.EpochInfoResponse.TheVariants.{Available}
 use Rattle.dkg_inclusion.specs.declared.told.Told.{Told}
 use Rattle.dkg_inclusion.specs.declared.told.Told.TheVariants as told
-use Rattle.dkg_dealing.specs.Ends.{by_stop, ends_in}
+use Rattle.dkg_life.specs.Ends.{by_stop, ends_in}
 use Rattle.dkg_inclusion.specs.Including.{caching, telling}
 use Rattle.dkg_inclusion.specs.InclusionOf.{IsReadyInclusion, IsRunnable, IsSeen, artifact_of, cached_of, job_of, result_of}
-use Rattle.dkg_dealing.specs.LiveOf.{Beside, EndsWith, IsPlaced, live_of}
-use Rattle.dkg_dealing.specs.Made.{Makes, Speaks, Tells}
+use Rattle.dkg_life.specs.LiveOf.{Beside, EndsWith, IsPlaced, live_of}
+use Rattle.dkg_life.specs.Made.{Makes, Speaks, Tells}
 use Rattle.dkg_inclusion.specs.Refusing.{refusal_for}
-use Rattle.dkg_dealing.specs.Rules.{CheckLogOf, DealingOf, FinishOf}
-use Rattle.dkg_dealing.proofs.Burning.{makes_nothing, speaks_makes}
-use Rattle.dkg_dealing.proofs.Chained.{early_makes, early_told, then_makes, then_told}
-use Rattle.dkg_dealing.proofs.Committing.{goes_told, same_made, same_told}
+use Rattle.dkg_life.specs.Rules.{CheckLogOf, DealingOf, FinishOf}
+use Rattle.dkg_life.proofs.Burning.{makes_nothing, speaks_makes}
+use Rattle.dkg_life.proofs.Chained.{early_makes, early_told, then_makes, then_told}
+use Rattle.dkg_life.proofs.Committing.{goes_told, same_made, same_told}
 use Rattle.dkg_inclusion.proofs.Deriving.{artifact_kept, artifact_then, by_cached}
-use Rattle.dkg_dealing.proofs.Said.{speaks_tells}
-use Rattle.dkg_dealing.proofs.Speaking.{gives_speaks, goes_speaks, wants_speaks}
+use Rattle.dkg_life.proofs.Said.{speaks_tells}
+use Rattle.dkg_life.proofs.Speaking.{gives_speaks, goes_speaks, wants_speaks}
 use Rattle.dkg_inclusion.proofs.Telling.{ends_beside, ends_with, seen_told}
 use Rattle.dkg_inclusion.proofs.Within.{NoMore}
 

@@ -26,22 +26,22 @@ use Rattle.dkg_core.specs.Including as including
 use Rattle.dkg_core.specs.Live.{Artifact, Cached, Live, VerifiedLogs}
 use Rattle.dkg_core.specs.Seen.{Seen}
 use Rattle.dkg_core.specs.Setup.{looks}
-use Rattle.dkg_dealing.specs.declared.stop.Stop.{Stop}
-use Rattle.dkg_dealing.specs.declared.stop.Stop.TheVariants.{Fault as Faulted}
-use Rattle.dkg_dealing.specs.Ends.{by_stop, cause_in}
-use Rattle.dkg_dealing.specs.Given.{ReadsPlanless}
+use Rattle.dkg_life.specs.declared.stop.Stop.{Stop}
+use Rattle.dkg_life.specs.declared.stop.Stop.TheVariants.{Fault as Faulted}
+use Rattle.dkg_life.specs.Ends.{by_stop, cause_in}
+use Rattle.dkg_life.specs.Given.{ReadsPlanless}
 use Rattle.dkg_inclusion.specs.Including.{caching, derives_in, mismatch_of, reads_share, stops_by, unprovided}
 use Rattle.dkg_inclusion.specs.InclusionOf.{artifact_of, cached_of, verified_of}
-use Rattle.dkg_dealing.specs.Made.{MakesAt, Tells}
-use Rattle.dkg_dealing.specs.Steps.{IsFaultOrWant}
-use Rattle.dkg_dealing.proofs.Burning.{makes_nothing, speaks_makes}
-use Rattle.dkg_dealing.proofs.Chained.{early_makes, early_told, then_makes, then_told}
+use Rattle.dkg_life.specs.Made.{MakesAt, Tells}
+use Rattle.dkg_life.specs.Steps.{IsFaultOrWant}
+use Rattle.dkg_life.proofs.Burning.{makes_nothing, speaks_makes}
+use Rattle.dkg_life.proofs.Chained.{early_makes, early_told, then_makes, then_told}
 use Rattle.dkg_inclusion.proofs.Caching.{artifact_cached, artifact_derived, fault_speaks}
 use Rattle.dkg_inclusion.proofs.Keeping.{cached_none, cached_some}
-use Rattle.dkg_dealing.proofs.Said.{nothing_held, speaks_tells}
-use Rattle.dkg_dealing.proofs.Setting.{looked_up}
-use Rattle.dkg_dealing.proofs.Speaking.{want_speaks, wants_speaks}
-use Rattle.dkg_dealing.proofs.Shares.{one_at, one_is, still_makes}
+use Rattle.dkg_life.proofs.Said.{nothing_held, speaks_tells}
+use Rattle.dkg_life.proofs.Setting.{looked_up}
+use Rattle.dkg_life.proofs.Speaking.{want_speaks, wants_speaks}
+use Rattle.dkg_life.proofs.Shares.{one_at, one_is, still_makes}
 
 -- THE PROVIDER'S SET
 

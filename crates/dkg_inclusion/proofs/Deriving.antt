@@ -20,7 +20,7 @@ use Rattle.dkg_core.specs.Logs.{canonical}
 use Rattle.dkg_core.specs.Setup.{looks}
 use Rattle.dkg_core.proofs.Same.{logs_again}
 use Rattle.dkg_inclusion.specs.Including.{stops_by, unprovided, reads_share, mismatch_of, derives_in, with_cached_in, artifact_over, artifact_in, verifies_in, derives_now_by, derives_now, derives_by_in, derives_by, derives_final}
-use Rattle.dkg_dealing.proofs.Offered.{bind_again, bind_alike}
+use Rattle.dkg_life.proofs.Offered.{bind_again, bind_alike}
 
 -- STOPS
 

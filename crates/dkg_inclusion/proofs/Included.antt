@@ -11,14 +11,14 @@ use Rattle.dkg_core.specs.Live as core
 use Rattle.dkg_core.specs.Sources.{Tip}
 use Rattle.dkg_inclusion.specs.declared.inclusion.Hand.{Hand}
 use Rattle.dkg_inclusion.specs.declared.inclusion.Inclusion.{Inclusion}
-use Rattle.dkg_dealing.specs.declared.life.Life.{Life}
-use Rattle.dkg_dealing.specs.declared.life.Stage.{Stage}
-use Rattle.dkg_dealing.specs.declared.life.Stage.TheVariants.{Dealing, Including, Following}
+use Rattle.dkg_life.specs.declared.life.Life.{Life}
+use Rattle.dkg_life.specs.declared.life.Stage.{Stage}
+use Rattle.dkg_life.specs.declared.life.Stage.TheVariants.{Dealing, Including, Following}
 use Rattle.dkg_inclusion.specs.InclusionOf.{IsInHand, IsReadyInclusion, IsRunnable, IsSeen, IsSettledInclusion, in_front, tip_of}
-use Rattle.dkg_dealing.specs.LiveOf.{Beside, live_of}
-use Rattle.dkg_dealing.specs.Rules.{CheckLogOf, DealingOf, FinishOf}
+use Rattle.dkg_life.specs.LiveOf.{Beside, live_of}
+use Rattle.dkg_life.specs.Rules.{CheckLogOf, DealingOf, FinishOf}
 use Rattle.dkg_inclusion.specs.Scanned.{IsFed}
-use Rattle.dkg_dealing.proofs.Beside.{emptied}
+use Rattle.dkg_life.proofs.Beside.{emptied}
 
 -- SEEN
 

@@ -17,7 +17,7 @@ use Rattle.dkg_core.specs.Live as core
 use Rattle.dkg_core.specs.Same.{same_logs}
 use Rattle.dkg_core.proofs.Same.{logs_again, one_logs}
 use Rattle.dkg_inclusion.specs.InclusionOf.{artifact_of, cached_of, job_of, result_of, verified_of}
-use Rattle.dkg_dealing.specs.Rules.{FinishOf, OutcomeOf}
+use Rattle.dkg_life.specs.Rules.{FinishOf, OutcomeOf}
 
 -- OF THESE LOGS, OR OF OTHERS
 

@@ -30,18 +30,18 @@ use Rattle.dkg_core.specs.Including as including
 use Rattle.dkg_core.specs.Live as core
 use Rattle.dkg_core.specs.Live.{Live}
 use Rattle.dkg_inclusion.specs.declared.inclusion.Inclusion.{Inclusion}
-use Rattle.dkg_dealing.specs.declared.life.Life.{Life}
-use Rattle.dkg_dealing.specs.declared.life.Stage as declared
-use Rattle.dkg_dealing.specs.declared.life.Stage.TheVariants as stage
-use Rattle.dkg_dealing.specs.declared.stop.Stop.{Stop}
-use Rattle.dkg_dealing.specs.declared.stop.Stop.TheVariants.{Fault as Faulted}
+use Rattle.dkg_life.specs.declared.life.Life.{Life}
+use Rattle.dkg_life.specs.declared.life.Stage as declared
+use Rattle.dkg_life.specs.declared.life.Stage.TheVariants as stage
+use Rattle.dkg_life.specs.declared.stop.Stop.{Stop}
+use Rattle.dkg_life.specs.declared.stop.Stop.TheVariants.{Fault as Faulted}
 use Rattle.dkg_inclusion.specs.declared.told.Told.{Told}
 use Rattle.dkg_inclusion.specs.declared.told.Told.TheVariants as told
-use Rattle.dkg_dealing.specs.Ends.{by_stop}
+use Rattle.dkg_life.specs.Ends.{by_stop}
 use Rattle.dkg_inclusion.specs.InclusionOf.{IsSeen, cached_of, kept_of}
-use Rattle.dkg_dealing.specs.LiveOf.{Beside, EndsWith, live_of, no_fence, nothing_beside, stage_of}
-use Rattle.dkg_dealing.specs.Made.{Speaks}
-use Rattle.dkg_dealing.proofs.Speaking.{says_speaks, wants_speaks}
+use Rattle.dkg_life.specs.LiveOf.{Beside, EndsWith, live_of, no_fence, nothing_beside, stage_of}
+use Rattle.dkg_life.specs.Made.{Speaks}
+use Rattle.dkg_life.proofs.Speaking.{says_speaks, wants_speaks}
 
 -- A MAP WITH ONE KEY MORE
 

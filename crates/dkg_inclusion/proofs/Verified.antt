@@ -28,8 +28,8 @@ use Rattle.dkg_core.specs.Setup as setup
 use Rattle.dkg_core.specs.Same.{same_logs, same_round}
 use Rattle.dkg_core.proofs.Same.{logs_again, one_logs, one_round, round_again}
 use Rattle.dkg_inclusion.specs.InclusionOf.{IsRunnable, dealings_of, job_of, result_of, verified_of}
-use Rattle.dkg_dealing.specs.LiveOf.{records_of}
-use Rattle.dkg_dealing.specs.Rules.{BearsAckOf, DealingOf, FinishOf, OutcomeOf}
+use Rattle.dkg_life.specs.LiveOf.{records_of}
+use Rattle.dkg_life.specs.Rules.{BearsAckOf, DealingOf, FinishOf, OutcomeOf}
 use Rattle.dkg_inclusion.specs.Refusing.{refusal_for}
 
 -- TESTS

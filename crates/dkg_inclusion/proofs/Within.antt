@@ -2,7 +2,7 @@
 use Rattle.std.proofs.Common.{◌≡◌, ℕ, List, [], ◌++◌, refl, ◌∙◌, ap}
 use Rattle.dkg_types.specs.declared.scheme.SchemeInfo.{SchemeInfo}
 use Rattle.dkg_core.specs.Live.{Inclusion, Orchestrator}
-use Rattle.dkg_dealing.specs.LiveOf.{Beside, EndsWith}
+use Rattle.dkg_life.specs.LiveOf.{Beside, EndsWith}
 
 abbrev pub NoMore : List (ℕ × SchemeInfo) → Type 0
 NoMore more = more ≡ []

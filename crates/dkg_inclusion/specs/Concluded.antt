@@ -13,8 +13,8 @@ use Rattle.dkg_core.specs.Including as including
 use Rattle.dkg_core.specs.Live as core
 use Rattle.dkg_core.specs.Live.{Live}
 use Rattle.dkg_inclusion.specs.Including.{artifact_in}
-use Rattle.dkg_dealing.specs.Rules.{BearsAckOf, DealingOf, FinishOf, OutcomeOf}
-use Rattle.dkg_dealing.specs.declared.life.Life.{Life}
+use Rattle.dkg_life.specs.Rules.{BearsAckOf, DealingOf, FinishOf, OutcomeOf}
+use Rattle.dkg_life.specs.declared.life.Life.{Life}
 
 -- the recorded logs of a life's epoch that blocks at or below its tip carry
 abbrev pub canonical_in : {Dir : Type 0} → Life Dir → LogMap

@@ -32,10 +32,10 @@ use Rattle.dkg_core.specs.Dealing.{with_round}
 use Rattle.dkg_core.specs.Setup.{looks}
 use Rattle.dkg_inclusion.specs.declared.inclusion.Hand.{Hand}
 use Rattle.dkg_inclusion.specs.declared.inclusion.Inclusion.{Inclusion}
-use Rattle.dkg_dealing.specs.declared.life.Life.{Life}
-use Rattle.dkg_dealing.specs.declared.life.Stage.TheVariants as stage
+use Rattle.dkg_life.specs.declared.life.Life.{Life}
+use Rattle.dkg_life.specs.declared.life.Stage.TheVariants as stage
 use Rattle.dkg_inclusion.specs.InclusionOf.{cached_of}
-use Rattle.dkg_dealing.specs.LiveOf.{awaited_of}
+use Rattle.dkg_life.specs.LiveOf.{awaited_of}
 
 -- SCANS
 

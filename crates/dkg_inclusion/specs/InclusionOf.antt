@@ -17,13 +17,13 @@ use Rattle.dkg_core.specs.Live as core
 use Rattle.dkg_core.specs.Sources as placed
 use Rattle.dkg_inclusion.specs.declared.inclusion.Hand.{Hand}
 use Rattle.dkg_inclusion.specs.declared.inclusion.Inclusion.{Inclusion}
-use Rattle.dkg_dealing.specs.declared.life.Life.{Life}
-use Rattle.dkg_dealing.specs.declared.life.Stage.TheVariants as stage
+use Rattle.dkg_life.specs.declared.life.Life.{Life}
+use Rattle.dkg_life.specs.declared.life.Stage.TheVariants as stage
 use Rattle.dkg_inclusion.specs.declared.told.EpochInfoResponse.TheVariants as response
 use Rattle.dkg_inclusion.specs.declared.told.Told.{Told}
 use Rattle.dkg_inclusion.specs.declared.told.Told.TheVariants as told
-use Rattle.dkg_dealing.specs.LiveOf.{awaited_of}
-use Rattle.dkg_dealing.specs.Rules.{CheckLogOf, DealingOf, FinishOf}
+use Rattle.dkg_life.specs.LiveOf.{awaited_of}
+use Rattle.dkg_life.specs.Rules.{CheckLogOf, DealingOf, FinishOf}
 use Rattle.dkg_inclusion.specs.Scanned.{IsFed}
 
 -- WHAT REQUESTS WERE TOLD

@@ -2,7 +2,7 @@
 use Rattle.std.specs.Prelude.{ℕ, ◌≡◌, Bool, IsTrue, List}
 use Rattle.dkg_secrets.specs.Secrets.{Secrets}
 use Rattle.dkg_store.specs.declared.devices.Devices.{Devices}
-use Rattle.dkg_dealing.specs.Rules.{SameProvided}
+use Rattle.dkg_life.specs.Rules.{SameProvided}
 
 -- What it was lent of a life is the same, and so is what lies on the disk and what the secret store holds. A provider that tells says what it said.
 pub record OnlyLooks {L D X Dir : Type 0} (was now : L) (holds : X → Secrets) (old new : Devices D X) (tells : Bool) (participants participants_now : ℕ → List ℕ)

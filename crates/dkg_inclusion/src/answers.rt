@@ -8,9 +8,9 @@ ghost use Rattle.dkg_types.specs.declared.fault.Fault.TheVariants.{NoMemory as O
 ghost use Rattle.dkg_core.specs.Fixed.{Fixed};
 ghost use Rattle.dkg_core.specs.Including as including;
 ghost use Rattle.dkg_core.specs.Live.{GaveInfo, GaveNone, Live, with_told};
-ghost use Rattle.dkg_dealing.specs.Ends.{ends_in};
-ghost use Rattle.dkg_dealing.specs.Made.{Speaks};
-ghost use Rattle.dkg_dealing.specs.declared.stop.Stop.TheVariants.{Fault as Faulted};
+ghost use Rattle.dkg_life.specs.Ends.{ends_in};
+ghost use Rattle.dkg_life.specs.Made.{Speaks};
+ghost use Rattle.dkg_life.specs.declared.stop.Stop.TheVariants.{Fault as Faulted};
 ghost use Rattle.dkg_inclusion.specs.InclusionOf.{artifact_of};
 ghost use Rattle.dkg_inclusion.specs.declared.told.EpochInfoResponse.TheVariants.{Available, Unavailable};
 ghost use Rattle.dkg_inclusion.specs.declared.told.Told.TheVariants.{Info as ToldInfo, Log as ToldLog};
@@ -18,7 +18,7 @@ ghost use Rattle.dkg_inclusion.specs.declared.told.Told.TheVariants.{Info as Tol
 use crate::told::{EpochInfoResponse, Told};
 use dkg_artifact::Artifact;
 use dkg_ceremony::encode;
-use dkg_dealing::Stop;
+use dkg_life::Stop;
 use dkg_secrets::NumberMap;
 use dkg_types::{AnswerLine, Directory, Entry, EpochInfo, Payload, Transcript, Why};
 use dkg_values::{Blob, Mem, Shared, Value};

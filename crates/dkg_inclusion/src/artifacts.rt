@@ -11,20 +11,20 @@ ghost use Rattle.dkg_core.specs.Courses.{Goes};
 ghost use Rattle.dkg_core.specs.Fixed.{Fixed};
 ghost use Rattle.dkg_core.specs.Including as including;
 ghost use Rattle.dkg_core.specs.Live.{Live};
-ghost use Rattle.dkg_dealing.specs.Ends.{IsCaused, StopsOver, ends, ends_in};
-ghost use Rattle.dkg_dealing.specs.Given.{IsOf, ReadsPlanless};
-ghost use Rattle.dkg_dealing.specs.Made.{Makes, Tells};
-ghost use Rattle.dkg_dealing.specs.Moved.{Moved};
-ghost use Rattle.dkg_dealing.specs.Rules.{IncludesBy, SameProvided};
-ghost use Rattle.dkg_dealing.specs.Steps.{IsFaultOrWant};
-ghost use Rattle.dkg_dealing.specs.declared.stop.Stop.TheVariants.{Fault as Faulted};
+ghost use Rattle.dkg_life.specs.Ends.{IsCaused, StopsOver, ends, ends_in};
+ghost use Rattle.dkg_life.specs.Given.{IsOf, ReadsPlanless};
+ghost use Rattle.dkg_life.specs.Made.{Makes, Tells};
+ghost use Rattle.dkg_life.specs.Moved.{Moved};
+ghost use Rattle.dkg_life.specs.Rules.{IncludesBy, SameProvided};
+ghost use Rattle.dkg_life.specs.Steps.{IsFaultOrWant};
+ghost use Rattle.dkg_life.specs.declared.stop.Stop.TheVariants.{Fault as Faulted};
 ghost use Rattle.dkg_inclusion.specs.Derived.{follows_with};
 ghost use Rattle.dkg_inclusion.specs.Including.{EndsCaching, derives_in, ended_by, reads_share, unprovided};
 ghost use Rattle.dkg_inclusion.specs.InclusionOf.{artifact_of, cached_of, result_of, verified_of};
 
 use dkg_artifact::{Artifact, ArtifactCache, Verified, VerifiedLogs};
 use dkg_ceremony::{Ceremony, Output, Share};
-use dkg_dealing::{Stop, Terms};
+use dkg_life::{Stop, Terms};
 use dkg_journal::Disk;
 use dkg_store::{Devices, SecretStore, Store};
 use dkg_types::{

@@ -1,6 +1,6 @@
 //! What a reshare actor does for final-block requests from an epoch's midpoint on: it reads their ancestry, verifies logs, and answers them.
 //!
-//! Each call is a part of a course of `dkg_core`, over a life of `dkg_dealing` and what inclusion has in memory beside it. The rules are those of
+//! Each call is a part of a course of `dkg_core`, over a life of `dkg_life` and what inclusion has in memory beside it. The rules are those of
 //! the upstream's `reshare::actor::inclusion`.
 #![tactic(auto)]
 

@@ -20,7 +20,7 @@ use Rattle.dkg_script.specs.Epochs.{IsAnchorIn}
 use Rattle.dkg_script.specs.Inclusion.{IsFormOfInclusion}
 use Rattle.dkg_store.specs.Acts.{Held}
 use Rattle.dkg_core.specs.Seen.{Seen}
-use Rattle.dkg_dealing.specs.Configured.{config_fault}
+use Rattle.dkg_life.specs.Configured.{config_fault}
 use Rattle.dkg_lives.specs.Causes.{HasCause}
 use Rattle.dkg_lives.specs.Epochs.{IsAnchorAbove, IsChecked, IsLifeInForm, refused_config}
 use Rattle.dkg_lives.specs.Given.{IsUnplanned, lived}

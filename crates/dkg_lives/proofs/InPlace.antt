@@ -12,8 +12,8 @@ use Rattle.dkg_script.specs.Ends.{EndsWell, is_fault}
 use Rattle.dkg_script.specs.Order.{IsInOrder, InLife, Begins, is_opened}
 use Rattle.dkg_script.specs.Progress.{Progress, read, is_last_step}
 use Rattle.dkg_script.specs.Setting.{Setting, life_at}
-use Rattle.dkg_dealing.specs.declared.stop.Stop.{Stop}
-use Rattle.dkg_dealing.specs.declared.stop.Stop.TheVariants.{Cut as AtCut, Failed, Fault as Faulted}
+use Rattle.dkg_life.specs.declared.stop.Stop.{Stop}
+use Rattle.dkg_life.specs.declared.stop.Stop.TheVariants.{Cut as AtCut, Failed, Fault as Faulted}
 use Rattle.dkg_core.specs.Laws.{IsQuiet}
 use Rattle.dkg_lives.proofs.Standing.{Each, Moves, AddsQuiet, AddsOpening, IsBetween, IsBefore, IsWithin, IsAtCut, IsStopped, IsBehind, IsCutBefore, IsCutWithin}
 use Rattle.dkg_lives.proofs.Places.{moves_one}

@@ -27,7 +27,7 @@ use Rattle.dkg_core.specs.Live.{Live, NodeStop}
 use Rattle.dkg_core.specs.Node.{node_opening}
 use Rattle.dkg_core.specs.Seen.{Seen}
 use Rattle.dkg_core.specs.Transcripts.{IfWentTo}
-use Rattle.dkg_dealing.specs.declared.stop.Stop.TheVariants.{Cut}
+use Rattle.dkg_life.specs.declared.stop.Stop.TheVariants.{Cut}
 use Rattle.dkg_lives.specs.Epochs.{IsLifeInForm}
 use Rattle.dkg_lives.specs.Given.{Lived, at_step, lived, step_of}
 use Rattle.dkg_lives.specs.Ways.{StaysHeld, by_worlds}

@@ -7,9 +7,9 @@ use Rattle.std.proofs.lemmas.Option.{slice_get-get_or}
 use Rattle.dkg_journal.specs.Disk.{Rose}
 use Rattle.dkg_types.specs.declared.fault.Fault.TheVariants as fault
 use Rattle.dkg_store.specs.declared.devices.Devices.{Devices}
-use Rattle.dkg_dealing.specs.Ends.{IsCausedBy}
-use Rattle.dkg_dealing.specs.declared.stop.Stop.{Stop}
-use Rattle.dkg_dealing.specs.declared.stop.Stop.TheVariants.{Cut, Failed, Fault as FaultOf}
+use Rattle.dkg_life.specs.Ends.{IsCausedBy}
+use Rattle.dkg_life.specs.declared.stop.Stop.{Stop}
+use Rattle.dkg_life.specs.declared.stop.Stop.TheVariants.{Cut, Failed, Fault as FaultOf}
 use Rattle.dkg_lives.specs.Causes.{StopHasCause}
 use Rattle.dkg_lives.specs.Moving.{StepBlames}
 

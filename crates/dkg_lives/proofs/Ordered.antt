@@ -30,8 +30,8 @@ use Rattle.dkg_core.specs.Node.{node_opening, node_step}
 use Rattle.dkg_core.specs.Said.{Said}
 use Rattle.dkg_core.specs.Seen.{Seen}
 use Rattle.dkg_core.specs.Transcripts.{BeginsOpened}
-use Rattle.dkg_dealing.specs.declared.stop.Stop.{Stop}
-use Rattle.dkg_dealing.specs.declared.stop.Stop.TheVariants.{Cut, Failed, Fault as FaultOf}
+use Rattle.dkg_life.specs.declared.stop.Stop.{Stop}
+use Rattle.dkg_life.specs.declared.stop.Stop.TheVariants.{Cut, Failed, Fault as FaultOf}
 use Rattle.dkg_lives.specs.Ended.{by_node_stop}
 use Rattle.dkg_lives.specs.Given.{Lived, at_step, blocks_in, lived, step_of}
 use Rattle.dkg_lives.specs.Lives.{LivesSo, RunsAllSo, RunsSo, Steps, TakesAll, TellsEnd, fuse_for, fuse_within, never}

@@ -4,7 +4,7 @@ use Rattle.dkg_store.specs.Acts.{Held}
 use Rattle.dkg_core.specs.Meant.{ReadsRecords}
 use Rattle.dkg_core.specs.Seen.{Seen}
 use Rattle.dkg_core.specs.Storing.{ReadsSecrets}
-use Rattle.dkg_dealing.specs.Planless.{seen_planless}
+use Rattle.dkg_life.specs.Planless.{seen_planless}
 
 pub planless_secrets : (seen : Held → Seen) → seen ≡ seen_planless → ReadsSecrets seen
 planless_secrets seen is = subst ReadsSecrets (sym is) (record { shares = λ h. refl; seeds = λ h. refl })

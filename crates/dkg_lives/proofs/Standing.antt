@@ -14,8 +14,8 @@ use Rattle.dkg_script.specs.Ends.{EndsWell}
 use Rattle.dkg_script.specs.Order.{IsInOrder, is_opened}
 use Rattle.dkg_script.specs.Progress.{Progress, read}
 use Rattle.dkg_script.specs.Setting.{Setting, life_at}
-use Rattle.dkg_dealing.specs.declared.stop.Stop.{Stop}
-use Rattle.dkg_dealing.specs.declared.stop.Stop.TheVariants.{Cut as AtCut, Failed, Fault as Faulted}
+use Rattle.dkg_life.specs.declared.stop.Stop.{Stop}
+use Rattle.dkg_life.specs.declared.stop.Stop.TheVariants.{Cut as AtCut, Failed, Fault as Faulted}
 
 -- ENTRIES WITHIN A STEP
 

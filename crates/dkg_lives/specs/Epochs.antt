@@ -8,8 +8,8 @@ use Rattle.dkg_text.specs.declared.script.Anchor.{Anchor}
 use Rattle.dkg_text.specs.declared.script.Anchor.TheVariants.{Processed, Absent}
 use Rattle.dkg_text.specs.declared.script.BlockLine.{BlockLine}
 use Rattle.dkg_text.specs.declared.script.Script.{Script}
-use Rattle.dkg_dealing.specs.Configured.{config_fault}
-use Rattle.dkg_dealing.specs.Planless.{seen_planless}
+use Rattle.dkg_life.specs.Configured.{config_fault}
+use Rattle.dkg_life.specs.Planless.{seen_planless}
 use Rattle.dkg_script.specs.Epochs.{alone}
 use Rattle.dkg_script.specs.Inclusion.{IsFormOfInclusion}
 use Rattle.dkg_script.specs.Position.{awaited_epoch, awaited_height, follows}

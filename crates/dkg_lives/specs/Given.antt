@@ -37,7 +37,7 @@ use Rattle.dkg_core.specs.Node.{node_step}
 use Rattle.dkg_core.specs.Seen.{Seen}
 use Rattle.dkg_core.specs.Sources.{Anchor, AtBlock, Absent, Source, source_of}
 use Rattle.dkg_core.specs.Endings.{first_epoch}
-use Rattle.dkg_dealing.specs.Planless.{seen_planless}
+use Rattle.dkg_life.specs.Planless.{seen_planless}
 
 -- BLOCKS
 

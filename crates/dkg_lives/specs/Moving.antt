@@ -10,8 +10,8 @@ use Rattle.dkg_store.specs.Acts.{World, at, moment}
 use Rattle.dkg_secrets.specs.Secrets.{Secrets}
 use Rattle.dkg_store.specs.declared.devices.Devices.{Devices}
 use Rattle.dkg_secrets.specs.declared.secrets.SecretOp.{SecretOp}
-use Rattle.dkg_dealing.specs.Ends.{IsCausedBy}
-use Rattle.dkg_dealing.specs.declared.stop.Stop.{Stop}
+use Rattle.dkg_life.specs.Ends.{IsCausedBy}
+use Rattle.dkg_life.specs.declared.stop.Stop.{Stop}
 use Rattle.dkg_lives.specs.Causes.{HasCause, StopHasCause}
 use Rattle.dkg_lives.specs.Stopped.{Stopped}
 

@@ -5,8 +5,8 @@ use Rattle.dkg_journal.specs.DeviceCall.{DeviceCall, Makes, CutIn, Crashes}
 use Rattle.dkg_journal.specs.declared.disk.Op.{Op}
 use Rattle.dkg_secrets.specs.declared.secrets.SecretOp.{SecretOp}
 use Rattle.dkg_text.specs.declared.script.Life.{Life}
-use Rattle.dkg_dealing.specs.declared.stop.Stop.{Stop}
-use Rattle.dkg_dealing.specs.declared.stop.Stop.TheVariants.{Cut}
+use Rattle.dkg_life.specs.declared.stop.Stop.{Stop}
+use Rattle.dkg_life.specs.declared.stop.Stop.TheVariants.{Cut}
 
 abbrev pub stops_in : {O : Type 0} → List (DeviceCall O) → List ℕ
 stops_in [] = []

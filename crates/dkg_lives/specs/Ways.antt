@@ -10,9 +10,9 @@ use Rattle.dkg_core.specs.Courses.{Course, EndsSo, on_devices}
 use Rattle.dkg_core.specs.Live.{Live, NodeStop}
 use Rattle.dkg_core.specs.Said.{Said}
 use Rattle.dkg_core.specs.Seen.{Seen}
-use Rattle.dkg_dealing.specs.Made.{Burns}
-use Rattle.dkg_dealing.specs.Planless.{seen_planless}
-use Rattle.dkg_dealing.specs.declared.stop.Stop.{Stop}
+use Rattle.dkg_life.specs.Made.{Burns}
+use Rattle.dkg_life.specs.Planless.{seen_planless}
+use Rattle.dkg_life.specs.declared.stop.Stop.{Stop}
 use Rattle.dkg_lives.specs.Ended.{by_node_stop}
 
 -- A WAY: how a course may have gone with a fuse, how a line is added, how both devices stop with a pick, what the reads of a life may give, which files a life

@@ -50,10 +50,10 @@ use Rattle.dkg_laws.proofs.Openings.{node_openings_lead}
 use Rattle.dkg_laws.proofs.NodeThrough.{node_openings_through, node_steps_come_through}
 use Rattle.dkg_core.proofs.Setups.{comes_anywhere}
 use Rattle.dkg_core.proofs.Splitting.{came_to}
-use Rattle.dkg_dealing.specs.declared.stop.Stop.{Stop}
-use Rattle.dkg_dealing.specs.declared.stop.Stop.TheVariants.{Cut as AtCut, Failed, Fault as FaultOf}
+use Rattle.dkg_life.specs.declared.stop.Stop.{Stop}
+use Rattle.dkg_life.specs.declared.stop.Stop.TheVariants.{Cut as AtCut, Failed, Fault as FaultOf}
 use Rattle.dkg_core.specs.Splitting.{named}
-use Rattle.dkg_dealing.specs.Ends.{by_fault}
+use Rattle.dkg_life.specs.Ends.{by_fault}
 use Rattle.dkg_promises.specs.Answers.{AnswersSo, IsAnswer, IsAnsweredSo}
 use Rattle.dkg_lives.specs.Blamed.{BlamesSo, IsAskedOwn, IsBlamedSo, IsBlockCause, IsBlockOwn, IsCause, IsClear, IsFromOutside, IsOwn, IsProviderCause, IsReadingEvent, IsWhy, IsWhyNow, MayRead, OnBlock, tip_in, tip_over}
 use Rattle.dkg_lives.specs.Causes.{IfFault}

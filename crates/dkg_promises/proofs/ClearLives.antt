@@ -54,7 +54,7 @@ use Rattle.dkg_core.specs.Through.{IsAppliedStopThrough, IsBlockStopThrough, IsC
 use Rattle.dkg_laws.proofs.NodeThrough.{node_steps_lead_through_over}
 use Rattle.dkg_laws.proofs.Openings.{node_openings_lead_over}
 use Rattle.dkg_core.proofs.StepDealing.{given_same}
-use Rattle.dkg_dealing.specs.declared.stop.Stop.{Stop}
+use Rattle.dkg_life.specs.declared.stop.Stop.{Stop}
 use Rattle.dkg_lives.specs.Blamed.{IsAskedOwn, IsBlockCause, IsBlockOwn, IsCause, IsFromOutside, IsMayCause, IsOwn, IsOwnCause, IsWhy, OnBlock, OnCarried, first_epoch_in, next_epoch, opening_block}
 use Rattle.dkg_lives.specs.Epochs.{IsLifeInForm, any_shares}
 use Rattle.dkg_lives.specs.Given.{AreBytes, Lived, at_step, blocks_in, lived, step_of}

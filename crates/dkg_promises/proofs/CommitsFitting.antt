@@ -47,7 +47,7 @@ use Rattle.dkg_core.specs.Through.{IsCarriedOn, IsShareTaken, IsStopThrough, hel
 use Rattle.dkg_laws.proofs.Idle.{mails_are_idle}
 use Rattle.dkg_laws.proofs.NodeThrough.{node_openings_through}
 use Rattle.dkg_laws.proofs.Openings.{node_openings_lead_over}
-use Rattle.dkg_dealing.specs.declared.stop.Stop.{Stop}
+use Rattle.dkg_life.specs.declared.stop.Stop.{Stop}
 use Rattle.dkg_lives.specs.Epochs.{IsLifeInForm}
 use Rattle.dkg_lives.specs.Given.{Lived, at_step, blocks_in, lived, step_of}
 use Rattle.dkg_lives.specs.Lives.{LivesSo, RunsOver, RunsSo, never}

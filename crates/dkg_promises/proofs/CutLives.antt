@@ -27,8 +27,8 @@ use Rattle.dkg_core.specs.Live.{Live, NodeStop}
 use Rattle.dkg_core.specs.Node.{node_opening, node_step}
 use Rattle.dkg_core.specs.Seen.{Seen}
 use Rattle.dkg_core.specs.Sources.{source_of}
-use Rattle.dkg_dealing.specs.declared.stop.Stop.{Stop}
-use Rattle.dkg_dealing.specs.declared.stop.Stop.TheVariants.{Cut, Failed, Fault as FaultOf}
+use Rattle.dkg_life.specs.declared.stop.Stop.{Stop}
+use Rattle.dkg_life.specs.declared.stop.Stop.TheVariants.{Cut, Failed, Fault as FaultOf}
 use Rattle.dkg_lives.specs.Ended.{by_node_stop}
 use Rattle.dkg_lives.specs.Given.{Lived, anchor_in, at_step, blocks_in, delivered_by, event_in, lived, numbered, step_of, unsealed}
 use Rattle.dkg_lives.specs.Lives.{AnyFiles, EndsLife, LivesFrom, LivesSo, RunsAllSo, RunsOver, RunsSo, Steps, TakesAll, TellsEnd, fuse_for, never}

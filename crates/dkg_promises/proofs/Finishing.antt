@@ -18,7 +18,7 @@ use Rattle.dkg_store.specs.Acts.{Held, Stands, World, at, moment}
 use Rattle.dkg_store.specs.Corrupt.{AreFit}
 use Rattle.dkg_core.specs.Heard.{recovered_in}
 use Rattle.dkg_core.specs.Seen.{Seen}
-use Rattle.dkg_dealing.specs.declared.stop.Stop.{Stop}
+use Rattle.dkg_life.specs.declared.stop.Stop.{Stop}
 use Rattle.dkg_lives.specs.Blamed.{IsFromOutside}
 use Rattle.dkg_promises.specs.Complete.{IsValidRun}
 use Rattle.dkg_script.specs.Ends.{EndsRun}

@@ -37,7 +37,7 @@ use Rattle.dkg_laws.proofs.BlocksKept.{blocks_keep}
 use Rattle.dkg_laws.proofs.NodeKept.{node_openings_agree, node_peers_are_kept, node_steps_agree}
 use Rattle.dkg_laws.proofs.Openings.{node_openings_lead_over}
 use Rattle.dkg_laws.proofs.NodeThrough.{node_steps_lead_through_over}
-use Rattle.dkg_dealing.specs.declared.stop.Stop.{Stop}
+use Rattle.dkg_life.specs.declared.stop.Stop.{Stop}
 use Rattle.dkg_lives.specs.Epochs.{IsAt, IsLifeInForm, any_shares}
 use Rattle.dkg_lives.specs.Given.{AreBytes, Lived, at_step, lived, step_of}
 use Rattle.dkg_lives.specs.Lives.{LivesSo, RunsOver, RunsSo, never}

@@ -50,7 +50,7 @@ use Rattle.dkg_core.specs.Agreeing.{BringsRecords}
 use Rattle.dkg_core.specs.Heard.{recovered_in}
 use Rattle.dkg_core.specs.Live.{Cancel, EpochInfoOf, Feed, Finalized, Message, NextLog, Over, Peer, ReleaseLog, Sent, Work}
 use Rattle.dkg_core.specs.Seen.{Seen}
-use Rattle.dkg_dealing.specs.Planless.{seen_planless}
+use Rattle.dkg_life.specs.Planless.{seen_planless}
 use Rattle.dkg_lives.specs.Epochs.{IsAnchorAbove, IsLifeInForm}
 use Rattle.dkg_lives.specs.Given.{AreBytes, Lived, at_step, lived}
 use Rattle.dkg_lives.specs.Lives.{RunsOver, never}

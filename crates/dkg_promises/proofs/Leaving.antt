@@ -44,8 +44,8 @@ use Rattle.dkg_laws.proofs.NodeThrough.{node_steps_come_through}
 use Rattle.dkg_laws.proofs.Openings.{node_openings_lead}
 use Rattle.dkg_core.proofs.Setups.{comes_anywhere}
 use Rattle.dkg_core.proofs.Splitting.{came_to}
-use Rattle.dkg_dealing.specs.declared.stop.Stop.{Stop}
-use Rattle.dkg_dealing.specs.declared.stop.Stop.TheVariants.{Cut as AtCut, Failed, Fault as FaultOf}
+use Rattle.dkg_life.specs.declared.stop.Stop.{Stop}
+use Rattle.dkg_life.specs.declared.stop.Stop.TheVariants.{Cut as AtCut, Failed, Fault as FaultOf}
 use Rattle.dkg_lives.specs.Asks.{IsUncancelled, bounds_in, scan_tip}
 use Rattle.dkg_lives.specs.Blamed.{per_epoch}
 use Rattle.dkg_lives.specs.Ended.{by_node_stop}

@@ -42,8 +42,8 @@ use Rattle.dkg_laws.proofs.Openings.{node_openings_lead_over}
 use Rattle.dkg_laws.proofs.Said.{runs_say}
 use Rattle.dkg_laws.proofs.NodeThrough.{node_steps_lead_through_over}
 use Rattle.dkg_core.proofs.Storing.{node_steps_keep_secrets}
-use Rattle.dkg_dealing.specs.declared.stop.Stop.{Stop}
-use Rattle.dkg_dealing.specs.declared.stop.Stop.TheVariants.{Cut, Failed, Fault as FaultOf}
+use Rattle.dkg_life.specs.declared.stop.Stop.{Stop}
+use Rattle.dkg_life.specs.declared.stop.Stop.TheVariants.{Cut, Failed, Fault as FaultOf}
 use Rattle.dkg_lives.specs.Ended.{by_node_stop}
 use Rattle.dkg_lives.specs.Epochs.{IsAt, IsLifeInForm, any_shares, awaited_by, epoch_by}
 use Rattle.dkg_lives.specs.Given.{Lived, at_step, lived, step_of}

@@ -19,8 +19,8 @@ use Rattle.dkg_script.specs.Setting.{Setting, CutAt, blocks_per_epoch, found, li
 use Rattle.dkg_store.specs.Acts.{Held, World, says}
 use Rattle.dkg_core.specs.Seen.{Seen}
 use Rattle.dkg_core.specs.Storing.{ReadsSecrets}
-use Rattle.dkg_dealing.specs.declared.stop.Stop.{Stop}
-use Rattle.dkg_dealing.specs.declared.stop.Stop.TheVariants.{Cut, Failed, Fault as FaultOf}
+use Rattle.dkg_life.specs.declared.stop.Stop.{Stop}
+use Rattle.dkg_life.specs.declared.stop.Stop.TheVariants.{Cut, Failed, Fault as FaultOf}
 use Rattle.dkg_lives.specs.Epochs.{IsLifeInForm, epoch_by}
 use Rattle.dkg_lives.specs.Given.{Lived, lived}
 use Rattle.dkg_lives.specs.Lives.{AnyFiles, EndsLife, LivesFrom, LivesSo, RunsAllSo, RunsSo, TellsEnd}

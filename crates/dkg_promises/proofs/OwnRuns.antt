@@ -41,7 +41,7 @@ use Rattle.dkg_core.proofs.Behind.{steps_run_behind}
 use Rattle.dkg_laws.proofs.NodeKept.{node_peers_are_kept}
 use Rattle.dkg_core.proofs.Storing.{node_steps_keep_secrets}
 use Rattle.dkg_core.proofs.Walking as walk
-use Rattle.dkg_dealing.specs.declared.stop.Stop.{Stop}
+use Rattle.dkg_life.specs.declared.stop.Stop.{Stop}
 use Rattle.dkg_lives.specs.Epochs.{IsLifeInForm}
 use Rattle.dkg_lives.specs.Given.{Lived, at_step, lived, step_of}
 use Rattle.dkg_promises.specs.GivesBack.{PassesAll}

@@ -17,19 +17,19 @@ use Rattle.dkg_core.specs.Courses.{Course, Goes, Say, on_devices}
 use Rattle.dkg_core.specs.Including as including
 use Rattle.dkg_core.specs.Live as core
 use Rattle.dkg_core.specs.Live.{Live, GaveNone, with_told}
-use Rattle.dkg_dealing.specs.Ends.{by_stop}
+use Rattle.dkg_life.specs.Ends.{by_stop}
 use Rattle.dkg_inclusion.specs.InclusionOf.{IsSeen, in_front, request_of}
-use Rattle.dkg_dealing.specs.LiveOf.{Beside, EndsWith, live_of}
-use Rattle.dkg_dealing.specs.Made.{Speaks}
+use Rattle.dkg_life.specs.LiveOf.{Beside, EndsWith, live_of}
+use Rattle.dkg_life.specs.Made.{Speaks}
 use Rattle.dkg_inclusion.specs.declared.inclusion.Hand.{Hand}
 use Rattle.dkg_inclusion.specs.declared.inclusion.Inclusion.{Inclusion}
-use Rattle.dkg_dealing.specs.declared.life.Life.{Life}
-use Rattle.dkg_dealing.specs.declared.stop.Stop.{Stop}
-use Rattle.dkg_dealing.specs.declared.stop.Stop.TheVariants.{Fault as Faulted}
+use Rattle.dkg_life.specs.declared.life.Life.{Life}
+use Rattle.dkg_life.specs.declared.stop.Stop.{Stop}
+use Rattle.dkg_life.specs.declared.stop.Stop.TheVariants.{Fault as Faulted}
 use Rattle.dkg_inclusion.specs.declared.told.EpochInfoResponse.TheVariants.{Unavailable}
 use Rattle.dkg_inclusion.specs.declared.told.Told.TheVariants.{Info}
-use Rattle.dkg_dealing.proofs.Said.{nothing_held}
-use Rattle.dkg_dealing.proofs.Speaking.{goes_speaks}
+use Rattle.dkg_life.proofs.Said.{nothing_held}
+use Rattle.dkg_life.proofs.Speaking.{goes_speaks}
 use Rattle.dkg_inclusion.proofs.Telling.{ends_with, seen_told}
 
 -- A LINE, and what stands behind it

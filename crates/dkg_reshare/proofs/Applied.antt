@@ -18,11 +18,11 @@ use Rattle.dkg_core.specs.Live as core
 use Rattle.dkg_core.specs.Live.{Artifact, Live, is_last_height, with_tip}
 use Rattle.dkg_core.specs.Sources.{Tip}
 use Rattle.dkg_inclusion.specs.declared.inclusion.Inclusion.{Inclusion}
-use Rattle.dkg_dealing.specs.declared.life.Life.{Life}
+use Rattle.dkg_life.specs.declared.life.Life.{Life}
 use Rattle.dkg_inclusion.specs.Including.{applies_included}
 use Rattle.dkg_inclusion.specs.InclusionOf.{IsSeen}
-use Rattle.dkg_dealing.specs.LiveOf.{Beside, live_of}
-use Rattle.dkg_dealing.specs.Steps.{AreBoundsAt, carried_in}
+use Rattle.dkg_life.specs.LiveOf.{Beside, live_of}
+use Rattle.dkg_life.specs.Steps.{AreBoundsAt, carried_in}
 use Rattle.dkg_reshare.proofs.Applying.{carried_ill, carried_well, last_is, tip_at, tipped}
 use Rattle.dkg_inclusion.proofs.Included.{seen_as, seen_served}
 

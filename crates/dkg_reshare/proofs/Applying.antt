@@ -26,20 +26,20 @@ use Rattle.dkg_core.specs.Seen.{Seen}
 use Rattle.dkg_core.specs.Setup as setup
 use Rattle.dkg_core.specs.Setup.{begins_inclusion}
 use Rattle.dkg_core.specs.Sources.{Tip}
-use Rattle.dkg_dealing.specs.declared.config.Terms.{Terms}
-use Rattle.dkg_dealing.specs.declared.life.Life.{Life}
-use Rattle.dkg_dealing.specs.declared.stop.Stop.{Stop}
-use Rattle.dkg_dealing.specs.declared.stop.Stop.TheVariants.{Fault as Faulted}
-use Rattle.dkg_dealing.specs.Ends.{IsCaused, by_stop, cause_in}
-use Rattle.dkg_dealing.specs.Given.{CanRead, GivesBoth, IsIn, ReadsPlanless}
-use Rattle.dkg_dealing.specs.LiveOf.{Beside, live_of}
-use Rattle.dkg_dealing.specs.Made.{MakesAt, Speaks, Tells}
-use Rattle.dkg_dealing.specs.Moved.{IsFirm}
-use Rattle.dkg_dealing.specs.Steps.{AreBoundsAt, carried_in, reads_secrets}
+use Rattle.dkg_life.specs.declared.config.Terms.{Terms}
+use Rattle.dkg_life.specs.declared.life.Life.{Life}
+use Rattle.dkg_life.specs.declared.stop.Stop.{Stop}
+use Rattle.dkg_life.specs.declared.stop.Stop.TheVariants.{Fault as Faulted}
+use Rattle.dkg_life.specs.Ends.{IsCaused, by_stop, cause_in}
+use Rattle.dkg_life.specs.Given.{CanRead, GivesBoth, IsIn, ReadsPlanless}
+use Rattle.dkg_life.specs.LiveOf.{Beside, live_of}
+use Rattle.dkg_life.specs.Made.{MakesAt, Speaks, Tells}
+use Rattle.dkg_life.specs.Moved.{IsFirm}
+use Rattle.dkg_life.specs.Steps.{AreBoundsAt, carried_in, reads_secrets}
 use Rattle.dkg_dealing.proofs.OpeningCourses.{makes_as, tells_as}
-use Rattle.dkg_dealing.proofs.Beside.{emptied}
-use Rattle.dkg_dealing.proofs.Chained.{early_makes, early_told, then_makes, then_told}
-use Rattle.dkg_dealing.proofs.Speaking.{goes_speaks, stops_speaks}
+use Rattle.dkg_life.proofs.Beside.{emptied}
+use Rattle.dkg_life.proofs.Chained.{early_makes, early_told, then_makes, then_told}
+use Rattle.dkg_life.proofs.Speaking.{goes_speaks, stops_speaks}
 
 -- A TIP
 

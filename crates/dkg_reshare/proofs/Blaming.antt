@@ -2,10 +2,10 @@
 use Rattle.std.proofs.Common.{◌≡◌, Bool, Result, Ok, Err, sym, subst}
 use Rattle.std.specs.Prelude.{IfErr}
 use Rattle.dkg_types.specs.declared.fault.Fault.TheVariants.{NoMemory}
-use Rattle.dkg_dealing.specs.declared.stop.Stop.{Stop}
-use Rattle.dkg_dealing.specs.declared.stop.Stop.TheVariants.{Fault as Faulted}
-use Rattle.dkg_dealing.specs.Ends.{IsCaused, IsCausedBy}
-use Rattle.dkg_dealing.proofs.Caused.{caused_around, caused_by_around}
+use Rattle.dkg_life.specs.declared.stop.Stop.{Stop}
+use Rattle.dkg_life.specs.declared.stop.Stop.TheVariants.{Fault as Faulted}
+use Rattle.dkg_life.specs.Ends.{IsCaused, IsCausedBy}
+use Rattle.dkg_life.proofs.Caused.{caused_around, caused_by_around}
 
 module _ {T : Type 0} (tells : Bool) {disk secrets reached disk_around secrets_around reached_around : Type 0}
     (of_disk : disk → disk_around) (of_secrets : secrets → secrets_around) (of_reached : reached → reached_around)

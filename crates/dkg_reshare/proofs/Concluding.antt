@@ -28,29 +28,29 @@ use Rattle.dkg_core.proofs.Same.{logs_again}
 use Rattle.dkg_fence.specs.Readiness.{Readiness}
 use Rattle.dkg_ceremony.specs.Schedule.{midpoint}
 use Rattle.dkg_inclusion.specs.Concluded.{FindsBy, canonical_in, derives_kept, sees_verified, sees_verified_by, takes_cached, verifies}
-use Rattle.dkg_dealing.specs.Ends.{by_stop}
+use Rattle.dkg_life.specs.Ends.{by_stop}
 use Rattle.dkg_inclusion.specs.Including.{artifact_in, artifact_over, derives_by, derives_by_in, derives_final, derives_in, derives_now, derives_now_by, with_cached_in}
 use Rattle.dkg_inclusion.specs.InclusionOf.{IsInHand, IsReadyInclusion, IsRunnable, artifact_of, cached_of, job_of, result_of}
-use Rattle.dkg_dealing.specs.LiveOf.{Beside, IsPlaced, live_of}
-use Rattle.dkg_dealing.specs.Made.{MakesAt, Speaks, Tells}
-use Rattle.dkg_dealing.specs.Rules.{AckOf, BearsAckOf, CheckAckOf, CheckLogOf, DealOf, DealingOf, FinishOf, IncludesBy, IsRuledBy, OutcomeOf, PartialPublicOf, RoundOf, SameProvided, SharePublicOf, SignLogOf}
+use Rattle.dkg_life.specs.LiveOf.{Beside, IsPlaced, live_of}
+use Rattle.dkg_life.specs.Made.{MakesAt, Speaks, Tells}
+use Rattle.dkg_life.specs.Rules.{AckOf, BearsAckOf, CheckAckOf, CheckLogOf, DealOf, DealingOf, FinishOf, IncludesBy, IsRuledBy, OutcomeOf, PartialPublicOf, RoundOf, SameProvided, SharePublicOf, SignLogOf}
 use Rattle.dkg_inclusion.specs.Refusing.{refusal_for}
 use Rattle.dkg_inclusion.specs.declared.inclusion.Hand.{Hand}
 use Rattle.dkg_inclusion.specs.declared.inclusion.Inclusion.{Inclusion}
-use Rattle.dkg_dealing.specs.declared.life.Life.{Life}
-use Rattle.dkg_dealing.specs.declared.life.Stage.{Stage}
-use Rattle.dkg_dealing.specs.declared.life.Stage.TheVariants.{Following, Including}
-use Rattle.dkg_dealing.specs.declared.stop.Stop.{Stop}
-use Rattle.dkg_dealing.specs.declared.stop.Stop.TheVariants.{Fault as Faulted}
+use Rattle.dkg_life.specs.declared.life.Life.{Life}
+use Rattle.dkg_life.specs.declared.life.Stage.{Stage}
+use Rattle.dkg_life.specs.declared.life.Stage.TheVariants.{Following, Including}
+use Rattle.dkg_life.specs.declared.stop.Stop.{Stop}
+use Rattle.dkg_life.specs.declared.stop.Stop.TheVariants.{Fault as Faulted}
 use Rattle.dkg_dealing.proofs.OpeningCourses.{makes_as, tells_as}
-use Rattle.dkg_dealing.proofs.Burning.{makes_none, makes_nothing, speaks_makes}
-use Rattle.dkg_dealing.proofs.Chained.{early_makes, early_told, then_makes, then_told}
-use Rattle.dkg_dealing.proofs.Committing.{goes_told}
+use Rattle.dkg_life.proofs.Burning.{makes_none, makes_nothing, speaks_makes}
+use Rattle.dkg_life.proofs.Chained.{early_makes, early_told, then_makes, then_told}
+use Rattle.dkg_life.proofs.Committing.{goes_told}
 use Rattle.dkg_inclusion.proofs.Deriving.{artifact_is}
 use Rattle.dkg_inclusion.proofs.Keeping.{keeps_canonical, kept_none, kept_some, verified_is}
-use Rattle.dkg_dealing.proofs.Offered.{bind_again, bind_alike}
-use Rattle.dkg_dealing.proofs.Said.{speaks_tells}
-use Rattle.dkg_dealing.proofs.Speaking.{goes_speaks, gives_speaks, wants_speaks}
+use Rattle.dkg_life.proofs.Offered.{bind_again, bind_alike}
+use Rattle.dkg_life.proofs.Said.{speaks_tells}
+use Rattle.dkg_life.proofs.Speaking.{goes_speaks, gives_speaks, wants_speaks}
 
 -- the canonical logs, in memory and in the relation
 pub canonical_is : {Dir : Type 0} (c : Fixed Dir) (beside : Beside Dir) (fence : Readiness) (life : Life Dir) → midpoint c.blocks_per_epoch life.epoch ≡ life.midpoint

@@ -30,14 +30,14 @@ use Rattle.dkg_core.specs.Dealing.{appends}
 use Rattle.dkg_core.specs.Live.{Live, recorded_at}
 use Rattle.dkg_core.specs.Logs.{log_event, recorded_log}
 use Rattle.dkg_core.specs.Said.{Said}
-use Rattle.dkg_dealing.specs.declared.life.Life.{Life}
-use Rattle.dkg_dealing.specs.declared.stop.Stop.{Stop}
-use Rattle.dkg_dealing.specs.Ends.{by_stop, fault_of}
-use Rattle.dkg_dealing.specs.LiveOf.{Beside, live_of}
-use Rattle.dkg_dealing.specs.Made.{MakesAt, Speaks}
-use Rattle.dkg_dealing.proofs.Burning.{makes_early, makes_next, makes_nothing}
+use Rattle.dkg_life.specs.declared.life.Life.{Life}
+use Rattle.dkg_life.specs.declared.stop.Stop.{Stop}
+use Rattle.dkg_life.specs.Ends.{by_stop, fault_of}
+use Rattle.dkg_life.specs.LiveOf.{Beside, live_of}
+use Rattle.dkg_life.specs.Made.{MakesAt, Speaks}
+use Rattle.dkg_life.proofs.Burning.{makes_early, makes_next, makes_nothing}
 use Rattle.dkg_dealing.proofs.Counted.{records_one}
-use Rattle.dkg_dealing.proofs.Speaking.{goes_speaks}
+use Rattle.dkg_life.proofs.Speaking.{goes_speaks}
 
 -- A log below 2^31 bytes makes an event that a record can hold.
 pub log_short : (dealer height : ℕ) (log : DealerLog) → length (log_spelling log) < 2 ^ 31 → length (event_spelling (events.LogAt dealer height log)) < 2 ^ 32

@@ -19,21 +19,21 @@ use Rattle.dkg_core.specs.Fixed.{Fixed, has}
 use Rattle.dkg_core.specs.Live as core
 use Rattle.dkg_core.specs.Live.{Live}
 use Rattle.dkg_core.specs.Logs as recorded
-use Rattle.dkg_dealing.specs.Ready.{IsReadyLife}
+use Rattle.dkg_life.specs.Ready.{IsReadyLife}
 use Rattle.dkg_reshare.specs.CarriedLogs.{cleared_of, forgotten}
-use Rattle.dkg_dealing.specs.declared.config.Terms.{Terms}
-use Rattle.dkg_dealing.specs.declared.life.Life.{Life}
-use Rattle.dkg_dealing.specs.declared.stop.Stop.{Stop}
-use Rattle.dkg_dealing.specs.Ends.{by_stop}
-use Rattle.dkg_dealing.specs.LiveOf.{Beside, DealsIn, dealer_of, live_of}
-use Rattle.dkg_dealing.specs.Made.{MakesAt, Speaks, Tells}
-use Rattle.dkg_dealing.specs.Moved.{IsFirm}
-use Rattle.dkg_dealing.specs.Rules.{AckOf, CheckAckOf, CheckLogOf, DealOf}
-use Rattle.dkg_dealing.proofs.Burning.{makes_nothing}
-use Rattle.dkg_dealing.proofs.Chained.{early_makes, early_told, then_makes, then_told}
-use Rattle.dkg_dealing.proofs.Committing.{goes_told}
-use Rattle.dkg_dealing.proofs.Dealt.{seated_beside}
-use Rattle.dkg_dealing.proofs.Speaking.{goes_speaks}
+use Rattle.dkg_life.specs.declared.config.Terms.{Terms}
+use Rattle.dkg_life.specs.declared.life.Life.{Life}
+use Rattle.dkg_life.specs.declared.stop.Stop.{Stop}
+use Rattle.dkg_life.specs.Ends.{by_stop}
+use Rattle.dkg_life.specs.LiveOf.{Beside, DealsIn, dealer_of, live_of}
+use Rattle.dkg_life.specs.Made.{MakesAt, Speaks, Tells}
+use Rattle.dkg_life.specs.Moved.{IsFirm}
+use Rattle.dkg_life.specs.Rules.{AckOf, CheckAckOf, CheckLogOf, DealOf}
+use Rattle.dkg_life.proofs.Burning.{makes_nothing}
+use Rattle.dkg_life.proofs.Chained.{early_makes, early_told, then_makes, then_told}
+use Rattle.dkg_life.proofs.Committing.{goes_told}
+use Rattle.dkg_life.proofs.Dealt.{seated_beside}
+use Rattle.dkg_life.proofs.Speaking.{goes_speaks}
 
 -- THE OWN LOG, once a block carries it
 

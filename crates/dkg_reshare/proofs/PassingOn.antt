@@ -18,18 +18,18 @@ use Rattle.dkg_core.specs.Live.{Live, with_tip}
 use Rattle.dkg_core.specs.Seen.{Seen}
 use Rattle.dkg_core.specs.Setup as setup
 use Rattle.dkg_core.specs.Sources.{Tip}
-use Rattle.dkg_dealing.specs.Ends.{by_stop}
-use Rattle.dkg_dealing.specs.Given.{GivesSeed, ReadsPlanless}
-use Rattle.dkg_dealing.specs.LiveOf.{Beside, EndsWith, live_of, scheme_by, with_scheme_of}
-use Rattle.dkg_dealing.specs.Made.{MakesAt, Tells}
-use Rattle.dkg_dealing.specs.Steps.{reads_seed}
-use Rattle.dkg_dealing.specs.declared.life.Life.{Life}
-use Rattle.dkg_dealing.specs.declared.stop.Stop.{Stop}
+use Rattle.dkg_life.specs.Ends.{by_stop}
+use Rattle.dkg_life.specs.Given.{GivesSeed, ReadsPlanless}
+use Rattle.dkg_life.specs.LiveOf.{Beside, EndsWith, live_of, scheme_by, with_scheme_of}
+use Rattle.dkg_life.specs.Made.{MakesAt, Tells}
+use Rattle.dkg_life.specs.Steps.{reads_seed}
+use Rattle.dkg_life.specs.declared.life.Life.{Life}
+use Rattle.dkg_life.specs.declared.stop.Stop.{Stop}
 use Rattle.dkg_reshare.proofs.Applying.{tip_at, tipped}
 use Rattle.dkg_dealing.proofs.OpeningCourses.{makes_as, tells_as}
-use Rattle.dkg_dealing.proofs.Beside.{emptied}
-use Rattle.dkg_dealing.proofs.Chained.{early_makes, early_told, then_makes, then_told}
-use Rattle.dkg_dealing.proofs.Offered.{bind_again}
+use Rattle.dkg_life.proofs.Beside.{emptied}
+use Rattle.dkg_life.proofs.Chained.{early_makes, early_told, then_makes, then_told}
+use Rattle.dkg_life.proofs.Offered.{bind_again}
 
 -- WHAT IS NOT THE LIFE'S
 

@@ -12,15 +12,15 @@ use Rattle.dkg_store.specs.declared.devices.Devices.{Devices}
 use Rattle.dkg_store.specs.declared.player.Player.{Player}
 use Rattle.dkg_store.specs.declared.store.Store.{Store}
 use Rattle.dkg_core.specs.Sources.{Tip}
-use Rattle.dkg_dealing.specs.declared.config.Terms.{Terms}
-use Rattle.dkg_dealing.specs.declared.life.Life.{Life}
-use Rattle.dkg_dealing.specs.declared.life.Stage.{Stage}
-use Rattle.dkg_dealing.specs.declared.life.Stage.TheVariants.{Dealing, Including, Following}
-use Rattle.dkg_dealing.specs.declared.stop.Stop.{Stop}
-use Rattle.dkg_dealing.specs.Ready.{IsReadyLife}
-use Rattle.dkg_dealing.specs.LiveOf.{DealsIn, IsDealing, IsPlaced, PlayerSits, IsToSign, IsWithin, Sits, SitsIn}
-use Rattle.dkg_dealing.specs.Moved.{IsFirm}
-use Rattle.dkg_dealing.specs.Rules.{AckOf, CheckAckOf, DealOf}
+use Rattle.dkg_life.specs.declared.config.Terms.{Terms}
+use Rattle.dkg_life.specs.declared.life.Life.{Life}
+use Rattle.dkg_life.specs.declared.life.Stage.{Stage}
+use Rattle.dkg_life.specs.declared.life.Stage.TheVariants.{Dealing, Including, Following}
+use Rattle.dkg_life.specs.declared.stop.Stop.{Stop}
+use Rattle.dkg_life.specs.Ready.{IsReadyLife}
+use Rattle.dkg_life.specs.LiveOf.{DealsIn, IsDealing, IsPlaced, PlayerSits, IsToSign, IsWithin, Sits, SitsIn}
+use Rattle.dkg_life.specs.Moved.{IsFirm}
+use Rattle.dkg_life.specs.Rules.{AckOf, CheckAckOf, DealOf}
 use Rattle.dkg_reshare.proofs.Applying.{tip_at}
 use Rattle.dkg_reshare.proofs.Standing.{height_is, placed_behind, placed_following}
 

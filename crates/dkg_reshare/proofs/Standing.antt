@@ -12,14 +12,14 @@ use Rattle.dkg_types.specs.Blocks.{Block}
 use Rattle.dkg_types.specs.declared.fault.Fault.{Fault}
 use Rattle.dkg_types.specs.declared.fault.Fault.TheVariants.{ConflictingBlock, DetachedBlock, SkippedHeight}
 use Rattle.dkg_core.specs.Sources.{Tip}
-use Rattle.dkg_dealing.specs.declared.life.Life.{Life}
-use Rattle.dkg_dealing.specs.declared.life.Stage.{Stage}
-use Rattle.dkg_dealing.specs.declared.life.Stage.TheVariants.{Dealing, Including, Following}
-use Rattle.dkg_dealing.specs.declared.tip.Judged.TheVariants.{New, Again}
+use Rattle.dkg_life.specs.declared.life.Life.{Life}
+use Rattle.dkg_life.specs.declared.life.Stage.{Stage}
+use Rattle.dkg_life.specs.declared.life.Stage.TheVariants.{Dealing, Including, Following}
+use Rattle.dkg_life.specs.declared.tip.Judged.TheVariants.{New, Again}
 use Rattle.dkg_reshare.specs.Actors.{IsApplied, is_early_in, is_in_window_by}
-use Rattle.dkg_dealing.specs.Judged.{judged, judged_over}
-use Rattle.dkg_dealing.specs.LiveOf.{IsPlaced, awaited_of}
-use Rattle.dkg_dealing.specs.Steps.{AreBoundsAt}
+use Rattle.dkg_life.specs.Judged.{judged, judged_over}
+use Rattle.dkg_life.specs.LiveOf.{IsPlaced, awaited_of}
+use Rattle.dkg_life.specs.Steps.{AreBoundsAt}
 
 -- EPOCHS
 

@@ -1,14 +1,14 @@
 -- Why a step stopped.
 use Rattle.std.proofs.Common.{◌≡◌, Bool, Ok, Err, subst}
 use Rattle.std.specs.Prelude.{IsErrOf}
-use Rattle.dkg_dealing.specs.declared.stop.Stop.{Stop}
-use Rattle.dkg_dealing.specs.declared.stop.Stop.TheVariants.{Cut, Failed, Fault as Faulted}
+use Rattle.dkg_life.specs.declared.stop.Stop.{Stop}
+use Rattle.dkg_life.specs.declared.stop.Stop.TheVariants.{Cut, Failed, Fault as Faulted}
 use Rattle.dkg_reshare.specs.declared.actor.State.{State}
 use Rattle.dkg_reshare.specs.declared.actor.State.TheVariants.{Living}
 use Rattle.dkg_inclusion.specs.declared.inclusion.Inclusion.{Inclusion}
-use Rattle.dkg_dealing.specs.declared.life.Life.{Life}
+use Rattle.dkg_life.specs.declared.life.Life.{Life}
 use Rattle.dkg_reshare.specs.Actors.{HasFailed, IfIncluding}
-use Rattle.dkg_dealing.specs.Ends.{IsCausedBy, IsCausedInStep}
+use Rattle.dkg_life.specs.Ends.{IsCausedBy, IsCausedInStep}
 
 module _ (tells : Bool) (disk secrets reached : Type 0) where
   pub caused_in_step : (stop : Stop) → IsCausedBy tells stop disk secrets reached → IsCausedInStep tells stop disk secrets reached

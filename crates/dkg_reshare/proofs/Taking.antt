@@ -18,20 +18,20 @@ use Rattle.dkg_core.specs.Fixed.{Fixed}
 use Rattle.dkg_core.specs.Live.{Live}
 use Rattle.dkg_core.specs.Setup.{is_past_range}
 use Rattle.dkg_core.specs.Sources.{Tip}
-use Rattle.dkg_dealing.specs.declared.life.Life.{Life}
-use Rattle.dkg_dealing.specs.declared.life.Stage.{Stage}
-use Rattle.dkg_dealing.specs.declared.life.Stage.TheVariants.{Dealing, Including, Following}
-use Rattle.dkg_dealing.specs.declared.tip.Judged.{Judged}
-use Rattle.dkg_dealing.specs.declared.tip.Judged.TheVariants.{New, Again}
-use Rattle.dkg_dealing.specs.declared.stop.Stop.TheVariants.{Fault as Faulted}
+use Rattle.dkg_life.specs.declared.life.Life.{Life}
+use Rattle.dkg_life.specs.declared.life.Stage.{Stage}
+use Rattle.dkg_life.specs.declared.life.Stage.TheVariants.{Dealing, Including, Following}
+use Rattle.dkg_life.specs.declared.tip.Judged.{Judged}
+use Rattle.dkg_life.specs.declared.tip.Judged.TheVariants.{New, Again}
+use Rattle.dkg_life.specs.declared.stop.Stop.TheVariants.{Fault as Faulted}
 use Rattle.dkg_reshare.specs.Actors.{IsApplied, is_early_in, is_in_window_by}
-use Rattle.dkg_dealing.specs.Ends.{IsCaused, by_stop, cause_in}
-use Rattle.dkg_dealing.specs.Judged.{judged, judged_over}
-use Rattle.dkg_dealing.specs.LiveOf.{Beside, live_of, stage_of}
-use Rattle.dkg_dealing.specs.Made.{Speaks}
-use Rattle.dkg_dealing.specs.Steps.{AreBoundsAt}
+use Rattle.dkg_life.specs.Ends.{IsCaused, by_stop, cause_in}
+use Rattle.dkg_life.specs.Judged.{judged, judged_over}
+use Rattle.dkg_life.specs.LiveOf.{Beside, live_of, stage_of}
+use Rattle.dkg_life.specs.Made.{Speaks}
+use Rattle.dkg_life.specs.Steps.{AreBoundsAt}
 use Rattle.dkg_dealing.proofs.Ranges.{is_past, not_past, range_over}
-use Rattle.dkg_dealing.proofs.Speaking.{goes_speaks, stops_speaks}
+use Rattle.dkg_life.proofs.Speaking.{goes_speaks, stops_speaks}
 
 module _ {Dir : Type 0} (c : Fixed Dir) (b : Block Dir) where
   -- OVER A TIP

@@ -21,26 +21,26 @@ use Rattle.dkg_core.specs.Live as core
 use Rattle.dkg_core.specs.Live.{Live, Sent}
 use Rattle.dkg_reshare.specs.declared.actor.State.{State}
 use Rattle.dkg_reshare.specs.declared.actor.State.TheVariants.{New, Living, Failed as HadFailed}
-use Rattle.dkg_dealing.specs.declared.config.Terms.{Terms}
+use Rattle.dkg_life.specs.declared.config.Terms.{Terms}
 use Rattle.dkg_inclusion.specs.declared.inclusion.Inclusion.{Inclusion}
-use Rattle.dkg_dealing.specs.declared.life.Life.{Life}
-use Rattle.dkg_dealing.specs.declared.life.Stage.{Stage}
-use Rattle.dkg_dealing.specs.declared.life.Stage.TheVariants as stage
+use Rattle.dkg_life.specs.declared.life.Life.{Life}
+use Rattle.dkg_life.specs.declared.life.Stage.{Stage}
+use Rattle.dkg_life.specs.declared.life.Stage.TheVariants as stage
 use Rattle.dkg_reshare.specs.declared.message.Message.{Message}
 use Rattle.dkg_reshare.specs.declared.message.Message.TheVariants as message
-use Rattle.dkg_dealing.specs.declared.stop.Stop.{Stop}
+use Rattle.dkg_life.specs.declared.stop.Stop.{Stop}
 use Rattle.dkg_inclusion.specs.declared.told.Told.{Told}
 use Rattle.dkg_artifact.specs.declared.job.Job.{Job}
 use Rattle.std.specs.FinMap as maps
-use Rattle.dkg_dealing.specs.declared.stop.Stop.TheVariants.{Failed}
-use Rattle.dkg_dealing.specs.Ends.{by_stop}
-use Rattle.dkg_dealing.specs.declared.tip.Judged.TheVariants.{New as IsNewBlock}
+use Rattle.dkg_life.specs.declared.stop.Stop.TheVariants.{Failed}
+use Rattle.dkg_life.specs.Ends.{by_stop}
+use Rattle.dkg_life.specs.declared.tip.Judged.TheVariants.{New as IsNewBlock}
 use Rattle.dkg_reshare.specs.CarriedLogs.{CarriesWithin}
-use Rattle.dkg_dealing.specs.Judged.{judged}
-use Rattle.dkg_dealing.specs.LiveOf.{records_of}
-use Rattle.dkg_dealing.specs.Moved.{Moved}
-use Rattle.dkg_dealing.specs.Ready.{IsReadyLife}
-use Rattle.dkg_dealing.specs.Rules.{AckOf, DealOf, CheckAckOf, SameProvided}
+use Rattle.dkg_life.specs.Judged.{judged}
+use Rattle.dkg_life.specs.LiveOf.{records_of}
+use Rattle.dkg_life.specs.Moved.{Moved}
+use Rattle.dkg_life.specs.Ready.{IsReadyLife}
+use Rattle.dkg_life.specs.Rules.{AckOf, DealOf, CheckAckOf, SameProvided}
 
 -- STATES
 

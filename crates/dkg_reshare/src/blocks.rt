@@ -9,14 +9,14 @@ ghost use Rattle.dkg_ceremony.specs.declared.round.RoundParts.{RoundParts as Rou
 ghost use Rattle.dkg_fence.specs.Readiness.{Readiness};
 ghost use Rattle.dkg_core.specs.Blocks as blocks;
 ghost use Rattle.dkg_core.specs.Fixed.{Fixed};
-ghost use Rattle.dkg_dealing.specs.Ready.{IsReadyLife};
-ghost use Rattle.dkg_dealing.specs.Ends.{StopsOver, StopsReading, ends_in};
-ghost use Rattle.dkg_dealing.specs.Given.{IsIn, IsOf, ReadsPlanless};
-ghost use Rattle.dkg_dealing.specs.LiveOf.{Beside, EndsBeside, EndsWith, IsFresh, TookSchemes, live_of};
-ghost use Rattle.dkg_dealing.specs.Made.{Makes, Tells};
-ghost use Rattle.dkg_dealing.specs.Rules.{IncludesBy, IsRuledBy, SameProvided};
-ghost use Rattle.dkg_dealing.specs.Steps.{AreBoundsAt, carried_in};
-ghost use Rattle.dkg_dealing.specs.declared.life.Stage.TheVariants.{Including};
+ghost use Rattle.dkg_life.specs.Ready.{IsReadyLife};
+ghost use Rattle.dkg_life.specs.Ends.{StopsOver, StopsReading, ends_in};
+ghost use Rattle.dkg_life.specs.Given.{IsIn, IsOf, ReadsPlanless};
+ghost use Rattle.dkg_life.specs.LiveOf.{Beside, EndsBeside, EndsWith, IsFresh, TookSchemes, live_of};
+ghost use Rattle.dkg_life.specs.Made.{Makes, Tells};
+ghost use Rattle.dkg_life.specs.Rules.{IncludesBy, IsRuledBy, SameProvided};
+ghost use Rattle.dkg_life.specs.Steps.{AreBoundsAt, carried_in};
+ghost use Rattle.dkg_life.specs.declared.life.Stage.TheVariants.{Including};
 ghost use Rattle.dkg_inclusion.specs.Including.{IsNextBlock, applies_included};
 ghost use Rattle.dkg_inclusion.specs.InclusionOf.{IsReadyInclusion, IsSeen, IsSettledInclusion};
 ghost use Rattle.dkg_reshare.specs.Actors.{IsApplied, MovesOn, is_in_window_by};
@@ -25,10 +25,8 @@ ghost use Rattle.dkg_reshare.specs.CarriedLogs.{CarriesWithin};
 use crate::final_block::{derive, take_over};
 use crate::logs::{observe, unserve};
 use dkg_ceremony::{Bounds, Ceremony, Epocher, Phase};
-use dkg_dealing::{
-    Judged, Life, Stage, Stop, Terms, begin_inclusion, commit_and_register, deal, judge,
-    secrets_of, set_up_committed, tip_of,
-};
+use dkg_dealing::{begin_inclusion, commit_and_register, deal, secrets_of, set_up_committed};
+use dkg_life::{Judged, Life, Stage, Stop, Terms, judge, tip_of};
 use dkg_fence::Fence;
 use dkg_inclusion::{Inclusion, advance};
 use dkg_journal::Disk;

@@ -14,20 +14,20 @@ ghost use Rattle.dkg_types.specs.declared.entry.Entry.{Entry as Line};
 ghost use Rattle.dkg_types.specs.declared.fault.Fault.TheVariants.{NoMemory as OutOfMemory};
 ghost use Rattle.dkg_core.specs.Same.{same_info};
 ghost use Rattle.dkg_core.specs.Blocks as blocks;
-ghost use Rattle.dkg_dealing.specs.Ready.{IsReadyLife};
-ghost use Rattle.dkg_dealing.specs.Ends.{IsCaused, StopsOver, StopsReading, ends_in};
-ghost use Rattle.dkg_dealing.specs.Given.{IsOf, ReadsPlanless};
-ghost use Rattle.dkg_dealing.specs.LiveOf.{Beside, EndsWith, live_of};
-ghost use Rattle.dkg_dealing.specs.Made.{Makes, Tells};
-ghost use Rattle.dkg_dealing.specs.Moved.{IsFirm, Moved};
-ghost use Rattle.dkg_dealing.specs.Rules.{IncludesBy, IsRuledBy};
-ghost use Rattle.dkg_dealing.specs.Ends.{ends};
-ghost use Rattle.dkg_dealing.specs.Given.{IsIn};
-ghost use Rattle.dkg_dealing.specs.LiveOf.{TookSchemes};
-ghost use Rattle.dkg_dealing.specs.Made.{Speaks};
-ghost use Rattle.dkg_dealing.specs.declared.life.Life.{Life};
-ghost use Rattle.dkg_dealing.specs.declared.life.Stage.TheVariants.{Including};
-ghost use Rattle.dkg_dealing.specs.declared.stop.Stop.TheVariants.{Fault as Faulted};
+ghost use Rattle.dkg_life.specs.Ready.{IsReadyLife};
+ghost use Rattle.dkg_life.specs.Ends.{IsCaused, StopsOver, StopsReading, ends_in};
+ghost use Rattle.dkg_life.specs.Given.{IsOf, ReadsPlanless};
+ghost use Rattle.dkg_life.specs.LiveOf.{Beside, EndsWith, live_of};
+ghost use Rattle.dkg_life.specs.Made.{Makes, Tells};
+ghost use Rattle.dkg_life.specs.Moved.{IsFirm, Moved};
+ghost use Rattle.dkg_life.specs.Rules.{IncludesBy, IsRuledBy};
+ghost use Rattle.dkg_life.specs.Ends.{ends};
+ghost use Rattle.dkg_life.specs.Given.{IsIn};
+ghost use Rattle.dkg_life.specs.LiveOf.{TookSchemes};
+ghost use Rattle.dkg_life.specs.Made.{Speaks};
+ghost use Rattle.dkg_life.specs.declared.life.Life.{Life};
+ghost use Rattle.dkg_life.specs.declared.life.Stage.TheVariants.{Including};
+ghost use Rattle.dkg_life.specs.declared.stop.Stop.TheVariants.{Fault as Faulted};
 ghost use Rattle.dkg_inclusion.specs.Concluded.{FindsBy, HaveSameParts, canonical_in, sees_verified, verifies};
 ghost use Rattle.dkg_inclusion.specs.Including.{derives_by, derives_final, derives_now};
 ghost use Rattle.dkg_inclusion.specs.InclusionOf.{IsReadyInclusion, IsSeen, IsSettledInclusion, artifact_of, cached_of};
@@ -36,9 +36,8 @@ ghost use Rattle.dkg_reshare.specs.Actors.{MovesOn};
 
 use dkg_artifact::{Artifact, ArtifactCache};
 use dkg_ceremony::{Ceremony, DealerLog, Share, encode};
-use dkg_dealing::{
-    EpochSecrets, Life, Stop, Terms, commit_and_register, secrets_with, set_up_committed, tip_of,
-};
+use dkg_dealing::{EpochSecrets, commit_and_register, secrets_with, set_up_committed};
+use dkg_life::{Life, Stop, Terms, tip_of};
 use dkg_fence::Fence;
 use dkg_inclusion::{
     Inclusion, answer_none, canonical, end_verifying, job_for, keep_artifact, retain, verify,

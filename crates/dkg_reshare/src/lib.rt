@@ -12,9 +12,7 @@ mod logs;
 mod message;
 
 pub use actor::Actor;
-pub use dkg_dealing::{
-    BlockSource, Config, Processed, Stop, Tip, check_config, dealer_for_phase, recovered_share,
-    startup,
-};
+pub use dkg_dealing::{BlockSource, Processed, dealer_for_phase, recovered_share, startup};
+pub use dkg_life::{Config, Stop, Tip, check_config};
 pub use dkg_inclusion::{EpochInfoResponse, Told};
 pub use message::Message;

@@ -11,19 +11,19 @@ ghost use Rattle.dkg_types.specs.declared.fault.Fault.TheVariants.{NoMemory as O
 ghost use Rattle.dkg_core.specs.Blocks as blocks;
 ghost use Rattle.dkg_core.specs.Fixed.{Fixed, has};
 ghost use Rattle.dkg_core.specs.Including as including;
-ghost use Rattle.dkg_dealing.specs.Ready.{IsReadyLife};
-ghost use Rattle.dkg_dealing.specs.Ends.{StopsOver, ends_in};
-ghost use Rattle.dkg_dealing.specs.LiveOf.{Beside, EndsWith, live_of};
-ghost use Rattle.dkg_dealing.specs.Made.{Makes, Speaks, Tells};
-ghost use Rattle.dkg_dealing.specs.Moved.{IsFirm, Moved};
-ghost use Rattle.dkg_dealing.specs.declared.life.Life.{Life};
-ghost use Rattle.dkg_dealing.specs.declared.life.Stage.TheVariants.{Including};
-ghost use Rattle.dkg_dealing.specs.declared.stop.Stop.TheVariants.{Fault as Faulted};
+ghost use Rattle.dkg_life.specs.Ready.{IsReadyLife};
+ghost use Rattle.dkg_life.specs.Ends.{StopsOver, ends_in};
+ghost use Rattle.dkg_life.specs.LiveOf.{Beside, EndsWith, live_of};
+ghost use Rattle.dkg_life.specs.Made.{Makes, Speaks, Tells};
+ghost use Rattle.dkg_life.specs.Moved.{IsFirm, Moved};
+ghost use Rattle.dkg_life.specs.declared.life.Life.{Life};
+ghost use Rattle.dkg_life.specs.declared.life.Stage.TheVariants.{Including};
+ghost use Rattle.dkg_life.specs.declared.stop.Stop.TheVariants.{Fault as Faulted};
 ghost use Rattle.dkg_inclusion.specs.InclusionOf.{IsSeen};
 ghost use Rattle.dkg_reshare.specs.CarriedLogs.{CarriesWithin, cleared_of};
 
 use dkg_ceremony::{Ceremony, Round, SignedDealerLog};
-use dkg_dealing::{Life, Stage, Stop, Terms};
+use dkg_life::{Life, Stage, Stop, Terms};
 use dkg_inclusion::{Inclusion, bytes_of, told_log};
 use dkg_journal::Disk;
 use dkg_store::{Devices, SecretStore, Store};

@@ -3,7 +3,7 @@ ghost use Rattle.std.specs.Prelude.{◌≡◌, IfOk};
 ghost use Rattle.dkg_reshare.specs.Actors.{IsNew};
 
 use dkg_ceremony::{Blob, Ceremony, Mode, ModeVersion, Reveal, StandCeremony, StandSigner};
-use dkg_dealing::Config;
+use dkg_life::Config;
 use dkg_reshare::Actor;
 use dkg_types::{Registrar, SchemeInfo, StaticParticipants, Unit};
 use dkg_values::{Epoch, Key, Mem, Set};

@@ -6,7 +6,8 @@ ghost use Rattle.dkg_reshare.specs.CarriedLogs.{CarriesWithin};
 
 use dkg_artifact::VerifiedLogs;
 use dkg_ceremony::Ceremony;
-use dkg_dealing::{BlockSource, Stop};
+use dkg_dealing::BlockSource;
+use dkg_life::Stop;
 use dkg_fence::Fence;
 use dkg_journal::Disk;
 use dkg_reshare::{Actor, Message};

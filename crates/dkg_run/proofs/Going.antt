@@ -7,7 +7,7 @@ use Rattle.dkg_journal.specs.declared.disk.Op.{Op}
 use Rattle.dkg_store.specs.Both.{Call, disk_calls, on_disk, on_secrets, secret_calls}
 use Rattle.dkg_store.specs.declared.devices.Devices.{Devices}
 use Rattle.dkg_secrets.specs.declared.secrets.SecretOp.{SecretOp}
-use Rattle.dkg_dealing.specs.Moved.{Moved}
+use Rattle.dkg_life.specs.Moved.{Moved}
 use Rattle.dkg_lives.specs.Moving.{Went}
 use Rattle.dkg_lives.specs.Stopped.{stops_in}
 

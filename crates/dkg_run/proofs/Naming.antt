@@ -11,13 +11,13 @@ use Rattle.dkg_core.specs.Courses.{Course, Say, Do, Call, Ask, Goes, Stops, bind
 use Rattle.dkg_core.specs.Live.{NodeStop, Faulted}
 use Rattle.dkg_core.specs.Said.{Said, SaysAll, SaysFirst, SaysUpTo}
 use Rattle.dkg_core.specs.Splitting.{named}
-use Rattle.dkg_dealing.specs.Ends.{by_cause, by_stop, cause_in}
-use Rattle.dkg_dealing.specs.Made.{Burns, MakesAt}
-use Rattle.dkg_dealing.specs.declared.stop.Stop.{Stop}
-use Rattle.dkg_dealing.specs.declared.stop.Stop.TheVariants as stop
-use Rattle.dkg_dealing.proofs.Burning.{burns_next}
-use Rattle.dkg_dealing.proofs.Said.{none_first, said_next}
-use Rattle.dkg_dealing.proofs.Under.{on_bind}
+use Rattle.dkg_life.specs.Ends.{by_cause, by_stop, cause_in}
+use Rattle.dkg_life.specs.Made.{Burns, MakesAt}
+use Rattle.dkg_life.specs.declared.stop.Stop.{Stop}
+use Rattle.dkg_life.specs.declared.stop.Stop.TheVariants as stop
+use Rattle.dkg_life.proofs.Burning.{burns_next}
+use Rattle.dkg_life.proofs.Said.{none_first, said_next}
+use Rattle.dkg_life.proofs.Under.{on_bind}
 use Rattle.dkg_lives.specs.Ended.{by_node_stop}
 
 -- over the devices, a course with the node's names is its acts with these

@@ -29,22 +29,22 @@ use Rattle.dkg_core.specs.Node.{kept_material, node_opening}
 use Rattle.dkg_core.specs.Said.{Said}
 use Rattle.dkg_core.specs.Seen.{Seen}
 use Rattle.dkg_core.specs.Sources.{Source, source_over}
-use Rattle.dkg_dealing.specs.Ready.{IsFoundAt}
+use Rattle.dkg_life.specs.Ready.{IsFoundAt}
 use Rattle.dkg_reshare.specs.Actors.{AreTerms, EndsAt, IfIncluding, lives}
-use Rattle.dkg_dealing.specs.Ends.{IsCaused, by_stop}
-use Rattle.dkg_dealing.specs.Given.{AreGivenFrom, HasRead, IsLent, IsOf, reading}
+use Rattle.dkg_life.specs.Ends.{IsCaused, by_stop}
+use Rattle.dkg_life.specs.Given.{AreGivenFrom, HasRead, IsLent, IsOf, reading}
 use Rattle.dkg_inclusion.specs.InclusionOf.{IsSeen}
-use Rattle.dkg_dealing.specs.LiveOf.{Beside, EndsBeside, live_of, nothing_beside}
-use Rattle.dkg_dealing.specs.Made.{MakesAt, Speaks, Tells, UnlessBroken}
-use Rattle.dkg_dealing.specs.Moved.{StaysAbove}
-use Rattle.dkg_dealing.specs.Opened.{IsInGrammar, IsOpeningOf, epoch_at}
-use Rattle.dkg_dealing.specs.Planless.{IsBareOpening, seen_planless}
+use Rattle.dkg_life.specs.LiveOf.{Beside, EndsBeside, live_of, nothing_beside}
+use Rattle.dkg_life.specs.Made.{MakesAt, Speaks, Tells, UnlessBroken}
+use Rattle.dkg_life.specs.Moved.{StaysAbove}
+use Rattle.dkg_life.specs.Opened.{IsInGrammar, IsOpeningOf, epoch_at}
+use Rattle.dkg_life.specs.Planless.{IsBareOpening, seen_planless}
 use Rattle.dkg_reshare.specs.declared.actor.State.{State}
-use Rattle.dkg_dealing.specs.declared.config.Terms.{Terms}
-use Rattle.dkg_dealing.specs.declared.life.Life as reshare
-use Rattle.dkg_dealing.specs.declared.stop.Stop.{Stop}
-use Rattle.dkg_dealing.specs.declared.stop.Stop.TheVariants.{Cut, Failed, Fault as FaultOf}
-use Rattle.dkg_dealing.proofs.Burning.{burns_next, burns_none, unless}
+use Rattle.dkg_life.specs.declared.config.Terms.{Terms}
+use Rattle.dkg_life.specs.declared.life.Life as reshare
+use Rattle.dkg_life.specs.declared.stop.Stop.{Stop}
+use Rattle.dkg_life.specs.declared.stop.Stop.TheVariants.{Cut, Failed, Fault as FaultOf}
+use Rattle.dkg_life.proofs.Burning.{burns_next, burns_none, unless}
 use Rattle.dkg_lives.specs.Ended.{by_node_stop}
 use Rattle.dkg_core.specs.Endings.{first_epoch}
 use Rattle.dkg_lives.specs.Epochs.{IsChecked, IsLifeInForm}

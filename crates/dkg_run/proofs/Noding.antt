@@ -52,27 +52,27 @@ use Rattle.dkg_core.proofs.Heights.{epoch_is}
 use Rattle.dkg_core.proofs.Setups.{comes_anywhere}
 use Rattle.dkg_core.proofs.Splitting.{came_to}
 use Rattle.dkg_core.proofs.StepThrough.{steps_come_through}
-use Rattle.dkg_dealing.specs.Ready.{IsReadyLife}
+use Rattle.dkg_life.specs.Ready.{IsReadyLife}
 use Rattle.dkg_reshare.specs.Actors.{AreTerms, BringsWithin, EndsAt, FailsStop, HasFailed, IfIncluding, IfLiving, IsLiving, lives, message_of}
 use Rattle.dkg_reshare.specs.CarriedLogs.{CarriesWithin}
-use Rattle.dkg_dealing.specs.Ends.{IsCaused, IsCausedBy, IsCausedInStep}
-use Rattle.dkg_dealing.specs.Given.{IsIn, IsOf, ReadsPlanless}
+use Rattle.dkg_life.specs.Ends.{IsCaused, IsCausedBy, IsCausedInStep}
+use Rattle.dkg_life.specs.Given.{IsIn, IsOf, ReadsPlanless}
 use Rattle.dkg_inclusion.specs.InclusionOf.{IsSeen, IsSettledInclusion}
-use Rattle.dkg_dealing.specs.LiveOf.{Beside, EndsWith, live_of}
-use Rattle.dkg_dealing.specs.Made.{Burns, MakesAt, Speaks, Tells}
-use Rattle.dkg_dealing.specs.Rules.{IncludesBy, IsRuledBy}
+use Rattle.dkg_life.specs.LiveOf.{Beside, EndsWith, live_of}
+use Rattle.dkg_life.specs.Made.{Burns, MakesAt, Speaks, Tells}
+use Rattle.dkg_life.specs.Rules.{IncludesBy, IsRuledBy}
 use Rattle.dkg_reshare.specs.declared.actor.State.{State}
 use Rattle.dkg_reshare.specs.declared.actor.State.TheVariants.{New, Living, Failed as HadFailed}
-use Rattle.dkg_dealing.specs.declared.config.Terms.{Terms}
+use Rattle.dkg_life.specs.declared.config.Terms.{Terms}
 use Rattle.dkg_inclusion.specs.declared.inclusion.Inclusion as inclusion
-use Rattle.dkg_dealing.specs.declared.life.Life as reshare
+use Rattle.dkg_life.specs.declared.life.Life as reshare
 use Rattle.dkg_reshare.specs.declared.message.Message as declared
 use Rattle.dkg_reshare.specs.declared.message.Message.TheVariants as message
-use Rattle.dkg_dealing.specs.declared.stop.Stop.{Stop}
-use Rattle.dkg_dealing.specs.declared.stop.Stop.TheVariants.{Cut, Failed, Fault as FaultOf}
-use Rattle.dkg_dealing.proofs.Burning.{burns_next, burns_none, makes_nothing}
+use Rattle.dkg_life.specs.declared.stop.Stop.{Stop}
+use Rattle.dkg_life.specs.declared.stop.Stop.TheVariants.{Cut, Failed, Fault as FaultOf}
+use Rattle.dkg_life.proofs.Burning.{burns_next, burns_none, makes_nothing}
 use Rattle.dkg_reshare.proofs.Ending.{stands_again}
-use Rattle.dkg_dealing.proofs.Said.{none_first, nothing_held, said_of_runs}
+use Rattle.dkg_life.proofs.Said.{none_first, nothing_held, said_of_runs}
 use Rattle.dkg_lives.specs.Ended.{by_node_stop, ends_node}
 use Rattle.dkg_lives.specs.Epochs.{MayStep, any_shares}
 use Rattle.dkg_lives.specs.Given.{IsUnplanned, Lived, at_step, blocks_in, step_of}

@@ -17,12 +17,12 @@ use Rattle.dkg_core.specs.Fixed.{Fixed}
 use Rattle.dkg_core.specs.Live.{Live, NodeStop}
 use Rattle.dkg_core.specs.Node.{node_opening}
 use Rattle.dkg_core.specs.Said.{Said}
-use Rattle.dkg_dealing.specs.Ready.{IsFoundAt}
-use Rattle.dkg_dealing.specs.Made.{MakesOn}
-use Rattle.dkg_dealing.specs.Opened.{IsInGrammar, StaysShut}
-use Rattle.dkg_dealing.specs.Planless.{seen_planless}
-use Rattle.dkg_dealing.specs.declared.stop.Stop.{Stop}
-use Rattle.dkg_dealing.specs.declared.stop.Stop.TheVariants.{Cut, Fault as FaultOf}
+use Rattle.dkg_life.specs.Ready.{IsFoundAt}
+use Rattle.dkg_life.specs.Made.{MakesOn}
+use Rattle.dkg_life.specs.Opened.{IsInGrammar, StaysShut}
+use Rattle.dkg_life.specs.Planless.{seen_planless}
+use Rattle.dkg_life.specs.declared.stop.Stop.{Stop}
+use Rattle.dkg_life.specs.declared.stop.Stop.TheVariants.{Cut, Fault as FaultOf}
 use Rattle.dkg_lives.specs.Ended.{by_node_stop}
 use Rattle.dkg_lives.specs.Epochs.{IsAt, IsChecked}
 use Rattle.dkg_lives.specs.Given.{Lived, at_step, limits_of, lived}

@@ -36,21 +36,21 @@ use Rattle.dkg_core.specs.Forms.{IsOpened, IsSeated, IsSetUpIn, registered_with,
 use Rattle.dkg_core.specs.Endings.{OnInfo, first_block, first_epoch}
 use Rattle.dkg_laws.proofs.Openings.{openings_lead}
 use Rattle.dkg_reshare.specs.Actors.{EndsAt, IfIncluding, IsLiving, lives}
-use Rattle.dkg_dealing.specs.Ends.{by_cause, by_stop, cause_in}
-use Rattle.dkg_dealing.specs.Given.{IsLent, IsOf, reading}
+use Rattle.dkg_life.specs.Ends.{by_cause, by_stop, cause_in}
+use Rattle.dkg_life.specs.Given.{IsLent, IsOf, reading}
 use Rattle.dkg_inclusion.specs.InclusionOf.{IsSeen}
-use Rattle.dkg_dealing.specs.LiveOf.{Beside, live_of, nothing_beside}
-use Rattle.dkg_dealing.specs.Made.{Burns, MakesAt, Speaks, Tells, UnlessBroken}
-use Rattle.dkg_dealing.specs.Opened.{IsInGrammar, IsOpeningOf, epoch_at}
-use Rattle.dkg_dealing.specs.Planless.{IsBareOpening, seen_planless}
+use Rattle.dkg_life.specs.LiveOf.{Beside, live_of, nothing_beside}
+use Rattle.dkg_life.specs.Made.{Burns, MakesAt, Speaks, Tells, UnlessBroken}
+use Rattle.dkg_life.specs.Opened.{IsInGrammar, IsOpeningOf, epoch_at}
+use Rattle.dkg_life.specs.Planless.{IsBareOpening, seen_planless}
 use Rattle.dkg_reshare.specs.declared.actor.State.{State}
 use Rattle.dkg_reshare.specs.declared.actor.State.TheVariants.{New, Living, Failed as HadFailed}
-use Rattle.dkg_dealing.specs.declared.config.Terms.{Terms}
+use Rattle.dkg_life.specs.declared.config.Terms.{Terms}
 use Rattle.dkg_inclusion.specs.declared.inclusion.Inclusion.{Inclusion}
-use Rattle.dkg_dealing.specs.declared.life.Life as reshare
-use Rattle.dkg_dealing.specs.declared.stop.Stop.{Stop}
-use Rattle.dkg_dealing.specs.declared.stop.Stop.TheVariants as stops
-use Rattle.dkg_dealing.proofs.Said.{said_of_runs}
+use Rattle.dkg_life.specs.declared.life.Life as reshare
+use Rattle.dkg_life.specs.declared.stop.Stop.{Stop}
+use Rattle.dkg_life.specs.declared.stop.Stop.TheVariants as stops
+use Rattle.dkg_life.proofs.Said.{said_of_runs}
 use Rattle.dkg_lives.specs.Ended.{by_node_stop}
 use Rattle.dkg_lives.specs.Epochs.{IsLifeInForm}
 use Rattle.dkg_lives.specs.Given.{Lived, at_step, limits_of, seen_at, source_at}

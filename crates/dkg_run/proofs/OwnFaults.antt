@@ -5,7 +5,7 @@ use Rattle.dkg_types.specs.declared.fault.Fault.TheVariants as fault
 use Rattle.dkg_store.specs.Acts.{stopped}
 use Rattle.dkg_core.specs.Live.{Faulted}
 use Rattle.dkg_core.specs.Splitting.{named}
-use Rattle.dkg_dealing.specs.Ends.{by_fault}
+use Rattle.dkg_life.specs.Ends.{by_fault}
 
 -- of a device, a corrupt record, or want of memory: what ends a step from outside
 abbrev pub IsOutside : Fault → Type 0

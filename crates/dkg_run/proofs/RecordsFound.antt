@@ -8,11 +8,11 @@ use Rattle.dkg_types.specs.declared.fault.Fault.{Fault}
 use Rattle.dkg_types.specs.declared.fault.Fault.TheVariants.{Corrupt, InvalidConfig, NoMemory}
 use Rattle.dkg_types.specs.declared.fault.ConfigCause.TheVariants.{Mode as ModeCause, OneBlock}
 use Rattle.dkg_store.specs.declared.devices.Devices.{Devices}
-use Rattle.dkg_dealing.specs.Ready.{IsFoundAt}
-use Rattle.dkg_dealing.specs.Configured.{config_fault}
-use Rattle.dkg_dealing.specs.Ends.{IsCausedBy}
-use Rattle.dkg_dealing.specs.declared.stop.Stop.{Stop}
-use Rattle.dkg_dealing.specs.declared.stop.Stop.TheVariants.{Cut, Failed, Fault as FaultOf}
+use Rattle.dkg_life.specs.Ready.{IsFoundAt}
+use Rattle.dkg_life.specs.Configured.{config_fault}
+use Rattle.dkg_life.specs.Ends.{IsCausedBy}
+use Rattle.dkg_life.specs.declared.stop.Stop.{Stop}
+use Rattle.dkg_life.specs.declared.stop.Stop.TheVariants.{Cut, Failed, Fault as FaultOf}
 use Rattle.dkg_lives.specs.Causes.{IfFault}
 use Rattle.dkg_promises.specs.Found.{IsFoundRecord}
 use Rattle.dkg_lives.specs.Moving.{StepBlames}

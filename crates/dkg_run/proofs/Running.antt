@@ -13,8 +13,8 @@ use Rattle.dkg_text.specs.declared.script.Life.{Life}
 use Rattle.dkg_text.specs.declared.script.Script.{Script}
 use Rattle.dkg_store.specs.Acts.{World, at, moment}
 use Rattle.dkg_secrets.specs.Secrets.{Secrets}
-use Rattle.dkg_dealing.specs.declared.stop.Stop.{Stop}
-use Rattle.dkg_dealing.specs.declared.stop.Stop.TheVariants.{Cut, Failed, Fault as FaultOf}
+use Rattle.dkg_life.specs.declared.stop.Stop.{Stop}
+use Rattle.dkg_life.specs.declared.stop.Stop.TheVariants.{Cut, Failed, Fault as FaultOf}
 use Rattle.dkg_lives.specs.Lives.{AnyFiles, EndsLife, LivesFrom, LivesHere, RunsAllSo, RunsSo, TellsEnd}
 use Rattle.dkg_lives.specs.Ways.{Way, Trace, by_lines, by_worlds, trace}
 use Rattle.dkg_around.proofs.Stepping.{drop_item}

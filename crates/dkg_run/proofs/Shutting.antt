@@ -20,9 +20,9 @@ use Rattle.dkg_core.specs.Node.{node_opening}
 use Rattle.dkg_core.specs.Said.{Said}
 use Rattle.dkg_core.specs.Transcripts.{BeginsOpened}
 use Rattle.dkg_laws.proofs.NodeEndings.{node_openings_are_quiet}
-use Rattle.dkg_dealing.specs.Opened.{IsInGrammar, OpensReadable, StaysShut}
-use Rattle.dkg_dealing.specs.declared.stop.Stop.{Stop}
-use Rattle.dkg_dealing.specs.declared.stop.Stop.TheVariants.{Cut, Failed, Fault as FaultOf}
+use Rattle.dkg_life.specs.Opened.{IsInGrammar, OpensReadable, StaysShut}
+use Rattle.dkg_life.specs.declared.stop.Stop.{Stop}
+use Rattle.dkg_life.specs.declared.stop.Stop.TheVariants.{Cut, Failed, Fault as FaultOf}
 use Rattle.dkg_lives.specs.Ended.{by_node_stop}
 use Rattle.dkg_lives.specs.Ways.{IsBroken, StaysHeld}
 use Rattle.dkg_run.proofs.OwnFaults.{IsOutside, own_or_outside}

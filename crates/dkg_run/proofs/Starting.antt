@@ -23,14 +23,14 @@ use Rattle.dkg_script.specs.Inclusion.{IsFormOfInclusion}
 use Rattle.dkg_core.specs.Live.{Live}
 use Rattle.dkg_core.specs.Node.{node_opening}
 use Rattle.dkg_core.specs.Seen.{Seen}
-use Rattle.dkg_dealing.specs.Ready.{IsFoundAt}
-use Rattle.dkg_dealing.specs.Ends.{IsCausedBy}
-use Rattle.dkg_dealing.specs.Given.{HasRead, IsOf}
-use Rattle.dkg_dealing.specs.Made.{Tells}
-use Rattle.dkg_dealing.specs.Planless.{seen_planless}
-use Rattle.dkg_dealing.specs.declared.stop.Stop.{Stop}
-use Rattle.dkg_dealing.specs.declared.stop.Stop.TheVariants.{Cut, Failed, Fault as FaultOf}
-use Rattle.dkg_dealing.proofs.Said.{nothing_held}
+use Rattle.dkg_life.specs.Ready.{IsFoundAt}
+use Rattle.dkg_life.specs.Ends.{IsCausedBy}
+use Rattle.dkg_life.specs.Given.{HasRead, IsOf}
+use Rattle.dkg_life.specs.Made.{Tells}
+use Rattle.dkg_life.specs.Planless.{seen_planless}
+use Rattle.dkg_life.specs.declared.stop.Stop.{Stop}
+use Rattle.dkg_life.specs.declared.stop.Stop.TheVariants.{Cut, Failed, Fault as FaultOf}
+use Rattle.dkg_life.proofs.Said.{nothing_held}
 use Rattle.dkg_lives.specs.Causes.{StopHasCause}
 use Rattle.dkg_lives.specs.Epochs.{IsAt, IsChecked, IsLifeInForm}
 use Rattle.dkg_lives.specs.Given.{AreBytes, IsUnplanned, Lived, at_step, blocks_in, lived}

@@ -13,8 +13,8 @@ use Rattle.dkg_script.specs.Inclusion.{IsEventIn}
 use Rattle.dkg_store.specs.Acts.{went}
 use Rattle.dkg_core.specs.Live.{Live, NodeStop}
 use Rattle.dkg_reshare.specs.CarriedLogs.{CarriesWithin}
-use Rattle.dkg_dealing.specs.Planless.{seen_planless}
-use Rattle.dkg_dealing.specs.declared.stop.Stop.{Stop}
+use Rattle.dkg_life.specs.Planless.{seen_planless}
+use Rattle.dkg_life.specs.declared.stop.Stop.{Stop}
 use Rattle.dkg_lives.specs.Epochs.{IsAt, IsLifeInForm, MayStep}
 use Rattle.dkg_lives.specs.Given.{AreBytes, Lived, at_step, blocks_in, step_of}
 use Rattle.dkg_lives.specs.Lives.{Steps, fuse_for}

@@ -24,18 +24,18 @@ use Rattle.dkg_text.specs.declared.script.Event.{Event}
 use Rattle.dkg_text.specs.declared.script.Event.TheVariants.{Peer, Final, Next, Release, Info, Feed, Over, Cancel, Work}
 use Rattle.dkg_core.specs.Courses.{Course, on_devices}
 use Rattle.dkg_core.specs.Live.{Live, NodeStop}
-use Rattle.dkg_dealing.specs.Ready.{IsReadyLife}
+use Rattle.dkg_life.specs.Ready.{IsReadyLife}
 use Rattle.dkg_reshare.specs.Actors.{IfLiving}
-use Rattle.dkg_dealing.specs.Made.{MakesAt, MakesOn, Tells}
-use Rattle.dkg_dealing.specs.Moved.{IsFirm}
+use Rattle.dkg_life.specs.Made.{MakesAt, MakesOn, Tells}
+use Rattle.dkg_life.specs.Moved.{IsFirm}
 use Rattle.dkg_reshare.specs.declared.actor.State.TheVariants.{Failed as HadFailed, Living, New}
-use Rattle.dkg_dealing.specs.declared.config.Terms.{Terms}
-use Rattle.dkg_dealing.specs.declared.stop.Stop.{Stop}
-use Rattle.dkg_dealing.specs.declared.stop.Stop.TheVariants.{Cut, Fault as FaultOf}
-use Rattle.dkg_dealing.proofs.Burning.{burns_none}
+use Rattle.dkg_life.specs.declared.config.Terms.{Terms}
+use Rattle.dkg_life.specs.declared.stop.Stop.{Stop}
+use Rattle.dkg_life.specs.declared.stop.Stop.TheVariants.{Cut, Fault as FaultOf}
+use Rattle.dkg_life.proofs.Burning.{burns_none}
 use Rattle.dkg_lives.specs.Ended.{by_node_stop}
 use Rattle.dkg_lives.specs.Lives.{Steps, fuse_for}
-use Rattle.dkg_dealing.specs.Ends.{IsCausedBy}
+use Rattle.dkg_life.specs.Ends.{IsCausedBy}
 use Rattle.dkg_lives.specs.Moving.{world_of}
 use Rattle.dkg_run.specs.Nodes.{IsEventHere, IsEventOfBlocks, IsReadyNode}
 use Rattle.dkg_around.specs.declared.held.HeldBlocks.{HeldBlocks}

@@ -19,12 +19,12 @@ use Rattle.dkg_core.specs.Live.{Live, NodeStop}
 use Rattle.dkg_reshare.specs.declared.message.Message.{Message}
 use Rattle.dkg_reshare.specs.declared.message.Message.TheVariants as message
 use Rattle.dkg_reshare.specs.Actors.{IfIncluding, IfLiving, IsOpenedOn, IsLiving, message_of}
-use Rattle.dkg_dealing.specs.Given.{IsOf}
+use Rattle.dkg_life.specs.Given.{IsOf}
 use Rattle.dkg_reshare.specs.CarriedLogs.{CarriesWithin}
 use Rattle.dkg_inclusion.specs.InclusionOf.{IsSeen, IsSettledInclusion}
-use Rattle.dkg_dealing.specs.LiveOf.{Beside, live_of}
-use Rattle.dkg_dealing.specs.declared.life.Life as reshare
-use Rattle.dkg_dealing.specs.declared.stop.Stop.{Stop}
+use Rattle.dkg_life.specs.LiveOf.{Beside, live_of}
+use Rattle.dkg_life.specs.declared.life.Life as reshare
+use Rattle.dkg_life.specs.declared.stop.Stop.{Stop}
 use Rattle.dkg_lives.specs.Ended.{by_node_stop}
 use Rattle.dkg_script.specs.Players.{players_at}
 use Rattle.dkg_lives.specs.Epochs.{IsAt as StandsAt, IsLifeInForm, MayStep}

@@ -1,11 +1,11 @@
 use Rattle.std.proofs.Common.{ap, refl, sym, ◌∙◌}
 use Rattle.dkg_store.specs.declared.store.Store.{Store}
 use Rattle.std.specs.Int.NonZero.{non_zero_u32_get}
-use Rattle.dkg_dealing.specs.LiveOf.{DealsIn}
+use Rattle.dkg_life.specs.LiveOf.{DealsIn}
 use Rattle.dkg_dealing.proofs.Acked.{hears_made, hears_said}
-use Rattle.dkg_dealing.proofs.Dealt.{deals_number, deals_round, ok_so, ready_acked, while_dealing}
-use Rattle.dkg_dealing.proofs.Kept.{moved_none}
-use Rattle.dkg_dealing.proofs.Seated.{at_some}
+use Rattle.dkg_life.proofs.Dealt.{deals_number, deals_round, ok_so, ready_acked, while_dealing}
+use Rattle.dkg_life.proofs.Kept.{moved_none}
+use Rattle.dkg_life.proofs.Seated.{at_some}
 use Rattle.dkg_dealing.proofs.dealing.hear_ack.Goals as goal
 
 pub take_ack-requires-clause-is_open : goal.take_ack-requires-clause-is_open

@@ -2,9 +2,9 @@ use Rattle.std.proofs.Common.{refl}
 use Rattle.std.proofs.lemmas.Result.{err_from_is_err_and}
 use Rattle.std.specs.Int.NonZero.{non_zero_u32_get}
 use Rattle.dkg_dealing.proofs.Heard.{heard_made, heard_said, heard_stopped, heard_unsaid, of_round}
-use Rattle.dkg_dealing.proofs.Dealt.{ready_heard}
-use Rattle.dkg_dealing.proofs.Kept.{moved_none}
-use Rattle.dkg_dealing.proofs.Seated.{on_ok}
+use Rattle.dkg_life.proofs.Dealt.{ready_heard}
+use Rattle.dkg_life.proofs.Kept.{moved_none}
+use Rattle.dkg_life.proofs.Seated.{on_ok}
 use Rattle.dkg_dealing.proofs.dealing.hear_dealing.Goals as goal
 
 pub handle-requires-clause-sits : goal.handle-requires-clause-sits

@@ -3,12 +3,12 @@ use Rattle.dkg_types.specs.declared.message.Message.{Message as Channel}
 use Rattle.dkg_types.specs.declared.message.Message.TheVariants.{Dealer as ADealing, Ack as AnAck}
 use Rattle.std.proofs.lemmas.Result.{err_from_is_err_and}
 use Rattle.dkg_store.specs.Acts.{by_want}
-use Rattle.dkg_dealing.specs.declared.life.Life.{Life}
+use Rattle.dkg_life.specs.declared.life.Life.{Life}
 use Rattle.dkg_store.specs.declared.call.StoreError.TheVariants.{NoMemory as Wanting}
-use Rattle.dkg_dealing.proofs.Burning.{makes_none}
-use Rattle.dkg_dealing.proofs.Kept.{moved_none}
+use Rattle.dkg_life.proofs.Burning.{makes_none}
+use Rattle.dkg_life.proofs.Kept.{moved_none}
 use Rattle.dkg_dealing.proofs.Read.{message_heard, message_told}
-use Rattle.dkg_dealing.proofs.Said.{said_none}
+use Rattle.dkg_life.proofs.Said.{said_none}
 use Rattle.dkg_dealing.proofs.dealing.hear_peer.Goals as goal
 
 pub returns-in_err-message-clause-acts : goal.returns-in_err-message-clause-acts

@@ -7,13 +7,13 @@ use Rattle.dkg_store.specs.declared.store.Store.{Store}
 use Rattle.dkg_store.proofs.Fit.{fits_event}
 use Rattle.dkg_store.proofs.Left.{due_of_devices}
 use Rattle.dkg_dealing.proofs.Acked.{ack_made, ack_said, ack_stopped, refused_made, refused_said}
-use Rattle.dkg_dealing.proofs.Burning.{burns_counted, burns_still, makes_error, makes_under}
+use Rattle.dkg_life.proofs.Burning.{burns_counted, burns_still, makes_error, makes_under}
 use Rattle.dkg_dealing.proofs.Calls.{moved_called}
-use Rattle.dkg_dealing.proofs.Caused.{of_due}
-use Rattle.dkg_dealing.proofs.Dealt.{ack_store}
+use Rattle.dkg_life.proofs.Caused.{of_due}
+use Rattle.dkg_life.proofs.Dealt.{ack_store}
 use Rattle.dkg_dealing.proofs.Handed.{firm_same}
-use Rattle.dkg_dealing.proofs.Said.{pruning_of_due, said_none}
-use Rattle.dkg_dealing.proofs.Seated.{on_ok}
+use Rattle.dkg_life.proofs.Said.{pruning_of_due, said_none}
+use Rattle.dkg_life.proofs.Seated.{on_ok}
 use Rattle.dkg_dealing.proofs.dealing.take_ack.Goals as goal
 
 -- IT PASSED

@@ -1,9 +1,9 @@
 use Rattle.std.proofs.Common.{ap, sym, ◌∙◌}
-use Rattle.dkg_dealing.specs.declared.life.Life.{Life}
-use Rattle.dkg_dealing.specs.declared.life.Stage.TheVariants.{Including}
-use Rattle.dkg_dealing.specs.LiveOf.{IsToSign, live_of}
-use Rattle.dkg_dealing.proofs.Dealers.{begun_bare, begun_signed, signs_it}
-use Rattle.dkg_dealing.proofs.Seated.{at_some}
+use Rattle.dkg_life.specs.declared.life.Life.{Life}
+use Rattle.dkg_life.specs.declared.life.Stage.TheVariants.{Including}
+use Rattle.dkg_life.specs.LiveOf.{IsToSign, live_of}
+use Rattle.dkg_life.proofs.Dealers.{begun_bare, begun_signed, signs_it}
+use Rattle.dkg_life.proofs.Seated.{at_some}
 use Rattle.dkg_dealing.proofs.offers.begin_inclusion.Goals as goal
 use Rattle.dkg_dealing.proofs.offers.begin_inclusion.Goals.{in-Some+in_ok-finalize, in_default}
 

@@ -3,13 +3,13 @@ use Rattle.dkg_ceremony.specs.declared.round.RoundParts.{RoundParts as Round}
 use Rattle.std.proofs.lemmas.Result.{err_from_is_err_and}
 use Rattle.dkg_store.specs.Acts.{by_want}
 use Rattle.dkg_store.specs.declared.call.StoreError.TheVariants.{NoMemory as Wanting}
-use Rattle.dkg_dealing.specs.LiveOf.{DealsIn, live_of}
-use Rattle.dkg_dealing.proofs.Burning.{makes_none}
-use Rattle.dkg_dealing.proofs.Dealt.{deals_round, is_dealt}
-use Rattle.dkg_dealing.proofs.Kept.{moved_none}
-use Rattle.dkg_dealing.proofs.Offered.{deals_made, deals_told, deals_unknown, deals_without, passes_made, passes_told, sent_halves}
-use Rattle.dkg_dealing.proofs.Said.{said_none}
-use Rattle.dkg_dealing.proofs.Seated.{at_some}
+use Rattle.dkg_life.specs.LiveOf.{DealsIn, live_of}
+use Rattle.dkg_life.proofs.Burning.{makes_none}
+use Rattle.dkg_life.proofs.Dealt.{deals_round, is_dealt}
+use Rattle.dkg_life.proofs.Kept.{moved_none}
+use Rattle.dkg_life.proofs.Offered.{deals_made, deals_told, deals_unknown, deals_without, passes_made, passes_told, sent_halves}
+use Rattle.dkg_life.proofs.Said.{said_none}
+use Rattle.dkg_life.proofs.Seated.{at_some}
 use Rattle.dkg_dealing.proofs.offers.deal.Goals as goal
 
 -- WITHOUT A ROUND, OR A DEALER

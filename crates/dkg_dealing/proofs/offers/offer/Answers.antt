@@ -1,10 +1,10 @@
 use Rattle.std.proofs.Common.{◌≡◌, refl, sym, ◌∙◌, rules}
 use Rattle.std.proofs.lemmas.Result.{err_from_is_err_and}
 use Rattle.dkg_store.specs.declared.call.StoreError.TheVariants.{NoMemory as Wanting}
-use Rattle.dkg_dealing.specs.LiveOf.{live_of}
-use Rattle.dkg_dealing.proofs.Kept.{moved_none}
-use Rattle.dkg_dealing.proofs.Offered.{own_made, own_told}
-use Rattle.dkg_dealing.proofs.Said.{said_none}
+use Rattle.dkg_life.specs.LiveOf.{live_of}
+use Rattle.dkg_life.proofs.Kept.{moved_none}
+use Rattle.dkg_life.proofs.Offered.{own_made, own_told}
+use Rattle.dkg_life.proofs.Said.{said_none}
 use Rattle.dkg_dealing.proofs.offers.offer.Goals as goal
 
 pub returns-then-eq-clause-acts : goal.returns-then-eq-clause-acts

@@ -3,12 +3,12 @@ use Rattle.std.specs.Prelude.{IsSomeAnd}
 use Rattle.std.specs.List.{AllByRecursion}
 use Rattle.std.specs.Vec.Iter.{into_iter_items}
 use Rattle.std.proofs.lemmas.Result.{err_from_is_err_and}
-use Rattle.dkg_dealing.specs.LiveOf.{live_of}
-use Rattle.dkg_dealing.proofs.Blamed.{caused_behind}
-use Rattle.dkg_dealing.proofs.Burning.{makes_nothing}
-use Rattle.dkg_dealing.proofs.Dealt.{dealt_on, halves_same, halves_then, rest_then, round_on}
-use Rattle.dkg_dealing.proofs.Kept.{moved_none, moved_then}
-use Rattle.dkg_dealing.proofs.Offered.{IsHalf, all_made, all_told, first_half, halves_at, halves_next, nothing_left, turn_broken, turn_made, turn_said, turn_unsaid}
+use Rattle.dkg_life.specs.LiveOf.{live_of}
+use Rattle.dkg_life.proofs.Blamed.{caused_behind}
+use Rattle.dkg_life.proofs.Burning.{makes_nothing}
+use Rattle.dkg_life.proofs.Dealt.{dealt_on, halves_same, halves_then, rest_then, round_on}
+use Rattle.dkg_life.proofs.Kept.{moved_none, moved_then}
+use Rattle.dkg_life.proofs.Offered.{IsHalf, all_made, all_told, first_half, halves_at, halves_next, nothing_left, turn_broken, turn_made, turn_said, turn_unsaid}
 use Rattle.dkg_dealing.proofs.offers.offer_all.Goals as goal
 
 pub loop-player-init : goal.loop-player-init

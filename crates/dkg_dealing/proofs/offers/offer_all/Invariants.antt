@@ -10,14 +10,14 @@ use Rattle.dkg_store.specs.Corrupt.{AreFit}
 use Rattle.dkg_store.specs.declared.dealer.Dealer.{Dealer}
 use Rattle.dkg_core.specs.Dealing as dealing
 use Rattle.dkg_core.specs.Fixed.{Fixed}
-use Rattle.dkg_dealing.specs.Ready.{IsReadyLife}
-use Rattle.dkg_dealing.specs.Given.{IsOf}
-use Rattle.dkg_dealing.specs.LiveOf.{Beside, live_of}
-use Rattle.dkg_dealing.specs.Made.{Makes, Tells}
-use Rattle.dkg_dealing.specs.Moved.{Moved}
-use Rattle.dkg_dealing.specs.Rules.{AnswersBy}
-use Rattle.dkg_dealing.specs.Steps.{SameHalves, halves_of}
-use Rattle.dkg_dealing.proofs.Offered.{IsHalf}
+use Rattle.dkg_life.specs.Ready.{IsReadyLife}
+use Rattle.dkg_life.specs.Given.{IsOf}
+use Rattle.dkg_life.specs.LiveOf.{Beside, live_of}
+use Rattle.dkg_life.specs.Made.{Makes, Tells}
+use Rattle.dkg_life.specs.Moved.{Moved}
+use Rattle.dkg_life.specs.Rules.{AnswersBy}
+use Rattle.dkg_life.specs.Steps.{SameHalves, halves_of}
+use Rattle.dkg_life.proofs.Offered.{IsHalf}
 use Rattle.dkg_dealing.proofs.offers.offer_all.Given as goal
 
 abbrev pub invariant-loop-player : goal.invariant-loop-player

@@ -5,17 +5,17 @@ use Rattle.dkg_store.specs.Acts.{went}
 use Rattle.dkg_store.specs.declared.dealer.Dealer.{Dealer}
 use Rattle.dkg_store.specs.declared.store.Store.{Store}
 use Rattle.dkg_core.specs.Dealing as dealing
-use Rattle.dkg_dealing.specs.Ends.{by_stop}
-use Rattle.dkg_dealing.specs.LiveOf.{DealsIn, live_of}
-use Rattle.dkg_dealing.proofs.Blamed.{blamed_behind}
-use Rattle.dkg_dealing.proofs.Burning.{speaks_makes}
-use Rattle.dkg_dealing.proofs.Dealt.{deals_number, dealt_number, halves_same, halves_some, ok_so, ready_acked, ready_heard, while_dealing}
-use Rattle.dkg_dealing.proofs.Kept.{moved_none, moved_then}
-use Rattle.dkg_dealing.specs.Made.{Tells}
-use Rattle.dkg_dealing.proofs.Offered.{passes_told, watches_itself}
+use Rattle.dkg_life.specs.Ends.{by_stop}
+use Rattle.dkg_life.specs.LiveOf.{DealsIn, live_of}
+use Rattle.dkg_life.proofs.Blamed.{blamed_behind}
+use Rattle.dkg_life.proofs.Burning.{speaks_makes}
+use Rattle.dkg_life.proofs.Dealt.{deals_number, dealt_number, halves_same, halves_some, ok_so, ready_acked, ready_heard, while_dealing}
+use Rattle.dkg_life.proofs.Kept.{moved_none, moved_then}
+use Rattle.dkg_life.specs.Made.{Tells}
+use Rattle.dkg_life.proofs.Offered.{passes_told, watches_itself}
 use Rattle.dkg_dealing.proofs.Owned.{given_made, given_said, no_dealer, own_few, own_seat, own_unrefused, refused_blames, refused_speaks, ungiven_made, ungiven_said}
-use Rattle.dkg_dealing.proofs.Said.{speaks_tells}
-use Rattle.dkg_dealing.proofs.Seated.{at_some}
+use Rattle.dkg_life.proofs.Said.{speaks_tells}
+use Rattle.dkg_life.proofs.Seated.{at_some}
 use Rattle.dkg_dealing.proofs.offers.offer_to_itself.Goals as goal
 
 -- WITHOUT A PLAYER (a dealer is there)

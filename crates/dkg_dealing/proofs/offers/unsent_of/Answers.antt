@@ -1,6 +1,6 @@
 use Rattle.std.proofs.Common.{rules, ◌≡◌, ◌++◌, ℕ, List, ap, ◌∙◌}
 use Rattle.dkg_store.specs.Dealer.{to_send, unsent}
-use Rattle.dkg_dealing.proofs.Offered.{flat, flat_sent}
+use Rattle.dkg_life.proofs.Offered.{flat, flat_sent}
 use Rattle.dkg_dealing.proofs.offers.unsent_of.Goals as goal
 
 pub loop-player-init : goal.loop-player-init

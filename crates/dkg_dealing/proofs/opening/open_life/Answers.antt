@@ -7,17 +7,17 @@ use Rattle.dkg_store.specs.Acts.{held_in, went}
 use Rattle.dkg_store.specs.declared.store.Store.{Store}
 use Rattle.dkg_core.specs.Agreeing.{AreAgreed}
 use Rattle.dkg_core.specs.Live.{Records}
-use Rattle.dkg_dealing.specs.declared.life.Life.{Life}
-use Rattle.dkg_dealing.specs.Ends.{by_stop}
-use Rattle.dkg_dealing.specs.Given.{reading}
-use Rattle.dkg_dealing.specs.LiveOf.{live_of, nothing_beside, records_of}
-use Rattle.dkg_dealing.specs.Moved.{StaysAbove}
-use Rattle.dkg_dealing.specs.Opened.{IsInGrammar, epoch_above, epoch_at}
-use Rattle.dkg_dealing.specs.Planless.{seen_planless}
-use Rattle.dkg_dealing.proofs.Caused.{rose_around}
+use Rattle.dkg_life.specs.declared.life.Life.{Life}
+use Rattle.dkg_life.specs.Ends.{by_stop}
+use Rattle.dkg_life.specs.Given.{reading}
+use Rattle.dkg_life.specs.LiveOf.{live_of, nothing_beside, records_of}
+use Rattle.dkg_life.specs.Moved.{StaysAbove}
+use Rattle.dkg_life.specs.Opened.{IsInGrammar, epoch_above, epoch_at}
+use Rattle.dkg_life.specs.Planless.{seen_planless}
+use Rattle.dkg_life.proofs.Caused.{rose_around}
 use Rattle.dkg_store.proofs.Counts.{reached_behind}
-use Rattle.dkg_dealing.proofs.Kept.{above_then, moved_then}
-use Rattle.dkg_dealing.proofs.Beside.{beside_as, none_beside, nothing_fresh}
+use Rattle.dkg_life.proofs.Kept.{above_then, moved_then}
+use Rattle.dkg_life.proofs.Beside.{beside_as, none_beside, nothing_fresh}
 use Rattle.dkg_dealing.proofs.Openings.{can_read, found_around, lent_to, given_behind, given_stopped, given_untold, opening_failed, opening_made, opening_told, opening_untold, reading_lent, store_agrees, was_readable, with_secrets}
 use Rattle.dkg_dealing.proofs.opening.open_life.Goals as goal
 

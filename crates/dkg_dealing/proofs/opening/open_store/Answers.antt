@@ -6,13 +6,13 @@ use Rattle.dkg_journal.specs.Opening.{open_calls}
 use Rattle.dkg_types.specs.declared.entry.Entry.TheVariants.{Opened}
 use Rattle.dkg_types.specs.declared.entry.Restored.{Restored}
 use Rattle.dkg_types.specs.declared.fault.Fault.TheVariants as fault
-use Rattle.dkg_dealing.specs.declared.stop.Stop.TheVariants.{Fault as Faulted}
+use Rattle.dkg_life.specs.declared.stop.Stop.TheVariants.{Fault as Faulted}
 use Rattle.dkg_core.specs.Seen.{Seen}
-use Rattle.dkg_dealing.specs.Given.{AreGivenFrom}
+use Rattle.dkg_life.specs.Given.{AreGivenFrom}
 use Rattle.dkg_dealing.proofs.Giving.{opened_above}
 use Rattle.dkg_dealing.proofs.Openings.{given_back, opened_told, opening_found, opens_by_devices, seen_of, store_failed, store_opened, store_unlisted, store_untold, was_readable}
 use Rattle.dkg_dealing.proofs.Calls.{moved_called}
-use Rattle.dkg_dealing.proofs.Said.{pruning_of_due}
+use Rattle.dkg_life.proofs.Said.{pruning_of_due}
 use Rattle.dkg_dealing.proofs.opening.open_store.Goals as goal
 
 pub returns-in_err-store-clause-readable : goal.returns-in_err-store-clause-readable

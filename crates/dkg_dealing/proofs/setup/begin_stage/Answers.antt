@@ -1,7 +1,7 @@
 use Rattle.std.proofs.Common.{◌∙◌}
-use Rattle.dkg_dealing.specs.LiveOf.{live_of}
-use Rattle.dkg_dealing.proofs.Beside.{then_well}
-use Rattle.dkg_dealing.proofs.Dealers.{begins_later, later_stage}
+use Rattle.dkg_life.specs.LiveOf.{live_of}
+use Rattle.dkg_life.proofs.Beside.{then_well}
+use Rattle.dkg_life.proofs.Dealers.{begins_later, later_stage}
 use Rattle.dkg_dealing.proofs.setup.begin_stage.Goals as goal
 
 pub returns-in-Midpoint : goal.returns-in-Midpoint

@@ -7,14 +7,14 @@ use Rattle.dkg_core.specs.Courses.{on_devices}
 use Rattle.dkg_core.specs.Setup as setup
 use Rattle.dkg_store.specs.declared.call.StoreError.TheVariants.{NoMemory}
 use Rattle.dkg_store.specs.declared.store.Store.{Store}
-use Rattle.dkg_dealing.specs.declared.stop.Stop.TheVariants.{Fault as Faulted}
-use Rattle.dkg_dealing.specs.LiveOf.{live_of}
-use Rattle.dkg_dealing.proofs.Burning.{burns_counted}
+use Rattle.dkg_life.specs.declared.stop.Stop.TheVariants.{Fault as Faulted}
+use Rattle.dkg_life.specs.LiveOf.{live_of}
+use Rattle.dkg_life.proofs.Burning.{burns_counted}
 use Rattle.dkg_dealing.proofs.Calls.{moved_called}
-use Rattle.dkg_dealing.proofs.Caused.{of_due}
-use Rattle.dkg_dealing.proofs.Kept.{moved_none, stays_whole}
-use Rattle.dkg_dealing.proofs.Said.{pruning_of_due, said_none}
-use Rattle.dkg_dealing.proofs.Setting.{commit_failed, commit_made, commit_said, committed_live}
+use Rattle.dkg_life.proofs.Caused.{of_due}
+use Rattle.dkg_life.proofs.Kept.{moved_none, stays_whole}
+use Rattle.dkg_life.proofs.Said.{pruning_of_due, said_none}
+use Rattle.dkg_life.proofs.Setting.{commit_failed, commit_made, commit_said, committed_live}
 use Rattle.dkg_store.proofs.Left.{due_of_devices}
 use Rattle.dkg_dealing.proofs.setup.commit.Goals as goal
 

@@ -1,11 +1,11 @@
 use Rattle.std.proofs.lemmas.Result.{err_from_is_err_and}
 use Rattle.dkg_core.specs.Setup as setup
-use Rattle.dkg_dealing.specs.Ends.{ends_in}
-use Rattle.dkg_dealing.specs.LiveOf.{live_of, with_scheme_of}
-use Rattle.dkg_dealing.proofs.Burning.{speaks_makes}
-use Rattle.dkg_dealing.proofs.Chained.{early_makes, early_told, then_makes, then_told}
-use Rattle.dkg_dealing.proofs.Committing.{in_any, of_memory}
-use Rattle.dkg_dealing.proofs.Said.{speaks_tells}
+use Rattle.dkg_life.specs.Ends.{ends_in}
+use Rattle.dkg_life.specs.LiveOf.{live_of, with_scheme_of}
+use Rattle.dkg_life.proofs.Burning.{speaks_makes}
+use Rattle.dkg_life.proofs.Chained.{early_makes, early_told, then_makes, then_told}
+use Rattle.dkg_life.proofs.Committing.{in_any, of_memory}
+use Rattle.dkg_life.proofs.Said.{speaks_tells}
 use Rattle.dkg_dealing.proofs.setup.commit_and_register.Goals as goal
 
 pub returns-in_err-commit-clause-acts : goal.returns-in_err-commit-clause-acts

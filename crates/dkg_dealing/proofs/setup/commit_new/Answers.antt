@@ -1,11 +1,12 @@
 use Rattle.dkg_types.specs.declared.info.EpochInfo.{EpochInfo}
 use Rattle.std.specs.Prelude.{IsSome}
 use Rattle.std.proofs.Common.{refl, Option, subst, sym}
-use Rattle.dkg_dealing.specs.LiveOf.{live_of}
-use Rattle.dkg_dealing.proofs.Beside.{none_beside, one_beside, took_none, then_well}
-use Rattle.dkg_dealing.proofs.Burning.{makes_nothing}
-use Rattle.dkg_dealing.proofs.Committing.{committed_by, goes_told, kept_by, same_made, same_told}
-use Rattle.dkg_dealing.proofs.Kept.{moved_none}
+use Rattle.dkg_life.specs.LiveOf.{live_of}
+use Rattle.dkg_life.proofs.Beside.{none_beside, one_beside, took_none, then_well}
+use Rattle.dkg_life.proofs.Burning.{makes_nothing}
+use Rattle.dkg_dealing.proofs.Standings.{committed_by, kept_by}
+use Rattle.dkg_life.proofs.Committing.{goes_told, same_made, same_told}
+use Rattle.dkg_life.proofs.Kept.{moved_none}
 use Rattle.dkg_dealing.proofs.setup.commit_new.Goals as goal
 
 pub returns-in-WasCommitted-clause-acts : goal.returns-in-WasCommitted-clause-acts

@@ -2,7 +2,7 @@ use Rattle.std.proofs.Common.{ℕ, arith, rules, length, sym, ap, subst, ◌∙�
 use Rattle.dkg_ceremony.specs.declared.round.RoundParts.{RoundParts as Round}
 use Rattle.std.specs.Prelude.{Contains}
 use Rattle.std.proofs.lemmas.Result.{err_from_is_err_and}
-use Rattle.dkg_dealing.proofs.Dealers.{MadeFor, deals_for, deals_stop_at, kept_all, makes_dealer_at, no_dealer, of_dealing}
+use Rattle.dkg_life.proofs.Dealers.{MadeFor, deals_for, deals_stop_at, kept_all, makes_dealer_at, no_dealer, of_dealing}
 use Rattle.dkg_dealing.proofs.setup.dealer_of.Goals as goal
 
 pub create_dealer-requires : goal.create_dealer-requires

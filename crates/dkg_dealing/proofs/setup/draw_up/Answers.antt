@@ -6,14 +6,14 @@ use Rattle.dkg_types.specs.declared.entry.Entry.TheVariants.{Setup}
 use Rattle.dkg_types.specs.declared.fault.Fault.TheVariants.{NoMemory}
 use Rattle.dkg_types.specs.declared.entry.Part.{Part}
 use Rattle.dkg_core.specs.Setup as setup
-use Rattle.dkg_dealing.specs.declared.life.Life.{Life}
-use Rattle.dkg_dealing.specs.declared.stop.Stop.TheVariants.{Fault as Faulted}
-use Rattle.dkg_dealing.specs.LiveOf.{PlayerSits, IsWithin, dealer_of, live_of}
-use Rattle.dkg_dealing.proofs.Speaking.{wants_speaks}
-use Rattle.dkg_dealing.proofs.Caused.{of_round}
-use Rattle.dkg_dealing.proofs.Dealers.{not_signed, to_sign}
+use Rattle.dkg_life.specs.declared.life.Life.{Life}
+use Rattle.dkg_life.specs.declared.stop.Stop.TheVariants.{Fault as Faulted}
+use Rattle.dkg_life.specs.LiveOf.{PlayerSits, IsWithin, dealer_of, live_of}
+use Rattle.dkg_life.proofs.Speaking.{wants_speaks}
+use Rattle.dkg_life.proofs.Caused.{of_round}
+use Rattle.dkg_life.proofs.Dealers.{not_signed, to_sign}
 use Rattle.dkg_dealing.proofs.Drawing.{begun_here, causes_none, dealer_failed, few_players, player_failed, players_of, round_failed, sits_drawn, stage_ended}
-use Rattle.dkg_dealing.proofs.Seated.{seated_in}
+use Rattle.dkg_life.proofs.Seated.{seated_in}
 use Rattle.dkg_dealing.proofs.setup.draw_up.Goals as goal
 
 pub begin_stage-requires-clause-signs : goal.begin_stage-requires-clause-signs

@@ -3,7 +3,7 @@ use Rattle.std.specs.Prelude.{Contains}
 use Rattle.dkg_ceremony.specs.declared.round.RoundParts.{RoundParts as Round}
 use Rattle.dkg_core.specs.Fixed.{has}
 use Rattle.std.proofs.lemmas.Result.{err_from_is_err_and}
-use Rattle.dkg_dealing.proofs.Caused.{of_playing}
+use Rattle.dkg_life.proofs.Caused.{of_playing}
 use Rattle.dkg_dealing.proofs.Making.{makes_seat_at, makes_stop_at, no_player, sits_new}
 use Rattle.dkg_dealing.proofs.setup.player_of.Goals as goal
 

@@ -4,15 +4,15 @@ use Rattle.dkg_store.specs.Acts.{went}
 use Rattle.dkg_store.proofs.Left.{due_of_devices}
 use Rattle.dkg_core.specs.Courses.{on_devices}
 use Rattle.dkg_core.specs.Setup as setup
-use Rattle.dkg_dealing.specs.Ends.{stop_of}
-use Rattle.dkg_dealing.specs.LiveOf.{live_of}
-use Rattle.dkg_dealing.proofs.Burning.{burns_counted}
+use Rattle.dkg_life.specs.Ends.{stop_of}
+use Rattle.dkg_life.specs.LiveOf.{live_of}
+use Rattle.dkg_life.proofs.Burning.{burns_counted}
 use Rattle.dkg_dealing.proofs.Calls.{moved_called}
-use Rattle.dkg_dealing.proofs.Caused.{caused_around, of_due}
+use Rattle.dkg_life.proofs.Caused.{caused_around, of_due}
 use Rattle.dkg_dealing.proofs.Giving.{pruned_gives}
-use Rattle.dkg_dealing.proofs.Kept.{above_of}
-use Rattle.dkg_dealing.proofs.Said.{pruning_of_due, said_none}
-use Rattle.dkg_dealing.proofs.Setting.{prune_failed, prune_made, prune_said, pruned_live, pruned_records}
+use Rattle.dkg_life.proofs.Kept.{above_of}
+use Rattle.dkg_life.proofs.Said.{pruning_of_due, said_none}
+use Rattle.dkg_life.proofs.Setting.{prune_failed, prune_made, prune_said, pruned_live, pruned_records}
 use Rattle.dkg_dealing.proofs.setup.prune.Goals as goal
 
 pub returns-in_err-prune-clause-acts : goal.returns-in_err-prune-clause-acts

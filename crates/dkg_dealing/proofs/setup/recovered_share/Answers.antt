@@ -6,8 +6,8 @@ use Rattle.dkg_core.specs.Setup as setup
 use Rattle.dkg_secrets.specs.Secrets.{Secrets}
 use Rattle.dkg_types.specs.declared.outcome.EpochOutcome.TheVariants.{Failure}
 use Rattle.dkg_dealing.proofs.Calls.{moved_called}
-use Rattle.dkg_dealing.proofs.Kept.{moved_then}
-use Rattle.dkg_dealing.proofs.Shares.{apart_of, below_found, below_only, gives_below, gives_none, gives_none_below, gives_none_fitting, gives_stored, is_failure, none_found, not_failure, not_some, one_at, one_is, same_of}
+use Rattle.dkg_life.proofs.Kept.{moved_then}
+use Rattle.dkg_life.proofs.Shares.{apart_of, below_found, below_only, gives_below, gives_none, gives_none_below, gives_none_fitting, gives_stored, is_failure, none_found, not_failure, not_some, one_at, one_is, same_of}
 use Rattle.dkg_dealing.proofs.setup.recovered_share.Goals as goal
 use Rattle.dkg_dealing.proofs.setup.recovered_share.Goals.{then-is_some-via-then-is_some, then-is_some-via-else-is_some+then-ne, in_default-2-via-in-Some-2+else-eq, in_default-2-via-in_default-2}
 

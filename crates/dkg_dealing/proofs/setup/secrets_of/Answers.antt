@@ -5,11 +5,11 @@ use Rattle.dkg_core.specs.Courses.{on_devices}
 use Rattle.dkg_core.specs.Setup as setup
 use Rattle.dkg_secrets.specs.Secrets.{Secrets}
 use Rattle.dkg_store.specs.Acts.{Held}
-use Rattle.dkg_dealing.specs.Steps.{reads_secrets}
-use Rattle.dkg_dealing.proofs.Caused.{of_due, rose_around}
-use Rattle.dkg_dealing.proofs.Kept.{moved_then}
-use Rattle.dkg_dealing.proofs.Said.{nothing_held, pruning_of_due, said_none}
-use Rattle.dkg_dealing.proofs.Shares.{both_given, both_read, one_at, read_fails}
+use Rattle.dkg_life.specs.Steps.{reads_secrets}
+use Rattle.dkg_life.proofs.Caused.{of_due, rose_around}
+use Rattle.dkg_life.proofs.Kept.{moved_then}
+use Rattle.dkg_life.proofs.Said.{nothing_held, pruning_of_due, said_none}
+use Rattle.dkg_life.proofs.Shares.{both_given, both_read, one_at, read_fails}
 use Rattle.dkg_dealing.proofs.setup.secrets_of.Goals as goal
 
 pub returns-in_err-share-clause-acts : goal.returns-in_err-share-clause-acts

@@ -3,10 +3,10 @@ use Rattle.std.proofs.lemmas.Result.{err_from_is_err_and}
 use Rattle.std.specs.FinMap.{empty}
 use Rattle.dkg_core.specs.Courses.{on_devices}
 use Rattle.dkg_store.specs.Acts.{Held}
-use Rattle.dkg_dealing.specs.Steps.{reads_seed}
-use Rattle.dkg_dealing.proofs.Caused.{of_due}
-use Rattle.dkg_dealing.proofs.Said.{nothing_held, pruning_of_due, said_none}
-use Rattle.dkg_dealing.proofs.Shares.{one_at, read_fails, seed_given, seed_read}
+use Rattle.dkg_life.specs.Steps.{reads_seed}
+use Rattle.dkg_life.proofs.Caused.{of_due}
+use Rattle.dkg_life.proofs.Said.{nothing_held, pruning_of_due, said_none}
+use Rattle.dkg_life.proofs.Shares.{one_at, read_fails, seed_given, seed_read}
 use Rattle.dkg_dealing.proofs.setup.secrets_with.Goals as goal
 
 pub returns-in_err-seed-clause-acts : goal.returns-in_err-seed-clause-acts

@@ -1,4 +1,4 @@
-use Rattle.dkg_dealing.proofs.Committing.{in_any}
+use Rattle.dkg_life.proofs.Committing.{in_any}
 use Rattle.dkg_dealing.specs.declared.setup.Standing.TheVariants.{Uncommitted, WasCommitted}
 use Rattle.dkg_dealing.specs.declared.setup.Standing.{Standing}
 use Rattle.std.proofs.Common.{◌-◌, ℕ, None, ap, refl, subst, sym, ◌∙◌, ◌≡◌}
@@ -12,22 +12,22 @@ use Rattle.dkg_store.specs.declared.store.Store.{Store}
 use Rattle.dkg_core.specs.Agreeing.{AreAgreed}
 use Rattle.dkg_core.specs.Courses.{Stops}
 use Rattle.dkg_core.specs.Setup as setup
-use Rattle.dkg_dealing.specs.declared.life.Life.{Life}
-use Rattle.dkg_dealing.specs.declared.stop.Stop.TheVariants.{Fault as Faulted}
-use Rattle.dkg_dealing.specs.Ends.{by_stop, ends, ends_in}
-use Rattle.dkg_dealing.specs.LiveOf.{Beside, live_of, nothing_beside, records_of}
-use Rattle.dkg_dealing.specs.Made.{UnlessBroken}
-use Rattle.dkg_dealing.specs.Moved.{StaysAbove, StaysFrom}
+use Rattle.dkg_life.specs.declared.life.Life.{Life}
+use Rattle.dkg_life.specs.declared.stop.Stop.TheVariants.{Fault as Faulted}
+use Rattle.dkg_life.specs.Ends.{by_stop, ends, ends_in}
+use Rattle.dkg_life.specs.LiveOf.{Beside, live_of, nothing_beside, records_of}
+use Rattle.dkg_life.specs.Made.{UnlessBroken}
+use Rattle.dkg_life.specs.Moved.{StaysAbove, StaysFrom}
 use Rattle.dkg_dealing.proofs.OpeningCourses.{makes_as, tells_as}
-use Rattle.dkg_dealing.proofs.Beside.{beside_as, none_beside, nothing_fresh, took_none, then_well}
-use Rattle.dkg_dealing.proofs.Burning.{speaks_makes, unless}
-use Rattle.dkg_dealing.proofs.Caused.{of_result}
-use Rattle.dkg_dealing.proofs.Kept.{above_itself, moved_none}
+use Rattle.dkg_life.proofs.Beside.{beside_as, none_beside, nothing_fresh, took_none, then_well}
+use Rattle.dkg_life.proofs.Burning.{speaks_makes, unless}
+use Rattle.dkg_life.proofs.Caused.{of_result}
+use Rattle.dkg_life.proofs.Kept.{above_itself, moved_none}
 use Rattle.dkg_dealing.proofs.Openings.{setup_agrees}
 use Rattle.dkg_dealing.proofs.Placing.{any_fixed, any_lent, any_reads, any_ruled, any_ruled_by, any_rules, bare_block, by_block, epoch_there, first_is, followed, following_ready, ok_given, past_range, set_up_ready, stands_there, then_ok}
-use Rattle.dkg_dealing.proofs.Said.{nothing_held, speaks_tells}
-use Rattle.dkg_dealing.proofs.Seated.{on_ok}
-use Rattle.dkg_dealing.proofs.Speaking.{stops_speaks}
+use Rattle.dkg_life.proofs.Said.{nothing_held, speaks_tells}
+use Rattle.dkg_life.proofs.Seated.{on_ok}
+use Rattle.dkg_life.proofs.Speaking.{stops_speaks}
 use Rattle.dkg_dealing.proofs.setup.set_up.Goals as goal
 
 pub returns-in_err-bounds-clause-acts : goal.returns-in_err-bounds-clause-acts

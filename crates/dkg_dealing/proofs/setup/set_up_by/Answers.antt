@@ -1,4 +1,4 @@
-use Rattle.dkg_dealing.proofs.Committing.{in_any}
+use Rattle.dkg_life.proofs.Committing.{in_any}
 use Rattle.dkg_types.specs.declared.info.EpochInfo.{EpochInfo}
 use Rattle.std.specs.Prelude.{IsSome}
 use Rattle.std.proofs.Common.{◌-◌, ◌∙◌, None, ap, arith, Option, subst, sym}
@@ -6,18 +6,19 @@ use Rattle.std.proofs.lemmas.Result.{err_from_is_err_and}
 use Rattle.std.specs.Int.NonZero.{non_zero_u32_get}
 use Rattle.dkg_store.proofs.Counts.{reached_behind}
 use Rattle.dkg_core.specs.Setup as setup
-use Rattle.dkg_dealing.specs.declared.life.Life.{Life}
-use Rattle.dkg_dealing.specs.Ends.{by_stop, ends, ends_in}
-use Rattle.dkg_dealing.specs.LiveOf.{live_of}
-use Rattle.dkg_dealing.specs.Steps.{refusal_of, standing_of}
-use Rattle.dkg_dealing.proofs.Beside.{beside_as, beside_kept, fresh_as, none_beside}
-use Rattle.dkg_dealing.proofs.Burning.{speaks_makes, unless, unless_outside}
-use Rattle.dkg_dealing.proofs.Caused.{caused_around, caused_by_around, of_result, rose_around}
+use Rattle.dkg_life.specs.declared.life.Life.{Life}
+use Rattle.dkg_life.specs.Ends.{by_stop, ends, ends_in}
+use Rattle.dkg_life.specs.LiveOf.{live_of}
+use Rattle.dkg_dealing.specs.Standings.{standing_of}
+use Rattle.dkg_life.specs.Steps.{refusal_of}
+use Rattle.dkg_life.proofs.Beside.{beside_as, beside_kept, fresh_as, none_beside}
+use Rattle.dkg_life.proofs.Burning.{speaks_makes, unless, unless_outside}
+use Rattle.dkg_life.proofs.Caused.{caused_around, caused_by_around, of_result, rose_around}
 use Rattle.dkg_dealing.proofs.Drawing.{stands_on}
-use Rattle.dkg_dealing.proofs.Kept.{above_committed, above_itself, above_pruned, above_same, gives_pruned, moved_none, moved_then}
+use Rattle.dkg_life.proofs.Kept.{above_committed, above_itself, above_pruned, above_same, gives_pruned, moved_none, moved_then}
 use Rattle.dkg_dealing.proofs.Placing.{drawn_up, steady_committed, steady_drawn, steady_pruned, steady_read, steady_rest, steady_then}
-use Rattle.dkg_dealing.proofs.Said.{nothing_held, speaks_tells}
-use Rattle.dkg_dealing.proofs.Seated.{on_ok}
+use Rattle.dkg_life.proofs.Said.{nothing_held, speaks_tells}
+use Rattle.dkg_life.proofs.Seated.{on_ok}
 use Rattle.dkg_dealing.proofs.SettingUp.{commit_ended, commit_unsaid, draw_ended, draw_said, drawing, judge_failed, passed_over, prune_ended, prune_unsaid, secrets_ended, secrets_told, secrets_unsaid}
 use Rattle.dkg_dealing.proofs.setup.set_up_by.Goals as goal
 

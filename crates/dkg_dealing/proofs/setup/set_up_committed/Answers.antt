@@ -5,17 +5,17 @@ use Rattle.std.specs.Int.NonZero.{non_zero_u32_get, non_zero_u64_get}
 use Rattle.std.proofs.lemmas.Result.{err_from_is_err_and}
 use Rattle.dkg_types.specs.declared.fault.Fault.TheVariants.{HeightRange}
 use Rattle.dkg_core.specs.Setup as setup
-use Rattle.dkg_dealing.specs.declared.life.Life.{Life}
-use Rattle.dkg_dealing.specs.declared.stop.Stop.TheVariants.{Fault as Faulted}
-use Rattle.dkg_dealing.specs.Ends.{by_stop, ends_in}
-use Rattle.dkg_dealing.specs.LiveOf.{live_of}
+use Rattle.dkg_life.specs.declared.life.Life.{Life}
+use Rattle.dkg_life.specs.declared.stop.Stop.TheVariants.{Fault as Faulted}
+use Rattle.dkg_life.specs.Ends.{by_stop, ends_in}
+use Rattle.dkg_life.specs.LiveOf.{live_of}
 use Rattle.dkg_dealing.proofs.OpeningCourses.{makes_as, tells_as}
-use Rattle.dkg_dealing.proofs.Beside.{beside_as, none_beside}
-use Rattle.dkg_dealing.proofs.Burning.{speaks_makes}
-use Rattle.dkg_dealing.proofs.Kept.{moved_none}
+use Rattle.dkg_life.proofs.Beside.{beside_as, none_beside}
+use Rattle.dkg_life.proofs.Burning.{speaks_makes}
+use Rattle.dkg_life.proofs.Kept.{moved_none}
 use Rattle.dkg_dealing.proofs.Placing.{by_committed, past_range, set_up_ready, stands_there, then_ok}
-use Rattle.dkg_dealing.proofs.Said.{nothing_held, speaks_tells}
-use Rattle.dkg_dealing.proofs.Speaking.{stops_speaks}
+use Rattle.dkg_life.proofs.Said.{nothing_held, speaks_tells}
+use Rattle.dkg_life.proofs.Speaking.{stops_speaks}
 use Rattle.dkg_dealing.proofs.setup.set_up_committed.Goals as goal
 
 pub returns-in_err-bounds-clause-acts : goal.returns-in_err-bounds-clause-acts

@@ -2,8 +2,8 @@ use Rattle.std.proofs.Common.{◌-◌, ◌∙◌, arith, ap, sym}
 use Rattle.std.specs.FinMap.{get}
 use Rattle.dkg_secrets.specs.Secrets.{Secrets}
 use Rattle.dkg_dealing.proofs.Calls.{moved_called}
-use Rattle.dkg_dealing.proofs.Kept.{moved_then}
-use Rattle.dkg_dealing.proofs.Newest.{newest_is, newest_none, none_from}
+use Rattle.dkg_life.proofs.Kept.{moved_then}
+use Rattle.dkg_life.proofs.Newest.{newest_is, newest_none, none_from}
 use Rattle.dkg_dealing.proofs.setup.share_below.Goals as goal
 
 pub returns-in_err-share-clause-moved : goal.returns-in_err-share-clause-moved

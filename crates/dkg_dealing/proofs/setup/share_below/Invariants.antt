@@ -1,7 +1,7 @@
 use Rattle.std.proofs.Common.{◌≡◌, ℕ, ◌<◌, ◌≤◌, None}
 use Rattle.std.specs.Prelude.{IsTrue}
 use Rattle.std.specs.FinMap.{get}
-use Rattle.dkg_dealing.specs.Moved.{Moved}
+use Rattle.dkg_life.specs.Moved.{Moved}
 use Rattle.dkg_dealing.proofs.setup.share_below.Given as goal
 
 abbrev pub invariant-loop-below : goal.invariant-loop-below

@@ -8,10 +8,10 @@ use Rattle.dkg_core.specs.Live.{VerifiedLogs}
 use Rattle.dkg_inclusion.specs.Derived.{follows_with}
 use Rattle.dkg_inclusion.specs.Including.{derives_in}
 use Rattle.dkg_inclusion.specs.InclusionOf.{result_of, verified_of}
-use Rattle.dkg_dealing.specs.Steps.{IsFaultOrWant}
+use Rattle.dkg_life.specs.Steps.{IsFaultOrWant}
 use Rattle.dkg_inclusion.proofs.Caching.{info_is, own_unprovided}
 use Rattle.dkg_inclusion.proofs.Derived.{derived_made, derived_told, for_info_made, for_info_told, is_provided, mismatch_is, mismatch_made, mismatch_told, one_value, refused_info, unprovided_is, unprovided_made, unprovided_told, unread_made, unread_told, want_made, want_told}
-use Rattle.dkg_dealing.proofs.Kept.{moved_none}
+use Rattle.dkg_life.proofs.Kept.{moved_none}
 use Rattle.dkg_inclusion.proofs.artifacts.derive.Goals as goal
 
 pub returns-in_err-info-clause-acts : goal.returns-in_err-info-clause-acts

@@ -1,11 +1,11 @@
 use Rattle.std.proofs.Common.{true, false, refl, sym, ◌∙◌}
 use Rattle.std.specs.Int.NonZero.{non_zero_u64_get}
-use Rattle.dkg_dealing.specs.LiveOf.{live_of}
+use Rattle.dkg_life.specs.LiveOf.{live_of}
 use Rattle.dkg_inclusion.proofs.Asked.{alone_beside, cancels_at, others_beside, ready_withdrawn, seen_withdrawn, settled_alone}
 use Rattle.dkg_inclusion.proofs.Asking.{MakesOver, TellsOver, joined_as, seen_nobody}
-use Rattle.dkg_dealing.proofs.Burning.{makes_nothing}
-use Rattle.dkg_dealing.proofs.Committing.{goes_told}
-use Rattle.dkg_dealing.proofs.Kept.{moved_none}
+use Rattle.dkg_life.proofs.Burning.{makes_nothing}
+use Rattle.dkg_life.proofs.Committing.{goes_told}
+use Rattle.dkg_life.proofs.Kept.{moved_none}
 use Rattle.dkg_inclusion.proofs.Telling.{ends_with}
 use Rattle.dkg_inclusion.proofs.Within.{within_as, within_behind}
 use Rattle.dkg_inclusion.proofs.Looking.{looked}

@@ -6,10 +6,10 @@ use Rattle.dkg_store.specs.Acts.{by_want}
 use Rattle.dkg_store.specs.declared.call.StoreError.TheVariants.{NoMemory as Wanting}
 use Rattle.dkg_inclusion.specs.Including.{feeds_hand}
 use Rattle.dkg_inclusion.proofs.Asking.{MakesOver, TellsOver, joined_as}
-use Rattle.dkg_dealing.proofs.Burning.{makes_none}
-use Rattle.dkg_dealing.proofs.Kept.{moved_none}
+use Rattle.dkg_life.proofs.Burning.{makes_none}
+use Rattle.dkg_life.proofs.Kept.{moved_none}
 use Rattle.dkg_inclusion.proofs.Requesting.{block_answers, block_goes, feeding}
-use Rattle.dkg_dealing.proofs.Said.{said_none}
+use Rattle.dkg_life.proofs.Said.{said_none}
 use Rattle.dkg_inclusion.proofs.Telling.{ends_beside}
 use Rattle.dkg_inclusion.proofs.Within.{within_as, within_behind}
 use Rattle.dkg_inclusion.proofs.Looking.{looked}

@@ -5,12 +5,12 @@ use Rattle.dkg_artifact.specs.declared.job.Job.{Job}
 use Rattle.dkg_core.specs.Including as including
 use Rattle.dkg_core.specs.Live as core
 use Rattle.dkg_inclusion.specs.InclusionOf.{job_of, result_of}
-use Rattle.dkg_dealing.specs.LiveOf.{live_of}
+use Rattle.dkg_life.specs.LiveOf.{live_of}
 use Rattle.dkg_inclusion.proofs.Asking.{MakesOver, TellsOver, joined_as, makes_joins, tells_joins, works_by}
-use Rattle.dkg_dealing.proofs.Blamed.{blamed_behind}
-use Rattle.dkg_dealing.proofs.Burning.{makes_nothing}
-use Rattle.dkg_dealing.proofs.Committing.{goes_told}
-use Rattle.dkg_dealing.proofs.Kept.{moved_none, moved_then}
+use Rattle.dkg_life.proofs.Blamed.{blamed_behind}
+use Rattle.dkg_life.proofs.Burning.{makes_nothing}
+use Rattle.dkg_life.proofs.Committing.{goes_told}
+use Rattle.dkg_life.proofs.Kept.{moved_none, moved_then}
 use Rattle.dkg_inclusion.proofs.Staying.{includes_on}
 use Rattle.dkg_inclusion.proofs.Telling.{ends_beside}
 use Rattle.dkg_inclusion.proofs.Within.{within_as, within_then}

@@ -3,12 +3,12 @@ use Rattle.std.proofs.lemmas.List.{nil_from_length}
 use Rattle.std.proofs.lemmas.Result.{err_from_is_err_and}
 use Rattle.std.specs.Prelude.{IsSome}
 use Rattle.std.specs.Int.NonZero.{non_zero_u64_get}
-use Rattle.dkg_dealing.specs.LiveOf.{live_of}
+use Rattle.dkg_life.specs.LiveOf.{live_of}
 use Rattle.dkg_inclusion.proofs.Asking.{MakesOver, TellsOver, behind_length, front_length, makes_joins, no_more, one_more, stopped_at, tells_joins}
-use Rattle.dkg_dealing.proofs.Blamed.{caused_behind}
-use Rattle.dkg_dealing.proofs.Burning.{makes_nothing}
-use Rattle.dkg_dealing.proofs.Committing.{goes_told}
-use Rattle.dkg_dealing.proofs.Kept.{moved_none, moved_then}
+use Rattle.dkg_life.proofs.Blamed.{caused_behind}
+use Rattle.dkg_life.proofs.Burning.{makes_nothing}
+use Rattle.dkg_life.proofs.Committing.{goes_told}
+use Rattle.dkg_life.proofs.Kept.{moved_none, moved_then}
 use Rattle.dkg_inclusion.proofs.Requesting.{settled_waits}
 use Rattle.dkg_inclusion.proofs.Staying.{includes_on}
 use Rattle.dkg_inclusion.proofs.Telling.{ends_beside}

@@ -6,14 +6,14 @@ use Rattle.dkg_store.specs.Acts.{by_want}
 use Rattle.dkg_store.specs.declared.call.StoreError.TheVariants.{NoMemory as Wanting}
 use Rattle.dkg_inclusion.specs.declared.inclusion.Inclusion.{Inclusion}
 use Rattle.dkg_inclusion.specs.Including.{behind_first, fed_of, on_fed}
-use Rattle.dkg_dealing.specs.LiveOf.{live_of}
+use Rattle.dkg_life.specs.LiveOf.{live_of}
 use Rattle.dkg_inclusion.proofs.Advancing.{waits_next}
 use Rattle.dkg_inclusion.proofs.Asking.{MakesOver, TellsOver, answered_next, behind_it, joined_as, needed_next, roundless_next, seen_held, seen_popped, seen_requests}
-use Rattle.dkg_dealing.proofs.Burning.{makes_none, makes_nothing}
-use Rattle.dkg_dealing.proofs.Committing.{goes_told, in_any}
-use Rattle.dkg_dealing.proofs.Kept.{moved_none}
+use Rattle.dkg_life.proofs.Burning.{makes_none, makes_nothing}
+use Rattle.dkg_life.proofs.Committing.{goes_told, in_any}
+use Rattle.dkg_life.proofs.Kept.{moved_none}
 use Rattle.dkg_inclusion.proofs.Requesting.{settled_waits}
-use Rattle.dkg_dealing.proofs.Said.{said_none}
+use Rattle.dkg_life.proofs.Said.{said_none}
 use Rattle.dkg_inclusion.proofs.Scans.{needs_is}
 use Rattle.dkg_inclusion.proofs.Staying.{at_none, none_of, ready_held, ready_requests, some_is, unless_none}
 use Rattle.dkg_inclusion.proofs.Telling.{ends_beside}

@@ -5,16 +5,16 @@ use Rattle.dkg_types.specs.declared.fault.Fault.TheVariants.{NoMemory}
 use Rattle.dkg_store.specs.Acts.{went}
 use Rattle.dkg_store.specs.declared.store.Store.{Store}
 use Rattle.dkg_core.specs.Including as including
-use Rattle.dkg_dealing.specs.declared.stop.Stop.TheVariants.{Fault as Faulted}
-use Rattle.dkg_dealing.specs.Ends.{by_stop}
+use Rattle.dkg_life.specs.declared.stop.Stop.TheVariants.{Fault as Faulted}
+use Rattle.dkg_life.specs.Ends.{by_stop}
 use Rattle.dkg_inclusion.specs.InclusionOf.{result_of}
-use Rattle.dkg_dealing.specs.LiveOf.{live_of}
-use Rattle.dkg_dealing.proofs.Burning.{speaks_makes}
+use Rattle.dkg_life.specs.LiveOf.{live_of}
+use Rattle.dkg_life.proofs.Burning.{speaks_makes}
 use Rattle.dkg_inclusion.proofs.Completed.{answered_beside, ended_makes, ended_told}
 use Rattle.dkg_inclusion.proofs.Completing.{alone_speaks, forgotten_makes, forgotten_told, includes_now, middle_now, seen_answered, unanswered_makes, unanswered_told}
-use Rattle.dkg_dealing.proofs.Kept.{moved_none}
-use Rattle.dkg_dealing.proofs.Said.{speaks_tells}
-use Rattle.dkg_dealing.proofs.Speaking.{wants_speaks}
+use Rattle.dkg_life.proofs.Kept.{moved_none}
+use Rattle.dkg_life.proofs.Said.{speaks_tells}
+use Rattle.dkg_life.proofs.Speaking.{wants_speaks}
 use Rattle.dkg_inclusion.proofs.Telling.{ends_beside}
 use Rattle.dkg_inclusion.proofs.Within.{within_as}
 use Rattle.dkg_inclusion.proofs.Looking.{looked}

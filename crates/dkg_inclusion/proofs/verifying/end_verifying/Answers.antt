@@ -4,16 +4,16 @@ use Rattle.std.specs.Prelude.{option_map}
 use Rattle.std.proofs.lemmas.Result.{err_from_is_err_and}
 use Rattle.dkg_types.specs.declared.fault.Fault.TheVariants.{NoMemory}
 use Rattle.dkg_core.specs.Including as including
-use Rattle.dkg_dealing.specs.declared.stop.Stop.TheVariants.{Fault as Faulted}
-use Rattle.dkg_dealing.specs.Ends.{by_stop}
+use Rattle.dkg_life.specs.declared.stop.Stop.TheVariants.{Fault as Faulted}
+use Rattle.dkg_life.specs.Ends.{by_stop}
 use Rattle.dkg_inclusion.specs.InclusionOf.{job_of, result_of}
-use Rattle.dkg_dealing.specs.LiveOf.{live_of}
-use Rattle.dkg_dealing.proofs.Burning.{speaks_makes}
-use Rattle.dkg_dealing.proofs.Committing.{same_made, same_told}
+use Rattle.dkg_life.specs.LiveOf.{live_of}
+use Rattle.dkg_life.proofs.Burning.{speaks_makes}
+use Rattle.dkg_life.proofs.Committing.{same_made, same_told}
 use Rattle.dkg_inclusion.proofs.Completing.{one_ends}
-use Rattle.dkg_dealing.proofs.Kept.{moved_none}
-use Rattle.dkg_dealing.proofs.Said.{speaks_tells}
-use Rattle.dkg_dealing.proofs.Speaking.{wants_speaks}
+use Rattle.dkg_life.proofs.Kept.{moved_none}
+use Rattle.dkg_life.proofs.Said.{speaks_tells}
+use Rattle.dkg_life.proofs.Speaking.{wants_speaks}
 use Rattle.dkg_inclusion.proofs.Telling.{ends_beside}
 use Rattle.dkg_inclusion.proofs.Verified.{result_is}
 use Rattle.dkg_inclusion.proofs.Within.{within_as}

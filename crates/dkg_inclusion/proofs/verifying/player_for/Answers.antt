@@ -2,7 +2,7 @@ use Rattle.std.proofs.Common.{◌≡◌, true, None, Contains, is_some, sym, ◌
 use Rattle.dkg_ceremony.specs.declared.round.RoundParts.{RoundParts as Round}
 use Rattle.dkg_store.specs.Recorded.{first_refused, of_epoch}
 use Rattle.dkg_core.specs.Fixed.{has}
-use Rattle.dkg_dealing.proofs.Seated.{at_some}
+use Rattle.dkg_life.proofs.Seated.{at_some}
 use Rattle.dkg_inclusion.proofs.Verified.{dealings_here, lacking, lacking_passes, passes_here, runs_alone, runs_seated, seated, seated_passes, some_at}
 use Rattle.dkg_inclusion.proofs.verifying.player_for.Goals as goal
 use Rattle.dkg_inclusion.proofs.verifying.player_for.Goals.{in-None, in-Some+in_ok-dealings-in-Some}

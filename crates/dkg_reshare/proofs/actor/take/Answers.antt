@@ -5,18 +5,18 @@ use Rattle.dkg_types.specs.declared.info.EpochInfo.{EpochInfo}
 use Rattle.dkg_store.specs.Acts.{went}
 use Rattle.dkg_core.specs.Courses.{Goes}
 use Rattle.dkg_core.specs.Including as including
-use Rattle.dkg_dealing.specs.declared.life.Life.{Life}
-use Rattle.dkg_dealing.specs.Ends.{ends_in}
-use Rattle.dkg_dealing.specs.LiveOf.{live_of}
-use Rattle.dkg_dealing.proofs.Beside.{none_with, took_none, took_nothing, with_as}
+use Rattle.dkg_life.specs.declared.life.Life.{Life}
+use Rattle.dkg_life.specs.Ends.{ends_in}
+use Rattle.dkg_life.specs.LiveOf.{live_of}
+use Rattle.dkg_life.proofs.Beside.{none_with, took_none, took_nothing, with_as}
 use Rattle.dkg_reshare.proofs.Blaming.{result_caused, want_caused}
-use Rattle.dkg_dealing.proofs.Burning.{speaks_makes}
+use Rattle.dkg_life.proofs.Burning.{speaks_makes}
 use Rattle.dkg_inclusion.proofs.Included.{released_live, released_settled, served_settled, stays_settled}
-use Rattle.dkg_dealing.proofs.Kept.{moved_none}
+use Rattle.dkg_life.proofs.Kept.{moved_none}
 use Rattle.dkg_dealing.proofs.Read.{heard_bytes, heard_told}
-use Rattle.dkg_dealing.proofs.Said.{speaks_tells}
-use Rattle.dkg_dealing.proofs.Seated.{on_ok}
-use Rattle.dkg_dealing.proofs.Speaking.{goes_speaks}
+use Rattle.dkg_life.proofs.Said.{speaks_tells}
+use Rattle.dkg_life.proofs.Seated.{on_ok}
+use Rattle.dkg_life.proofs.Speaking.{goes_speaks}
 use Rattle.dkg_reshare.proofs.actor.take.Goals as goal
 
 pub returns-in-Peer-clause-acts : goal.returns-in-Peer-clause-acts

@@ -1,13 +1,13 @@
 use Rattle.std.proofs.Common.{◌≡◌, ap, refl, sym, ◌∙◌}
 use Rattle.std.specs.Int.NonZero.{non_zero_u64_get}
 use Rattle.dkg_core.specs.Blocks as blocks
-use Rattle.dkg_dealing.specs.declared.life.Stage.{Stage}
-use Rattle.dkg_dealing.specs.declared.life.Stage.TheVariants.{Dealing, Following}
-use Rattle.dkg_dealing.specs.LiveOf.{live_of, stage_of}
+use Rattle.dkg_life.specs.declared.life.Stage.{Stage}
+use Rattle.dkg_life.specs.declared.life.Stage.TheVariants.{Dealing, Following}
+use Rattle.dkg_life.specs.LiveOf.{live_of, stage_of}
 use Rattle.dkg_dealing.proofs.OpeningCourses.{makes_as, tells_as}
-use Rattle.dkg_dealing.proofs.Beside.{took_nothing, with_as}
+use Rattle.dkg_life.proofs.Beside.{took_nothing, with_as}
 use Rattle.dkg_reshare.proofs.Blaming.{result_caused}
-use Rattle.dkg_dealing.proofs.Seated.{on_ok}
+use Rattle.dkg_life.proofs.Seated.{on_ok}
 use Rattle.dkg_reshare.proofs.Standing.{is_early, is_next, its_epoch}
 use Rattle.dkg_reshare.proofs.blocks.apply.Goals as goal
 

@@ -3,22 +3,22 @@ use Rattle.std.specs.Prelude.{◌==◌, IsSome}
 use Rattle.std.proofs.lemmas.Result.{err_from_is_err_and}
 use Rattle.std.specs.Int.NonZero.{non_zero_u64_get}
 use Rattle.dkg_types.specs.declared.info.EpochInfo.{EpochInfo}
-use Rattle.dkg_dealing.specs.declared.life.Life.{Life}
-use Rattle.dkg_dealing.specs.declared.life.Stage.{Stage}
-use Rattle.dkg_dealing.specs.declared.life.Stage.TheVariants.{Dealing, Including}
+use Rattle.dkg_life.specs.declared.life.Life.{Life}
+use Rattle.dkg_life.specs.declared.life.Stage.{Stage}
+use Rattle.dkg_life.specs.declared.life.Stage.TheVariants.{Dealing, Including}
 use Rattle.dkg_store.specs.Acts.{went}
-use Rattle.dkg_dealing.specs.Ends.{by_stop, ends_in}
-use Rattle.dkg_dealing.specs.LiveOf.{live_of}
+use Rattle.dkg_life.specs.Ends.{by_stop, ends_in}
+use Rattle.dkg_life.specs.LiveOf.{live_of}
 use Rattle.dkg_reshare.proofs.Applying.{dealing_ended, ends_offers, goes_on, offered_makes, offered_told, unoffered_makes, unoffered_told, unserving}
 use Rattle.dkg_dealing.proofs.OpeningCourses.{makes_as, tells_as}
-use Rattle.dkg_dealing.proofs.Beside.{none_with, with_as}
-use Rattle.dkg_dealing.proofs.Blamed.{blamed_behind}
-use Rattle.dkg_dealing.proofs.Burning.{speaks_makes}
+use Rattle.dkg_life.proofs.Beside.{none_with, with_as}
+use Rattle.dkg_life.proofs.Blamed.{blamed_behind}
+use Rattle.dkg_life.proofs.Burning.{speaks_makes}
 use Rattle.dkg_inclusion.proofs.Included.{apart_settled, begun_ready, seen_served}
-use Rattle.dkg_dealing.proofs.Kept.{moved_then}
+use Rattle.dkg_life.proofs.Kept.{moved_then}
 use Rattle.dkg_reshare.proofs.Readying.{middle_at, ready_dealing, ready_including, to_sign}
-use Rattle.dkg_dealing.proofs.Said.{speaks_tells}
-use Rattle.dkg_dealing.proofs.Speaking.{wants_speaks}
+use Rattle.dkg_life.proofs.Said.{speaks_tells}
+use Rattle.dkg_life.proofs.Speaking.{wants_speaks}
 use Rattle.dkg_reshare.proofs.blocks.apply_dealing.Goals as goal
 
 pub returns-in_err-deal-clause-acts : goal.returns-in_err-deal-clause-acts

@@ -8,18 +8,18 @@ use Rattle.dkg_ceremony.specs.Schedule.{epoch_of, last}
 use Rattle.dkg_ceremony.specs.declared.epocher.Bounds.{Bounds}
 use Rattle.dkg_store.specs.Acts.{by_want}
 use Rattle.dkg_store.specs.declared.call.StoreError.TheVariants.{NoMemory as Wanting}
-use Rattle.dkg_dealing.specs.declared.life.Stage.{Stage}
-use Rattle.dkg_dealing.specs.declared.life.Stage.TheVariants.{Including, Following}
-use Rattle.dkg_dealing.specs.LiveOf.{live_of}
+use Rattle.dkg_life.specs.declared.life.Stage.{Stage}
+use Rattle.dkg_life.specs.declared.life.Stage.TheVariants.{Including, Following}
+use Rattle.dkg_life.specs.LiveOf.{live_of}
 use Rattle.dkg_dealing.proofs.OpeningCourses.{makes_as, tells_as}
-use Rattle.dkg_dealing.proofs.Beside.{none_with, took_nothing, with_as}
+use Rattle.dkg_life.proofs.Beside.{none_with, took_nothing, with_as}
 use Rattle.dkg_reshare.proofs.Blaming.{result_caused}
-use Rattle.dkg_dealing.proofs.Burning.{makes_none}
+use Rattle.dkg_life.proofs.Burning.{makes_none}
 use Rattle.dkg_reshare.proofs.Applied.{is_final, its_round, not_final}
 use Rattle.dkg_inclusion.proofs.Included.{back_idle, back_ready, seen_back}
-use Rattle.dkg_dealing.proofs.Kept.{moved_none}
-use Rattle.dkg_dealing.proofs.Said.{said_none}
-use Rattle.dkg_dealing.proofs.Seated.{on_ok}
+use Rattle.dkg_life.proofs.Kept.{moved_none}
+use Rattle.dkg_life.proofs.Said.{said_none}
+use Rattle.dkg_life.proofs.Seated.{on_ok}
 use Rattle.dkg_reshare.proofs.Standing.{next_inside}
 use Rattle.dkg_reshare.proofs.blocks.apply_included.Goals as goal
 

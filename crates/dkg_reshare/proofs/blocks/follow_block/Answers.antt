@@ -7,23 +7,23 @@ use Rattle.std.specs.Int.NonZero.{non_zero_u64_get}
 use Rattle.dkg_store.specs.Acts.{went}
 use Rattle.dkg_core.specs.Blocks as blocks
 use Rattle.dkg_core.specs.Live.{with_tip}
-use Rattle.dkg_dealing.specs.declared.stop.Stop.TheVariants.{Fault as Faulted}
-use Rattle.dkg_dealing.specs.Ends.{by_stop, ends_in}
+use Rattle.dkg_life.specs.declared.stop.Stop.TheVariants.{Fault as Faulted}
+use Rattle.dkg_life.specs.Ends.{by_stop, ends_in}
 use Rattle.dkg_inclusion.specs.InclusionOf.{IsSeen}
-use Rattle.dkg_dealing.specs.LiveOf.{live_of}
-use Rattle.dkg_dealing.specs.declared.life.Stage.{Stage}
-use Rattle.dkg_dealing.specs.declared.life.Stage.TheVariants.{Including, Following}
+use Rattle.dkg_life.specs.LiveOf.{live_of}
+use Rattle.dkg_life.specs.declared.life.Stage.{Stage}
+use Rattle.dkg_life.specs.declared.life.Stage.TheVariants.{Including, Following}
 use Rattle.dkg_reshare.proofs.Applying.{at_its_last, before_last, carried_caused, carried_next, follows_anew, not_carried, tipped}
 use Rattle.dkg_dealing.proofs.OpeningCourses.{makes_as, tells_as}
-use Rattle.dkg_dealing.proofs.Beside.{emptied, emptied_fresh, none_with, then_well, took_none, with_in}
-use Rattle.dkg_dealing.proofs.Burning.{speaks_makes}
-use Rattle.dkg_dealing.proofs.Caused.{caused_around}
-use Rattle.dkg_dealing.proofs.Committing.{in_any}
+use Rattle.dkg_life.proofs.Beside.{emptied, emptied_fresh, none_with, then_well, took_none, with_in}
+use Rattle.dkg_life.proofs.Burning.{speaks_makes}
+use Rattle.dkg_life.proofs.Caused.{caused_around}
+use Rattle.dkg_life.proofs.Committing.{in_any}
 use Rattle.dkg_inclusion.proofs.Included.{anew_settled, apart_settled, seen_anew}
-use Rattle.dkg_dealing.proofs.Kept.{moved_none}
+use Rattle.dkg_life.proofs.Kept.{moved_none}
 use Rattle.dkg_reshare.proofs.Readying.{ready_following}
-use Rattle.dkg_dealing.proofs.Said.{speaks_tells}
-use Rattle.dkg_dealing.proofs.Speaking.{goes_speaks}
+use Rattle.dkg_life.proofs.Said.{speaks_tells}
+use Rattle.dkg_life.proofs.Speaking.{goes_speaks}
 use Rattle.dkg_reshare.proofs.Standing.{behind_last, epoch_below}
 use Rattle.dkg_reshare.proofs.blocks.follow_block.Goals as goal
 

@@ -6,18 +6,18 @@ use Rattle.dkg_types.specs.PayloadCodes.{its_log}
 use Rattle.dkg_types.specs.declared.info.EpochInfo.{EpochInfo}
 use Rattle.dkg_core.specs.Blocks as blocks
 use Rattle.dkg_core.specs.Sources.{Tip}
-use Rattle.dkg_dealing.specs.declared.life.Life.{Life}
-use Rattle.dkg_dealing.specs.Ends.{ends_in}
-use Rattle.dkg_dealing.specs.LiveOf.{awaited_of, live_of}
+use Rattle.dkg_life.specs.declared.life.Life.{Life}
+use Rattle.dkg_life.specs.Ends.{ends_in}
+use Rattle.dkg_life.specs.LiveOf.{awaited_of, live_of}
 use Rattle.dkg_dealing.proofs.OpeningCourses.{makes_as, tells_as}
-use Rattle.dkg_dealing.proofs.Beside.{none_with, with_as}
-use Rattle.dkg_dealing.proofs.Blamed.{blamed_behind}
+use Rattle.dkg_life.proofs.Beside.{none_with, with_as}
+use Rattle.dkg_life.proofs.Blamed.{blamed_behind}
 use Rattle.dkg_reshare.proofs.Applied.{behind_log, log_behind, still_served, unserved_seen, unserving_at}
 use Rattle.dkg_inclusion.proofs.Included.{moved_ready, ready_as}
-use Rattle.dkg_dealing.proofs.Kept.{moved_then}
+use Rattle.dkg_life.proofs.Kept.{moved_then}
 use Rattle.dkg_reshare.proofs.Readying.{ready_at}
 use Rattle.dkg_reshare.proofs.Standing.{placed_included}
-use Rattle.dkg_dealing.proofs.Chained.{early_makes, early_told, then_makes, then_told}
+use Rattle.dkg_life.proofs.Chained.{early_makes, early_told, then_makes, then_told}
 use Rattle.dkg_reshare.proofs.blocks.include.Goals as goal
 
 pub observe-requires : goal.observe-requires

@@ -8,17 +8,17 @@ use Rattle.dkg_types.specs.declared.fault.Fault.{Fault}
 use Rattle.dkg_types.specs.declared.fault.Fault.TheVariants.{HeightRange, OutOfWindow}
 use Rattle.dkg_store.specs.Acts.{went}
 use Rattle.dkg_core.specs.Blocks as blocks
-use Rattle.dkg_dealing.specs.declared.stop.Stop.TheVariants.{Fault as Faulted}
-use Rattle.dkg_dealing.specs.declared.tip.Judged.{Judged}
-use Rattle.dkg_dealing.specs.Ends.{IsCaused, by_stop, ends_in}
-use Rattle.dkg_dealing.specs.LiveOf.{live_of}
-use Rattle.dkg_dealing.specs.Steps.{AreBoundsAt}
+use Rattle.dkg_life.specs.declared.stop.Stop.TheVariants.{Fault as Faulted}
+use Rattle.dkg_life.specs.declared.tip.Judged.{Judged}
+use Rattle.dkg_life.specs.Ends.{IsCaused, by_stop, ends_in}
+use Rattle.dkg_life.specs.LiveOf.{live_of}
+use Rattle.dkg_life.specs.Steps.{AreBoundsAt}
 use Rattle.dkg_dealing.proofs.OpeningCourses.{makes_as, tells_as}
-use Rattle.dkg_dealing.proofs.Beside.{none_with, took_none, with_as}
-use Rattle.dkg_dealing.proofs.Burning.{speaks_makes}
-use Rattle.dkg_dealing.proofs.Caused.{caused_around}
-use Rattle.dkg_dealing.proofs.Kept.{moved_none}
-use Rattle.dkg_dealing.proofs.Said.{speaks_tells}
+use Rattle.dkg_life.proofs.Beside.{none_with, took_none, with_as}
+use Rattle.dkg_life.proofs.Burning.{speaks_makes}
+use Rattle.dkg_life.proofs.Caused.{caused_around}
+use Rattle.dkg_life.proofs.Kept.{moved_none}
+use Rattle.dkg_life.proofs.Said.{speaks_tells}
 use Rattle.dkg_dealing.proofs.Ranges.{lies_at}
 use Rattle.dkg_reshare.proofs.Taking.{is_applied, judged_off, no_range, no_window, refusal_caused, taken_again, taken_new}
 use Rattle.dkg_reshare.proofs.blocks.take_block.Goals as goal

@@ -3,26 +3,26 @@ use Rattle.std.specs.Int.NonZero.{non_zero_u64_get}
 use Rattle.std.proofs.lemmas.Result.{err_from_is_err_and}
 use Rattle.dkg_store.proofs.Counts.{reached_behind}
 use Rattle.dkg_core.specs.Blocks as blocks
-use Rattle.dkg_dealing.specs.declared.life.Life.{Life}
-use Rattle.dkg_dealing.specs.declared.stop.Stop.TheVariants.{Fault as Faulted}
-use Rattle.dkg_dealing.specs.Ends.{by_stop, ends_in}
+use Rattle.dkg_life.specs.declared.life.Life.{Life}
+use Rattle.dkg_life.specs.declared.stop.Stop.TheVariants.{Fault as Faulted}
+use Rattle.dkg_life.specs.Ends.{by_stop, ends_in}
 use Rattle.dkg_inclusion.specs.Including.{derives_final}
 use Rattle.dkg_inclusion.specs.InclusionOf.{artifact_of}
-use Rattle.dkg_dealing.specs.LiveOf.{live_of}
+use Rattle.dkg_life.specs.LiveOf.{live_of}
 use Rattle.dkg_reshare.proofs.Applying.{carried_caused, carried_next, in_word, own_cause}
 use Rattle.dkg_dealing.proofs.OpeningCourses.{makes_as, tells_as}
-use Rattle.dkg_dealing.proofs.Beside.{with_as, with_then}
+use Rattle.dkg_life.proofs.Beside.{with_as, with_then}
 use Rattle.dkg_reshare.proofs.Blaming.{result_caused_by}
-use Rattle.dkg_dealing.proofs.Burning.{speaks_makes}
-use Rattle.dkg_dealing.proofs.Caused.{caused_around, rose_around}
+use Rattle.dkg_life.proofs.Burning.{speaks_makes}
+use Rattle.dkg_life.proofs.Caused.{caused_around, rose_around}
 use Rattle.dkg_reshare.proofs.Applied.{concluded_ill, concluded_well}
 use Rattle.dkg_inclusion.proofs.Deriving.{final_block_is}
-use Rattle.dkg_dealing.proofs.Kept.{moved_then}
+use Rattle.dkg_life.proofs.Kept.{moved_then}
 use Rattle.dkg_reshare.proofs.Readying.{ready_still}
-use Rattle.dkg_dealing.proofs.Said.{speaks_tells}
-use Rattle.dkg_dealing.proofs.Speaking.{stops_speaks}
+use Rattle.dkg_life.proofs.Said.{speaks_tells}
+use Rattle.dkg_life.proofs.Speaking.{stops_speaks}
 use Rattle.dkg_reshare.proofs.Standing.{behind_last, epoch_below}
-use Rattle.dkg_dealing.proofs.Chained.{early_makes, early_told, then_makes, then_told}
+use Rattle.dkg_life.proofs.Chained.{early_makes, early_told, then_makes, then_told}
 use Rattle.dkg_reshare.proofs.blocks.take_final_block.Goals as goal
 
 -- NO ARTIFACT

@@ -1,8 +1,8 @@
 use Rattle.std.proofs.Common.{◌≡◌, None, length}
 use Rattle.dkg_fence.specs.Readiness.{Readiness}
-use Rattle.dkg_dealing.specs.declared.life.Life.{Life}
+use Rattle.dkg_life.specs.declared.life.Life.{Life}
 use Rattle.dkg_inclusion.specs.InclusionOf.{IsSeen}
-use Rattle.dkg_dealing.specs.LiveOf.{Beside}
+use Rattle.dkg_life.specs.LiveOf.{Beside}
 use Rattle.dkg_reshare.proofs.Answering.{IsLeft}
 use Rattle.dkg_reshare.proofs.final_block.answer_all.Given as goal
 

@@ -2,16 +2,16 @@ use Rattle.std.proofs.Common.{refl}
 use Rattle.std.specs.Prelude.{option_map}
 use Rattle.std.proofs.lemmas.Result.{err_from_is_err_and}
 use Rattle.dkg_types.specs.declared.fault.Fault.TheVariants.{NoMemory}
-use Rattle.dkg_dealing.specs.Ends.{by_stop}
+use Rattle.dkg_life.specs.Ends.{by_stop}
 use Rattle.dkg_inclusion.specs.Including.{derives_by}
 use Rattle.dkg_inclusion.specs.InclusionOf.{artifact_of}
-use Rattle.dkg_dealing.specs.LiveOf.{live_of}
-use Rattle.dkg_dealing.specs.declared.stop.Stop.TheVariants.{Fault as Faulted}
+use Rattle.dkg_life.specs.LiveOf.{live_of}
+use Rattle.dkg_life.specs.declared.stop.Stop.TheVariants.{Fault as Faulted}
 use Rattle.dkg_dealing.proofs.OpeningCourses.{makes_as, tells_as}
 use Rattle.dkg_reshare.proofs.Concluding.{by_before, by_cache, by_neither, goes_makes, goes_tells, wants_makes}
-use Rattle.dkg_dealing.proofs.Kept.{moved_none}
-use Rattle.dkg_dealing.proofs.Said.{speaks_tells}
-use Rattle.dkg_dealing.proofs.Speaking.{wants_speaks}
+use Rattle.dkg_life.proofs.Kept.{moved_none}
+use Rattle.dkg_life.proofs.Said.{speaks_tells}
+use Rattle.dkg_life.proofs.Speaking.{wants_speaks}
 use Rattle.dkg_inclusion.proofs.Telling.{ends_beside}
 use Rattle.dkg_inclusion.proofs.Within.{within_as}
 use Rattle.dkg_inclusion.proofs.Looking.{looked}

@@ -4,20 +4,20 @@ use Rattle.std.specs.Int.NonZero.{non_zero_u64_get}
 use Rattle.std.proofs.lemmas.Result.{err_from_is_err_and}
 use Rattle.dkg_core.specs.Including as including
 use Rattle.dkg_types.specs.declared.fault.Fault.TheVariants.{NoMemory}
-use Rattle.dkg_dealing.specs.Ends.{by_stop}
-use Rattle.dkg_dealing.specs.declared.stop.Stop.TheVariants.{Fault as Faulted}
+use Rattle.dkg_life.specs.Ends.{by_stop}
+use Rattle.dkg_life.specs.declared.stop.Stop.TheVariants.{Fault as Faulted}
 use Rattle.dkg_inclusion.specs.Including.{derives_by, derives_final}
 use Rattle.dkg_inclusion.specs.InclusionOf.{artifact_of}
-use Rattle.dkg_dealing.specs.LiveOf.{live_of}
-use Rattle.dkg_dealing.specs.declared.life.Life.{Life}
+use Rattle.dkg_life.specs.LiveOf.{live_of}
+use Rattle.dkg_life.specs.declared.life.Life.{Life}
 use Rattle.dkg_dealing.proofs.OpeningCourses.{makes_as, tells_as}
-use Rattle.dkg_dealing.proofs.Beside.{then_well, with_then}
-use Rattle.dkg_dealing.proofs.Blamed.{blamed_behind}
-use Rattle.dkg_dealing.proofs.Chained.{early_makes, early_told, then_makes, then_told}
+use Rattle.dkg_life.proofs.Beside.{then_well, with_then}
+use Rattle.dkg_life.proofs.Blamed.{blamed_behind}
+use Rattle.dkg_life.proofs.Chained.{early_makes, early_told, then_makes, then_told}
 use Rattle.dkg_reshare.proofs.Concluding.{derived_ready, final_as, middle_in, not_following, provides_then, wants_makes}
-use Rattle.dkg_dealing.proofs.Kept.{moved_none, moved_then}
-use Rattle.dkg_dealing.proofs.Said.{speaks_tells}
-use Rattle.dkg_dealing.proofs.Speaking.{wants_speaks}
+use Rattle.dkg_life.proofs.Kept.{moved_none, moved_then}
+use Rattle.dkg_life.proofs.Said.{speaks_tells}
+use Rattle.dkg_life.proofs.Speaking.{wants_speaks}
 use Rattle.dkg_inclusion.proofs.Telling.{ends_beside}
 use Rattle.dkg_inclusion.proofs.Within.{within_as}
 use Rattle.dkg_inclusion.proofs.Looking.{looked, looked_then}

@@ -8,12 +8,12 @@ use Rattle.dkg_core.specs.Including as including
 use Rattle.dkg_types.specs.declared.fault.Fault.TheVariants.{NoMemory}
 use Rattle.dkg_inclusion.specs.Including.{caching}
 use Rattle.dkg_inclusion.specs.InclusionOf.{artifact_of, cached_of, result_of}
-use Rattle.dkg_dealing.specs.LiveOf.{live_of}
-use Rattle.dkg_dealing.specs.declared.stop.Stop.TheVariants.{Fault as Faulted}
-use Rattle.dkg_dealing.proofs.Beside.{with_then}
-use Rattle.dkg_dealing.proofs.Blamed.{caused_more}
+use Rattle.dkg_life.specs.LiveOf.{live_of}
+use Rattle.dkg_life.specs.declared.stop.Stop.TheVariants.{Fault as Faulted}
+use Rattle.dkg_life.proofs.Beside.{with_then}
+use Rattle.dkg_life.proofs.Blamed.{caused_more}
 use Rattle.dkg_reshare.proofs.Concluding.{and_some, canonical_is, finds_by, has_round, kept_makes, kept_told, middle_in, none_apart, uncopied_makes, uncopied_told, unkept_makes, unkept_told, unseen_makes, unseen_told}
-use Rattle.dkg_dealing.proofs.Kept.{moved_none}
+use Rattle.dkg_life.proofs.Kept.{moved_none}
 use Rattle.dkg_inclusion.proofs.Keeping.{cached_there}
 use Rattle.dkg_inclusion.proofs.Telling.{ends_with, seen_cached}
 use Rattle.dkg_inclusion.proofs.Within.{within_as}

@@ -4,19 +4,19 @@ use Rattle.std.proofs.lemmas.Result.{err_from_is_err_and}
 use Rattle.dkg_ceremony.specs.Schedule.{epoch_of}
 use Rattle.dkg_core.specs.Blocks as blocks
 use Rattle.dkg_core.specs.Sources.{Tip}
-use Rattle.dkg_dealing.specs.Ends.{by_stop}
-use Rattle.dkg_dealing.specs.LiveOf.{live_of}
+use Rattle.dkg_life.specs.Ends.{by_stop}
+use Rattle.dkg_life.specs.LiveOf.{live_of}
 use Rattle.dkg_store.specs.Acts.{went}
 use Rattle.dkg_reshare.proofs.Applying.{can_read}
 use Rattle.dkg_dealing.proofs.OpeningCourses.{makes_as, tells_as}
-use Rattle.dkg_dealing.proofs.Beside.{emptied, emptied_fresh, then_well, with_as, with_in, with_then}
-use Rattle.dkg_dealing.proofs.Burning.{speaks_makes}
-use Rattle.dkg_dealing.proofs.Chained.{early_makes, early_told, then_makes, then_told}
-use Rattle.dkg_dealing.proofs.Committing.{in_any}
+use Rattle.dkg_life.proofs.Beside.{emptied, emptied_fresh, then_well, with_as, with_in, with_then}
+use Rattle.dkg_life.proofs.Burning.{speaks_makes}
+use Rattle.dkg_life.proofs.Chained.{early_makes, early_told, then_makes, then_told}
+use Rattle.dkg_life.proofs.Committing.{in_any}
 use Rattle.dkg_inclusion.proofs.Included.{anew_settled, seen_anew}
-use Rattle.dkg_dealing.proofs.Kept.{moved_none}
+use Rattle.dkg_life.proofs.Kept.{moved_none}
 use Rattle.dkg_reshare.proofs.PassingOn.{passes_as, sets_up, sets_up_anew}
-use Rattle.dkg_dealing.proofs.Said.{speaks_tells}
+use Rattle.dkg_life.proofs.Said.{speaks_tells}
 use Rattle.dkg_reshare.proofs.final_block.pass_on.Goals as goal
 
 pub set_up_committed-requires-clause-open : goal.set_up_committed-requires-clause-open

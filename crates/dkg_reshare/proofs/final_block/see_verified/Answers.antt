@@ -1,9 +1,9 @@
 use Rattle.std.proofs.Common.{◌≡◌, is_some, refl, sym, ◌∙◌, true, false, arith}
 use Rattle.std.proofs.lemmas.Grind.{common_steps}
 use Rattle.dkg_inclusion.specs.Concluded.{sees_verified}
-use Rattle.dkg_dealing.specs.LiveOf.{live_of}
+use Rattle.dkg_life.specs.LiveOf.{live_of}
 use Rattle.dkg_reshare.proofs.Concluding.{sees_kept, sees_none}
-use Rattle.dkg_dealing.proofs.Speaking.{goes_speaks}
+use Rattle.dkg_life.proofs.Speaking.{goes_speaks}
 use Rattle.dkg_inclusion.proofs.Telling.{ends_beside}
 use Rattle.dkg_reshare.proofs.final_block.see_verified.Goals as goal
 

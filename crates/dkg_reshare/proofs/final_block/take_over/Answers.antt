@@ -4,18 +4,18 @@ use Rattle.dkg_store.proofs.Counts.{reached_behind}
 use Rattle.dkg_store.specs.Acts.{broken, by_want}
 use Rattle.dkg_core.specs.Blocks as blocks
 use Rattle.dkg_inclusion.specs.InclusionOf.{artifact_of}
-use Rattle.dkg_dealing.specs.LiveOf.{live_of, scheme_by, with_scheme_of}
-use Rattle.dkg_dealing.specs.declared.life.Life.{Life}
+use Rattle.dkg_life.specs.LiveOf.{live_of, scheme_by, with_scheme_of}
+use Rattle.dkg_life.specs.declared.life.Life.{Life}
 use Rattle.dkg_reshare.proofs.Applying.{firm_on, in_word}
 use Rattle.dkg_dealing.proofs.OpeningCourses.{makes_as, tells_as}
-use Rattle.dkg_dealing.proofs.Beside.{then_well, took_then}
+use Rattle.dkg_life.proofs.Beside.{then_well, took_then}
 use Rattle.dkg_reshare.proofs.Blaming.{result_caused_by}
-use Rattle.dkg_dealing.proofs.Burning.{speaks_makes}
-use Rattle.dkg_dealing.proofs.Caused.{caused_around, rose_around}
-use Rattle.dkg_dealing.proofs.Kept.{moved_none, moved_then}
+use Rattle.dkg_life.proofs.Burning.{speaks_makes}
+use Rattle.dkg_life.proofs.Caused.{caused_around, rose_around}
+use Rattle.dkg_life.proofs.Kept.{moved_none, moved_then}
 use Rattle.dkg_reshare.proofs.PassingOn.{seed_told, seed_unread_makes, seed_unread_told, taken_makes, taken_told, taken_with, then_with, untaken_makes, untaken_told}
-use Rattle.dkg_dealing.proofs.Said.{speaks_tells}
-use Rattle.dkg_dealing.proofs.Speaking.{want_speaks}
+use Rattle.dkg_life.proofs.Said.{speaks_tells}
+use Rattle.dkg_life.proofs.Speaking.{want_speaks}
 use Rattle.dkg_inclusion.proofs.Telling.{ends_beside}
 use Rattle.dkg_reshare.proofs.final_block.take_over.Goals as goal
 

@@ -6,10 +6,10 @@ use Rattle.dkg_core.specs.Including as including
 use Rattle.dkg_core.specs.Live as core
 use Rattle.dkg_inclusion.specs.Concluded.{verifies}
 use Rattle.dkg_inclusion.specs.InclusionOf.{IsSeen}
-use Rattle.dkg_dealing.specs.LiveOf.{live_of}
+use Rattle.dkg_life.specs.LiveOf.{live_of}
 use Rattle.dkg_reshare.proofs.Concluding.{checked_logs, found_as, found_live, some_and, unmade_speaks, verified_speaks}
-use Rattle.dkg_dealing.proofs.Seated.{same_some}
-use Rattle.dkg_dealing.proofs.Speaking.{want_speaks}
+use Rattle.dkg_life.proofs.Seated.{same_some}
+use Rattle.dkg_life.proofs.Speaking.{want_speaks}
 use Rattle.dkg_inclusion.proofs.Telling.{ends_beside, ends_with}
 use Rattle.dkg_reshare.proofs.final_block.verify_now.Goals as goal
 

@@ -2,7 +2,7 @@ use Rattle.std.proofs.Common.{◌≡◌, sym, false, ◌∙◌, arith}
 use Rattle.std.specs.Prelude.{◌==◌}
 use Rattle.std.proofs.lemmas.Bool.Decides.{nat_tests}
 use Rattle.std.proofs.lemmas.Grind.{common_steps}
-use Rattle.dkg_dealing.specs.LiveOf.{live_of}
+use Rattle.dkg_life.specs.LiveOf.{live_of}
 use Rattle.dkg_reshare.proofs.Observed.{cleared_other, own_cleared}
 use Rattle.dkg_reshare.proofs.logs.clear_own.Goals as goal
 

@@ -11,13 +11,13 @@ use Rattle.dkg_store.specs.declared.store.Store.{Store}
 use Rattle.dkg_types.specs.PayloadCodes.{its_log}
 use Rattle.dkg_core.specs.Blocks as blocks
 use Rattle.dkg_reshare.specs.CarriedLogs.{cleared_of}
-use Rattle.dkg_dealing.specs.LiveOf.{live_of}
-use Rattle.dkg_dealing.proofs.Burning.{speaks_makes}
-use Rattle.dkg_dealing.proofs.Kept.{moved_none}
+use Rattle.dkg_life.specs.LiveOf.{live_of}
+use Rattle.dkg_life.proofs.Burning.{speaks_makes}
+use Rattle.dkg_life.proofs.Kept.{moved_none}
 use Rattle.dkg_reshare.proofs.Observed.{bare_speaks, counts_as, observed_makes, observed_told, passed_over, ready_logged, unrecorded_makes, unrecorded_told}
-use Rattle.dkg_dealing.proofs.Said.{speaks_tells}
-use Rattle.dkg_dealing.proofs.Seated.{at_some, same_some}
-use Rattle.dkg_dealing.proofs.Speaking.{want_speaks}
+use Rattle.dkg_life.proofs.Said.{speaks_tells}
+use Rattle.dkg_life.proofs.Seated.{at_some, same_some}
+use Rattle.dkg_life.proofs.Speaking.{want_speaks}
 use Rattle.dkg_reshare.proofs.logs.observe.Goals as goal
 
 no_round : {A : Type 0} (o : Option Round) (round : Round) → o ≡ None → o ≡ Some round → A

@@ -7,14 +7,14 @@ use Rattle.dkg_store.proofs.Fit.{fits_event}
 use Rattle.dkg_store.proofs.Left.{due_of_devices}
 use Rattle.dkg_core.specs.Blocks as blocks
 use Rattle.dkg_core.specs.Courses.{on_devices}
-use Rattle.dkg_dealing.specs.LiveOf.{live_of}
-use Rattle.dkg_dealing.proofs.Burning.{burns_counted, makes_error, makes_under, speaks_makes}
+use Rattle.dkg_life.specs.LiveOf.{live_of}
+use Rattle.dkg_life.proofs.Burning.{burns_counted, makes_error, makes_under, speaks_makes}
 use Rattle.dkg_dealing.proofs.Calls.{moved_called}
-use Rattle.dkg_dealing.proofs.Caused.{of_due}
-use Rattle.dkg_dealing.proofs.Kept.{moved_none}
+use Rattle.dkg_life.proofs.Caused.{of_due}
+use Rattle.dkg_life.proofs.Kept.{moved_none}
 use Rattle.dkg_reshare.proofs.Logged.{known_speaks, log_made, log_said, log_short, log_stopped, log_store}
-use Rattle.dkg_dealing.proofs.Said.{pruning_of_due, said_none, speaks_tells}
-use Rattle.dkg_dealing.proofs.Speaking.{want_speaks}
+use Rattle.dkg_life.proofs.Said.{pruning_of_due, said_none, speaks_tells}
+use Rattle.dkg_life.proofs.Speaking.{want_speaks}
 use Rattle.dkg_reshare.proofs.logs.record.Goals as goal
 
 -- IT WAS RECORDED BEFORE

@@ -1,5 +1,5 @@
 use Rattle.std.proofs.Common.{◌≡◌, Err, List, ℕ, refl, subst, sym, ap}
-use Rattle.dkg_dealing.specs.declared.stop.Stop.TheVariants.{Fault as FaultOf}
+use Rattle.dkg_life.specs.declared.stop.Stop.TheVariants.{Fault as FaultOf}
 use Rattle.dkg_lives.specs.Moving.{Went}
 use Rattle.dkg_lives.specs.Stopped.{picks_at_end}
 use Rattle.dkg_run.proofs.Going.{went_none}

@@ -1,7 +1,7 @@
 use Rattle.std.proofs.Common.{[], refl, ◌∙◌}
 use Rattle.std.proofs.lemmas.Result.{err_from_is_err_and}
 use Rattle.dkg_store.proofs.Counts.{reached_cuts}
-use Rattle.dkg_dealing.specs.Planless.{seen_planless}
+use Rattle.dkg_life.specs.Planless.{seen_planless}
 use Rattle.dkg_lives.specs.Given.{Lived, at_step, limits_of, lived}
 use Rattle.dkg_lives.specs.Moving.{Went, world_of}
 use Rattle.dkg_run.proofs.Opened.{at_first, cut_behind, cut_ran, stopped_ran, told_ran, unsourced_ran, untold_ran}

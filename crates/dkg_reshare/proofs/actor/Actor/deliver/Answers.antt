@@ -1,9 +1,9 @@
 use Rattle.std.proofs.Common.{refl}
-use Rattle.dkg_dealing.specs.declared.life.Life.{Life}
-use Rattle.dkg_dealing.specs.declared.stop.Stop.TheVariants.{Failed}
-use Rattle.dkg_dealing.specs.Ready.{IsReadyLife}
+use Rattle.dkg_life.specs.declared.life.Life.{Life}
+use Rattle.dkg_life.specs.declared.stop.Stop.TheVariants.{Failed}
+use Rattle.dkg_life.specs.Ready.{IsReadyLife}
 use Rattle.dkg_reshare.proofs.Ending.{failed_ends, has_failed, not_living}
-use Rattle.dkg_dealing.proofs.Kept.{moved_none}
+use Rattle.dkg_life.proofs.Kept.{moved_none}
 use Rattle.dkg_reshare.proofs.Stopping.{caused_in_step, lives_on, no_error, not_failed, of_living, same_error}
 use Rattle.dkg_reshare.proofs.actor.Actor.deliver.Goals as goal
 

@@ -3,8 +3,8 @@ use Rattle.std.proofs.lemmas.Result.{err_from_is_err_and}
 use Rattle.dkg_ceremony.specs.Acks as acks
 use Rattle.dkg_ceremony.specs.Deals as deals
 use Rattle.dkg_types.specs.declared.directory.Unit as directory
-use Rattle.dkg_dealing.specs.Ready.{IsReadyLife}
-use Rattle.dkg_dealing.specs.declared.life.Life as reshare
+use Rattle.dkg_life.specs.Ready.{IsReadyLife}
+use Rattle.dkg_life.specs.declared.life.Life as reshare
 use Rattle.dkg_lives.specs.Given.{at_step}
 use Rattle.dkg_run.proofs.Noding.{at_includes, half_length, half_settled, halves_on, may_pass_behind, not_failed, of_again, ready_behind, refuses, refuses_said, takes, takes_said}
 use Rattle.dkg_run.proofs.node.Node.deliver.Goals as goal

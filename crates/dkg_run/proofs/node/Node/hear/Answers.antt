@@ -1,8 +1,8 @@
 use Rattle.std.proofs.Common.{refl, sym}
 use Rattle.std.proofs.lemmas.Result.{err_from_is_err_and}
 use Rattle.dkg_store.specs.Acts.{by_want}
-use Rattle.dkg_dealing.proofs.Burning.{makes_none}
-use Rattle.dkg_dealing.proofs.Kept.{moved_none}
+use Rattle.dkg_life.proofs.Burning.{makes_none}
+use Rattle.dkg_life.proofs.Kept.{moved_none}
 use Rattle.dkg_run.proofs.Noding.{unsaid}
 use Rattle.dkg_run.proofs.node.Node.hear.Goals as goal
 

@@ -7,7 +7,7 @@ use Rattle.dkg_ceremony.specs.ValidLogs as logs
 use Rattle.dkg_types.specs.declared.directory.Unit as directory
 use Rattle.dkg_core.specs.Core.{no_inclusion}
 use Rattle.dkg_inclusion.specs.InclusionOf.{IsSeen, IsSettledInclusion}
-use Rattle.dkg_dealing.specs.declared.life.Life as reshare
+use Rattle.dkg_life.specs.declared.life.Life as reshare
 use Rattle.dkg_around.specs.Orchestrator.{IsSettled}
 use Rattle.dkg_around.specs.declared.players.Players as players
 use Rattle.std.specs.Int.NonZero.{non_zero_u32_get, non_zero_u64_get}
@@ -20,14 +20,14 @@ use Rattle.dkg_ceremony.specs.declared.mode.Reveal.TheVariants.{V1}
 use Rattle.dkg_text.specs.declared.script.Life.{Life}
 use Rattle.dkg_text.specs.declared.script.Script.{Script}
 use Rattle.dkg_reshare.specs.Actors.{AreTerms}
-use Rattle.dkg_dealing.specs.Given.{AreGivenFrom}
-use Rattle.dkg_dealing.specs.Made.{UnlessBroken}
-use Rattle.dkg_dealing.specs.Planless.{seen_planless}
-use Rattle.dkg_dealing.specs.declared.config.Terms.{Terms}
-use Rattle.dkg_dealing.proofs.Burning.{makes_none}
-use Rattle.dkg_dealing.proofs.Kept.{above_itself, moved_none}
+use Rattle.dkg_life.specs.Given.{AreGivenFrom}
+use Rattle.dkg_life.specs.Made.{UnlessBroken}
+use Rattle.dkg_life.specs.Planless.{seen_planless}
+use Rattle.dkg_life.specs.declared.config.Terms.{Terms}
+use Rattle.dkg_life.proofs.Burning.{makes_none}
+use Rattle.dkg_life.proofs.Kept.{above_itself, moved_none}
 use Rattle.dkg_dealing.proofs.Openings.{was_readable}
-use Rattle.dkg_dealing.proofs.Said.{nothing_held}
+use Rattle.dkg_life.proofs.Said.{nothing_held}
 use Rattle.dkg_lives.specs.Given.{starts_above}
 use Rattle.dkg_run.specs.Nodes.{ended_new}
 use Rattle.dkg_lives.proofs.Checked.{not_refused}

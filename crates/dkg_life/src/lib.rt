@@ -1,0 +1,14 @@
+//! What a reshare actor has in memory between two calls of one life, why a call stops, and what is said of calls over two devices.
+//!
+//! Dealing and inclusion are both parts of such a life, and stand on it beside each other.
+#![tactic(auto)]
+
+mod config;
+mod life;
+mod stop;
+mod tip;
+
+pub use config::{Config, Terms, check_config};
+pub use life::{Life, Stage};
+pub use stop::Stop;
+pub use tip::{Judged, Tip, awaited, judge, tip_of};
