@@ -7,8 +7,8 @@ ghost use Rattle.dkg_lives.specs.Given.{anchor_block, anchor_in, numbered, unsea
 ghost use Rattle.dkg_around.specs.Sources.{anchor_numbers};
 
 use dkg_ceremony::{Digest, Height, Mem};
-use dkg_dealing::{BlockSource, Processed};
 use dkg_script::{Anchor, Life};
+use dkg_setup::{BlockSource, Processed};
 use dkg_types::{Block, Finalization, Unit};
 use std::alloc::Global;
 

@@ -1,8 +1,8 @@
 //! This node's own dealing: each new early block offers it to the players that have not acknowledged it.
 //!
-//! Its half of the dealing goes through its own player, and its own acknowledgement through its dealer. At the midpoint the dealer signs its log.
-//! Each function here is a part of the relation's `deals`, or of a setup, and names it.
-ghost use Rattle.std.specs.Prelude.{◌≡◌, ◌∷◌, ◌⊎◌, [], IfErr, IfOk, IfSome, IsSomeAnd, IsTrue, OnErr, OnOk};
+//! Its half of the dealing goes through its own player, and its own acknowledgement through its dealer.
+//! Each function here is a part of the relation's `deals`, and names it.
+ghost use Rattle.std.specs.Prelude.{◌≡◌, ◌∷◌, ◌⊎◌, [], IfErr, IfOk, IfSome, IsSomeAnd, IsTrue, OnOk};
 ghost use Rattle.std.specs.FinMap as map;
 ghost use Rattle.std.specs.Int.NonZero.{non_zero_u32_get};
 ghost use Rattle.std.specs.List.{AllByRecursion};
@@ -21,18 +21,18 @@ ghost use Rattle.dkg_life.specs.Ready.{IsReadyLife};
 ghost use Rattle.dkg_life.specs.Ends.{StopsOver, ends_in};
 ghost use Rattle.dkg_life.specs.Given.{IsOf};
 ghost use Rattle.dkg_life.specs.Heard.{round_dealt};
-ghost use Rattle.dkg_life.specs.LiveOf.{Beside, IsDealing, IsToSign, live_of};
+ghost use Rattle.dkg_life.specs.LiveOf.{Beside, live_of};
 ghost use Rattle.dkg_life.specs.Made.{Makes, Tells};
 ghost use Rattle.dkg_life.specs.Moved.{Moved};
-ghost use Rattle.dkg_life.specs.Rules.{AnswersBy, DealsBy};
+ghost use Rattle.dkg_life.specs.Rules.{AnswersBy};
 ghost use Rattle.dkg_life.specs.Steps.{SameHalves, halves_of, with_public};
 ghost use Rattle.dkg_life.specs.declared.life.Stage.TheVariants.{Dealing};
 ghost use Rattle.dkg_life.specs.declared.stop.Stop.TheVariants.{Fault as Faulted};
 
 use crate::dealing::{handle, take_ack};
-use dkg_ceremony::{Ceremony, Private, Public, Value};
+use dkg_ceremony::{Ceremony, Private, Public};
 use dkg_journal::Disk;
-use dkg_life::{Life, Stage, Stop, Terms};
+use dkg_life::{Life, Stop, Terms};
 use dkg_store::{Dealer, Devices, SecretStore, Store};
 use dkg_types::{BoxedPublic, Directory, Entry, Fault, LocalCause, Transcript};
 use dkg_values::{Epoch, Key, Mem};
@@ -284,27 +284,4 @@ pub fn deal<C: Ceremony, Dir: Directory + Drop, D: Disk, X: SecretStore>(
     offer_all(
         alloc, ceremony, signer, terms, life, devices, epoch, unsent, out,
     )
-}
-
-/// Begins inclusion: the dealer, where there is one, signs its log, and offers it from now on (`begins_inclusion`).
-pub fn begin_inclusion<C: Ceremony, Dir: Directory + Drop>(
-    alloc: Global,
-    ceremony: &C,
-    signer: &C::Signer,
-    life: &mut Life<Dir>,
-) -> Result<(), Stop>
-    requires signs { IfSome life.old.dealer (IsToSign C.deal_of C.check_ack_of (C.Signer.key_of signer.now) life.old.round) }
-    ensures begun { OnOk result ((c : Fixed Dir) (beside : Beside Dir) (fence : Readiness) → beside.inclusion.served ≡ None → c.me ≡ C.Signer.key_of signer.now
-        → DealsBy C.deal_of C.check_ack_of C.sign_log_of c.rules → live_of beside fence life.new ≡ setup.begins_inclusion c (live_of beside fence life.old)) }
-    ensures rest { life.new ≡ record life.old { stage = life.new.stage; dealer = life.new.dealer } }
-    ensures stage { OnOk result (life.new.stage ≡ Stage.Including) }
-    ensures dealing { OnOk result (IsDealing C.deal_of C.check_ack_of (C.Signer.key_of signer.now) life.new) }
-    ensures same { OnErr result (life.new ≡ life.old) }
-    ensures memory { IfErr result (λ stop. stop ≡ Faulted OutOfMemory) }
-{
-    if let Some(dealer) = &mut life.dealer {
-        dealer.finalize(alloc, ceremony, signer)?;
-    }
-    life.stage = Stage::Including;
-    Ok(())
 }

@@ -1,6 +1,7 @@
 pub mod Beside
 pub mod Blamed
 pub mod Burning
+pub mod Calls
 pub mod Caused
 pub mod Chained
 pub mod Committing

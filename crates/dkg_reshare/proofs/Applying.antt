@@ -36,7 +36,7 @@ use Rattle.dkg_life.specs.LiveOf.{Beside, live_of}
 use Rattle.dkg_life.specs.Made.{MakesAt, Speaks, Tells}
 use Rattle.dkg_life.specs.Moved.{IsFirm}
 use Rattle.dkg_life.specs.Steps.{AreBoundsAt, carried_in, reads_secrets}
-use Rattle.dkg_dealing.proofs.OpeningCourses.{makes_as, tells_as}
+use Rattle.dkg_setup.proofs.OpeningCourses.{makes_as, tells_as}
 use Rattle.dkg_life.proofs.Beside.{emptied}
 use Rattle.dkg_life.proofs.Chained.{early_makes, early_told, then_makes, then_told}
 use Rattle.dkg_life.proofs.Speaking.{goes_speaks, stops_speaks}

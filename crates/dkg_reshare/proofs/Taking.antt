@@ -30,7 +30,7 @@ use Rattle.dkg_life.specs.Judged.{judged, judged_over}
 use Rattle.dkg_life.specs.LiveOf.{Beside, live_of, stage_of}
 use Rattle.dkg_life.specs.Made.{Speaks}
 use Rattle.dkg_life.specs.Steps.{AreBoundsAt}
-use Rattle.dkg_dealing.proofs.Ranges.{is_past, not_past, range_over}
+use Rattle.dkg_setup.proofs.Ranges.{is_past, not_past, range_over}
 use Rattle.dkg_life.proofs.Speaking.{goes_speaks, stops_speaks}
 
 module _ {Dir : Type 0} (c : Fixed Dir) (b : Block Dir) where

@@ -1,3 +1,4 @@
+pub use dkg_setup::{BlockSource, Processed, dealer_for_phase, recovered_share, startup};
 //! The reshare actor: it opens a node's store, sets an epoch up, answers dealings and takes blocks.
 //!
 //! Each call is a course of `dkg_core`, run over the devices that it is lent: `Actor::open` is `opening`, and `Actor::step` is `step`. The rules
@@ -12,7 +13,6 @@ mod logs;
 mod message;
 
 pub use actor::Actor;
-pub use dkg_dealing::{BlockSource, Processed, dealer_for_phase, recovered_share, startup};
 pub use dkg_life::{Config, Stop, Tip, check_config};
 pub use dkg_inclusion::{EpochInfoResponse, Told};
 pub use message::Message;

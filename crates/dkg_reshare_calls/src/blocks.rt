@@ -3,7 +3,7 @@ ghost use Rattle.std.specs.Prelude.{◌≡◌, ℕ, IfOk, None};
 ghost use Rattle.dkg_reshare.specs.CarriedLogs.{CarriesWithin};
 
 use dkg_ceremony::{ModeVersion, decode_cfg};
-use dkg_dealing::{BlockSource, Processed};
+use dkg_setup::{BlockSource, Processed};
 use dkg_types::{Block, Context, Finalization, Payload, Unit};
 use dkg_values::{Digest, Epoch, Height, Key, Mem};
 use std::alloc::Global;

@@ -6,11 +6,11 @@ ghost use Rattle.dkg_reshare.specs.CarriedLogs.{CarriesWithin};
 
 use dkg_artifact::VerifiedLogs;
 use dkg_ceremony::Ceremony;
-use dkg_dealing::BlockSource;
 use dkg_life::Stop;
 use dkg_fence::Fence;
 use dkg_journal::Disk;
 use dkg_reshare::{Actor, Message};
+use dkg_setup::BlockSource;
 use dkg_store::{Devices, SecretStore};
 use dkg_types::{Block, ParticipantsProvider, Registrar, Transcript, Unit};
 use std::alloc::Global;

@@ -1,7 +1,7 @@
 //! Where a life starts, with a floor and without one.
 
 use crate::blocks::{bare, first_source};
-use dkg_dealing::{BlockSource, startup};
+use dkg_setup::{BlockSource, startup};
 use dkg_types::Unit;
 use std::alloc::Global;
 use std::test::Fail;

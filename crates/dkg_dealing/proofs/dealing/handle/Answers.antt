@@ -9,7 +9,7 @@ use Rattle.dkg_store.proofs.Fit.{fits_event}
 use Rattle.dkg_store.proofs.Handling.{answer_refused, handled_answer, handled_no_pair, handled_pairs, handled_passed, handled_player, handled_told, handled_untold}
 use Rattle.dkg_store.proofs.Left.{due_of_devices}
 use Rattle.dkg_life.proofs.Burning.{burns_counted, burns_still, makes_error, makes_under}
-use Rattle.dkg_dealing.proofs.Calls.{moved_called}
+use Rattle.dkg_life.proofs.Calls.{moved_called}
 use Rattle.dkg_life.proofs.Caused.{of_due}
 use Rattle.dkg_dealing.proofs.Handed.{firm_same, handed_said, pairs_kept, pairs_refused, plays_there, refused_said, seat_kept}
 use Rattle.dkg_life.proofs.Said.{pruning_of_due, said_none}

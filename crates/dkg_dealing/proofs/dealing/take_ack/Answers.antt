@@ -8,7 +8,7 @@ use Rattle.dkg_store.proofs.Fit.{fits_event}
 use Rattle.dkg_store.proofs.Left.{due_of_devices}
 use Rattle.dkg_dealing.proofs.Acked.{ack_made, ack_said, ack_stopped, refused_made, refused_said}
 use Rattle.dkg_life.proofs.Burning.{burns_counted, burns_still, makes_error, makes_under}
-use Rattle.dkg_dealing.proofs.Calls.{moved_called}
+use Rattle.dkg_life.proofs.Calls.{moved_called}
 use Rattle.dkg_life.proofs.Caused.{of_due}
 use Rattle.dkg_life.proofs.Dealt.{ack_store}
 use Rattle.dkg_dealing.proofs.Handed.{firm_same}

@@ -4,7 +4,7 @@ use Rattle.dkg_core.specs.Blocks as blocks
 use Rattle.dkg_life.specs.declared.life.Stage.{Stage}
 use Rattle.dkg_life.specs.declared.life.Stage.TheVariants.{Dealing, Following}
 use Rattle.dkg_life.specs.LiveOf.{live_of, stage_of}
-use Rattle.dkg_dealing.proofs.OpeningCourses.{makes_as, tells_as}
+use Rattle.dkg_setup.proofs.OpeningCourses.{makes_as, tells_as}
 use Rattle.dkg_life.proofs.Beside.{took_nothing, with_as}
 use Rattle.dkg_reshare.proofs.Blaming.{result_caused}
 use Rattle.dkg_life.proofs.Seated.{on_ok}

@@ -10,7 +10,7 @@ use Rattle.dkg_store.specs.Acts.{went}
 use Rattle.dkg_life.specs.Ends.{by_stop, ends_in}
 use Rattle.dkg_life.specs.LiveOf.{live_of}
 use Rattle.dkg_reshare.proofs.Applying.{dealing_ended, ends_offers, goes_on, offered_makes, offered_told, unoffered_makes, unoffered_told, unserving}
-use Rattle.dkg_dealing.proofs.OpeningCourses.{makes_as, tells_as}
+use Rattle.dkg_setup.proofs.OpeningCourses.{makes_as, tells_as}
 use Rattle.dkg_life.proofs.Beside.{none_with, with_as}
 use Rattle.dkg_life.proofs.Blamed.{blamed_behind}
 use Rattle.dkg_life.proofs.Burning.{speaks_makes}

@@ -11,7 +11,7 @@ use Rattle.dkg_store.specs.declared.call.StoreError.TheVariants.{NoMemory as Wan
 use Rattle.dkg_life.specs.declared.life.Stage.{Stage}
 use Rattle.dkg_life.specs.declared.life.Stage.TheVariants.{Including, Following}
 use Rattle.dkg_life.specs.LiveOf.{live_of}
-use Rattle.dkg_dealing.proofs.OpeningCourses.{makes_as, tells_as}
+use Rattle.dkg_setup.proofs.OpeningCourses.{makes_as, tells_as}
 use Rattle.dkg_life.proofs.Beside.{none_with, took_nothing, with_as}
 use Rattle.dkg_reshare.proofs.Blaming.{result_caused}
 use Rattle.dkg_life.proofs.Burning.{makes_none}

@@ -14,7 +14,7 @@ use Rattle.dkg_life.specs.LiveOf.{live_of}
 use Rattle.dkg_life.specs.declared.life.Stage.{Stage}
 use Rattle.dkg_life.specs.declared.life.Stage.TheVariants.{Including, Following}
 use Rattle.dkg_reshare.proofs.Applying.{at_its_last, before_last, carried_caused, carried_next, follows_anew, not_carried, tipped}
-use Rattle.dkg_dealing.proofs.OpeningCourses.{makes_as, tells_as}
+use Rattle.dkg_setup.proofs.OpeningCourses.{makes_as, tells_as}
 use Rattle.dkg_life.proofs.Beside.{emptied, emptied_fresh, none_with, then_well, took_none, with_in}
 use Rattle.dkg_life.proofs.Burning.{speaks_makes}
 use Rattle.dkg_life.proofs.Caused.{caused_around}

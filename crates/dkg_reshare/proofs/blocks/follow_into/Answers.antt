@@ -7,7 +7,7 @@ use Rattle.dkg_core.specs.Sources.{Tip}
 use Rattle.dkg_life.specs.declared.life.Life.{Life}
 use Rattle.dkg_life.specs.LiveOf.{live_of, scheme_by, with_scheme_of}
 use Rattle.dkg_reshare.proofs.Applying.{as_it_was, can_read, firm_on, in_word, secrets_told, set_up_behind, took_over_makes, took_over_told, uncommitted_makes, uncommitted_told, unread_makes, unread_told}
-use Rattle.dkg_dealing.proofs.OpeningCourses.{makes_as, tells_as}
+use Rattle.dkg_setup.proofs.OpeningCourses.{makes_as, tells_as}
 use Rattle.dkg_life.proofs.Beside.{none_beside, then_beside, then_well, took_then}
 use Rattle.dkg_reshare.proofs.Blaming.{result_caused_by}
 use Rattle.dkg_life.proofs.Caused.{caused_around, rose_around}

@@ -9,7 +9,7 @@ use Rattle.dkg_core.specs.Sources.{Tip}
 use Rattle.dkg_life.specs.declared.life.Life.{Life}
 use Rattle.dkg_life.specs.Ends.{ends_in}
 use Rattle.dkg_life.specs.LiveOf.{awaited_of, live_of}
-use Rattle.dkg_dealing.proofs.OpeningCourses.{makes_as, tells_as}
+use Rattle.dkg_setup.proofs.OpeningCourses.{makes_as, tells_as}
 use Rattle.dkg_life.proofs.Beside.{none_with, with_as}
 use Rattle.dkg_life.proofs.Blamed.{blamed_behind}
 use Rattle.dkg_reshare.proofs.Applied.{behind_log, log_behind, still_served, unserved_seen, unserving_at}

@@ -13,13 +13,13 @@ use Rattle.dkg_life.specs.declared.tip.Judged.{Judged}
 use Rattle.dkg_life.specs.Ends.{IsCaused, by_stop, ends_in}
 use Rattle.dkg_life.specs.LiveOf.{live_of}
 use Rattle.dkg_life.specs.Steps.{AreBoundsAt}
-use Rattle.dkg_dealing.proofs.OpeningCourses.{makes_as, tells_as}
+use Rattle.dkg_setup.proofs.OpeningCourses.{makes_as, tells_as}
 use Rattle.dkg_life.proofs.Beside.{none_with, took_none, with_as}
 use Rattle.dkg_life.proofs.Burning.{speaks_makes}
 use Rattle.dkg_life.proofs.Caused.{caused_around}
 use Rattle.dkg_life.proofs.Kept.{moved_none}
 use Rattle.dkg_life.proofs.Said.{speaks_tells}
-use Rattle.dkg_dealing.proofs.Ranges.{lies_at}
+use Rattle.dkg_setup.proofs.Ranges.{lies_at}
 use Rattle.dkg_reshare.proofs.Taking.{is_applied, judged_off, no_range, no_window, refusal_caused, taken_again, taken_new}
 use Rattle.dkg_reshare.proofs.blocks.take_block.Goals as goal
 

@@ -10,7 +10,7 @@ use Rattle.dkg_inclusion.specs.Including.{derives_final}
 use Rattle.dkg_inclusion.specs.InclusionOf.{artifact_of}
 use Rattle.dkg_life.specs.LiveOf.{live_of}
 use Rattle.dkg_reshare.proofs.Applying.{carried_caused, carried_next, in_word, own_cause}
-use Rattle.dkg_dealing.proofs.OpeningCourses.{makes_as, tells_as}
+use Rattle.dkg_setup.proofs.OpeningCourses.{makes_as, tells_as}
 use Rattle.dkg_life.proofs.Beside.{with_as, with_then}
 use Rattle.dkg_reshare.proofs.Blaming.{result_caused_by}
 use Rattle.dkg_life.proofs.Burning.{speaks_makes}

@@ -7,7 +7,7 @@ use Rattle.dkg_inclusion.specs.Including.{derives_by}
 use Rattle.dkg_inclusion.specs.InclusionOf.{artifact_of}
 use Rattle.dkg_life.specs.LiveOf.{live_of}
 use Rattle.dkg_life.specs.declared.stop.Stop.TheVariants.{Fault as Faulted}
-use Rattle.dkg_dealing.proofs.OpeningCourses.{makes_as, tells_as}
+use Rattle.dkg_setup.proofs.OpeningCourses.{makes_as, tells_as}
 use Rattle.dkg_reshare.proofs.Concluding.{by_before, by_cache, by_neither, goes_makes, goes_tells, wants_makes}
 use Rattle.dkg_life.proofs.Kept.{moved_none}
 use Rattle.dkg_life.proofs.Said.{speaks_tells}

@@ -10,7 +10,7 @@ use Rattle.dkg_inclusion.specs.Including.{derives_by, derives_final}
 use Rattle.dkg_inclusion.specs.InclusionOf.{artifact_of}
 use Rattle.dkg_life.specs.LiveOf.{live_of}
 use Rattle.dkg_life.specs.declared.life.Life.{Life}
-use Rattle.dkg_dealing.proofs.OpeningCourses.{makes_as, tells_as}
+use Rattle.dkg_setup.proofs.OpeningCourses.{makes_as, tells_as}
 use Rattle.dkg_life.proofs.Beside.{then_well, with_then}
 use Rattle.dkg_life.proofs.Blamed.{blamed_behind}
 use Rattle.dkg_life.proofs.Chained.{early_makes, early_told, then_makes, then_told}

@@ -8,7 +8,7 @@ use Rattle.dkg_life.specs.Ends.{by_stop}
 use Rattle.dkg_life.specs.LiveOf.{live_of}
 use Rattle.dkg_store.specs.Acts.{went}
 use Rattle.dkg_reshare.proofs.Applying.{can_read}
-use Rattle.dkg_dealing.proofs.OpeningCourses.{makes_as, tells_as}
+use Rattle.dkg_setup.proofs.OpeningCourses.{makes_as, tells_as}
 use Rattle.dkg_life.proofs.Beside.{emptied, emptied_fresh, then_well, with_as, with_in, with_then}
 use Rattle.dkg_life.proofs.Burning.{speaks_makes}
 use Rattle.dkg_life.proofs.Chained.{early_makes, early_told, then_makes, then_told}

@@ -7,7 +7,7 @@ use Rattle.dkg_inclusion.specs.InclusionOf.{artifact_of}
 use Rattle.dkg_life.specs.LiveOf.{live_of, scheme_by, with_scheme_of}
 use Rattle.dkg_life.specs.declared.life.Life.{Life}
 use Rattle.dkg_reshare.proofs.Applying.{firm_on, in_word}
-use Rattle.dkg_dealing.proofs.OpeningCourses.{makes_as, tells_as}
+use Rattle.dkg_setup.proofs.OpeningCourses.{makes_as, tells_as}
 use Rattle.dkg_life.proofs.Beside.{then_well, took_then}
 use Rattle.dkg_reshare.proofs.Blaming.{result_caused_by}
 use Rattle.dkg_life.proofs.Burning.{speaks_makes}

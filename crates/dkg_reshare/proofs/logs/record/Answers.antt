@@ -9,7 +9,7 @@ use Rattle.dkg_core.specs.Blocks as blocks
 use Rattle.dkg_core.specs.Courses.{on_devices}
 use Rattle.dkg_life.specs.LiveOf.{live_of}
 use Rattle.dkg_life.proofs.Burning.{burns_counted, makes_error, makes_under, speaks_makes}
-use Rattle.dkg_dealing.proofs.Calls.{moved_called}
+use Rattle.dkg_life.proofs.Calls.{moved_called}
 use Rattle.dkg_life.proofs.Caused.{of_due}
 use Rattle.dkg_life.proofs.Kept.{moved_none}
 use Rattle.dkg_reshare.proofs.Logged.{known_speaks, log_made, log_said, log_short, log_stopped, log_store}

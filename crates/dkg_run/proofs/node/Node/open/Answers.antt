@@ -26,7 +26,7 @@ use Rattle.dkg_life.specs.Planless.{seen_planless}
 use Rattle.dkg_life.specs.declared.config.Terms.{Terms}
 use Rattle.dkg_life.proofs.Burning.{makes_none}
 use Rattle.dkg_life.proofs.Kept.{above_itself, moved_none}
-use Rattle.dkg_dealing.proofs.Openings.{was_readable}
+use Rattle.dkg_setup.proofs.Openings.{was_readable}
 use Rattle.dkg_life.proofs.Said.{nothing_held}
 use Rattle.dkg_lives.specs.Given.{starts_above}
 use Rattle.dkg_run.specs.Nodes.{ended_new}

@@ -1,0 +1,11 @@
+pub mod Drawing
+pub mod Fitting
+pub mod Giving
+pub mod Judging
+pub mod Making
+pub mod OpeningCourses
+pub mod Openings
+pub mod Placing
+pub mod Ranges
+pub mod SettingUp
+pub mod Standings

@@ -1,0 +1,8 @@
+use Rattle.dkg_core.specs.Fixed.{fresh_seed}
+use Rattle.dkg_setup.proofs.setup.fresh_seed.Goals as goal
+
+pub returns : goal.returns
+unfolding fresh_seed
+returns c =
+    let ends = c.finalize.ensures _ (c.update-2.ensures _ (c.update.ensures _ c.new-hasher.ensures)) in
+    cc (ends, c.to_be_bytes.ensures, c.to_be_bytes-2.ensures, c.epoch.view_is)
