@@ -35,14 +35,14 @@ use Rattle.dkg_promises.specs.Answers.{IsOfChain}
 use Rattle.dkg_lives.specs.Asks.{WereAsked, bounds_in, fed_in}
 use Rattle.dkg_lives.specs.Blamed.{per_epoch, tip_in}
 use Rattle.dkg_lives.specs.Given.{AreBytes, blocks_in, numbered}
-use Rattle.dkg_lives.proofs.ChainBlocks.{HasBlockAt}
+use Rattle.dkg_along.proofs.ChainBlocks.{HasBlockAt}
 use Rattle.dkg_lives.proofs.ChainLogs.{AreChainFrom, brings_of, none_below, recorded_path}
-use Rattle.dkg_lives.proofs.Chaining.{IsOnChain}
+use Rattle.dkg_along.proofs.Chaining.{IsOnChain}
 use Rattle.dkg_lives.proofs.FirstLogs.{AreFirst, NoneBelow}
 use Rattle.dkg_promises.proofs.OfferedHalves.{all_of}
 use Rattle.dkg_promises.proofs.ReadLogs.{IsByPath}
-use Rattle.dkg_lives.proofs.SeenBlocks.{seen, seen_at}
-use Rattle.dkg_lives.proofs.Used.{all_back, all_front, in_chain}
+use Rattle.dkg_along.proofs.SeenBlocks.{seen, seen_at}
+use Rattle.dkg_along.proofs.Used.{all_back, all_front, in_chain}
 
 abbrev U : Type 0
 U = directory.Unit

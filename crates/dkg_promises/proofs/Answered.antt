@@ -49,10 +49,10 @@ use Rattle.dkg_lives.specs.Blamed.{IsInfoOf, IsTakenLast, round_by, tip_in}
 use Rattle.dkg_lives.specs.Epochs.{IsLifeInForm, StandsInScript, any_shares, epoch_by}
 use Rattle.dkg_lives.specs.Given.{Lived, at_step, blocks_in}
 use Rattle.dkg_promises.proofs.Ancestry.{IsRead}
-use Rattle.dkg_lives.proofs.Asking.{IsCarried, info_later}
+use Rattle.dkg_along.proofs.Asking.{IsCarried, info_later}
 use Rattle.dkg_lives.proofs.Awaiting.{IsReached}
-use Rattle.dkg_lives.proofs.Causing.{above_by, taken}
-use Rattle.dkg_lives.proofs.FedRequests.{becomes_open, stands_more}
+use Rattle.dkg_along.proofs.Causing.{above_by, taken}
+use Rattle.dkg_along.proofs.FedRequests.{becomes_open, stands_more}
 use Rattle.dkg_lives.proofs.Former.{Brings, BringsBlock, BringsMail, IsMessage, brings_so, life_in, step_taken, through_at}
 use Rattle.dkg_promises.proofs.Providing.{IsInfoIf, IsProvidedIn, info_lines}
 use Rattle.dkg_promises.proofs.Requested.{AreHeld, AreReady, IsAwaited, IsHeld, IsReadFor, IsSamePart, Knows, KnowsRead, asked_same, block_said, dealt_part, dealt_said, dealt_tip, included_said, keeps_final, keeps_work, less_one, mail_said, observed_part, read_here, sends_info, sends_work, stands_as, were_asked}

@@ -32,8 +32,8 @@ use Rattle.dkg_lives.proofs.Checked.{anchor_above, long_epochs, supported_mode}
 use Rattle.dkg_promises.proofs.CommitsFitting.{commits_fit}
 use Rattle.dkg_promises.proofs.CutLives.{worlds_cut}
 use Rattle.dkg_promises.proofs.Dealings.{answers_dealings, keeps_dealings}
-use Rattle.dkg_lives.proofs.EachLife.{worlds_over}
-use Rattle.dkg_lives.proofs.GivingLives.{run_keeps_plan}
+use Rattle.dkg_along.proofs.EachLife.{worlds_over}
+use Rattle.dkg_along.proofs.GivingLives.{run_keeps_plan}
 use Rattle.dkg_promises.proofs.GivingValid.{stays_valid}
 use Rattle.dkg_promises.proofs.GivingWhole.{stays_whole}
 use Rattle.dkg_promises.proofs.Keeping.{IsBuiltSetting, IsGivenSetting}

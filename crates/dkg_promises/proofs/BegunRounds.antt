@@ -41,7 +41,7 @@ use Rattle.dkg_promises.specs.Found.{IsBegunBy, IsDealtBy}
 use Rattle.dkg_lives.specs.Given.{Lived, at_step, blocks_in, step_of}
 use Rattle.dkg_lives.proofs.Awaiting.{HasHeight, IsReached, block_behind, has_height}
 use Rattle.dkg_lives.proofs.Delivered.{epochs_rise}
-use Rattle.dkg_lives.proofs.Drawn.{found_number}
+use Rattle.dkg_along.proofs.Drawn.{found_number}
 use Rattle.dkg_lives.proofs.Former.{Brings, BringsBlock, BringsMail, IsMadeOf, IsMessage, brings_so, event_in_form, form_at, is_ceremony, lacks_nobody, live_at, message_in, step_taken, through_at}
 use Rattle.dkg_lives.proofs.NextLives.{GoesOn, TakesOver, next_so, with_round}
 use Rattle.dkg_lives.proofs.Started.{source_is}

@@ -65,21 +65,21 @@ use Rattle.dkg_promises.specs.SharesStand.{ComesInto, TellsCommit}
 use Rattle.dkg_lives.specs.Ways.{ReadsSomething, Trace, by_lines}
 use Rattle.dkg_promises.proofs.Answered.{IsSaidAt, answered_so, step_answers, unanswered_so}
 use Rattle.dkg_lives.proofs.Apart.{IsApart, Reads, node_apart}
-use Rattle.dkg_lives.proofs.Asking.{AreMade, IsCarried, info_later, opening_carried, opening_made, step_carried, step_made}
+use Rattle.dkg_along.proofs.Asking.{AreMade, IsCarried, info_later, opening_carried, opening_made, step_carried, step_made}
 use Rattle.dkg_lives.proofs.Awaiting.{IsBefore as IsUncut, IsReached, before_all, one_more, reached_lit}
-use Rattle.dkg_lives.proofs.Causing.{block_cause, block_clear, info_cause, mail_cause, opening_cause, opening_clear}
+use Rattle.dkg_along.proofs.Causing.{block_cause, block_clear, info_cause, mail_cause, opening_cause, opening_clear}
 use Rattle.dkg_promises.proofs.Committing.{CommitsInto, TellsInto, commit_over, opening_commits_first, opening_tells, step_commits, step_tells}
-use Rattle.dkg_lives.proofs.Following.{EndsBy, RunEndsBy, all_move, item_at, rest_at}
+use Rattle.dkg_along.proofs.Following.{EndsBy, RunEndsBy, all_move, item_at, rest_at}
 use Rattle.dkg_lives.proofs.Former.{Brings, BringsBlock, BringsMail, IsMessage, brings_so, event_in_form, form_at, lacks_nobody, live_at, message_in, step_taken, through_at}
-use Rattle.dkg_lives.proofs.InPlace.{begins, cut_before, cut_within, moves_cut, moves_step}
+use Rattle.dkg_along.proofs.InPlace.{begins, cut_before, cut_within, moves_cut, moves_step}
 use Rattle.dkg_lives.proofs.LivesStand.{before_suc}
 use Rattle.dkg_lives.proofs.NextLives.{next_tip}
-use Rattle.dkg_lives.proofs.Ordered.{lit_begins, lit_within, opened_in, opening_added, step_is_quiet, tells_fault, unlit, went_opened}
+use Rattle.dkg_along.proofs.Ordered.{lit_begins, lit_within, opened_in, opening_added, step_is_quiet, tells_fault, unlit, went_opened}
 use Rattle.dkg_lives.proofs.Places.{each_of_both, moves_none, moves_then, moves_within}
 use Rattle.dkg_promises.proofs.Requested.{AreHeld, Knows, KnowsRead, none_held, sent_new, step_apart, step_held, untold}
-use Rattle.dkg_lives.proofs.Runs.{each_after, starts}
+use Rattle.dkg_along.proofs.Runs.{each_after, starts}
 use Rattle.dkg_lives.proofs.Standing.{AddsOpening, AddsQuiet, Each, IsAtCut, IsBefore, IsBehind, IsBetween, IsBetweenOf, IsCutBefore, IsCutWithin, IsWithin, Moves, TellsFault}
-use Rattle.dkg_lives.proofs.Steps.{Opening, opened_so_far, quiet_so_far}
+use Rattle.dkg_along.proofs.Steps.{Opening, opened_so_far, quiet_so_far}
 use Rattle.dkg_lives.proofs.Stood.{begun_stands, step_stands}
 use Rattle.dkg_lives.proofs.Unanswered.{IsUnanswered, opening_lines}
 

@@ -63,22 +63,22 @@ use Rattle.dkg_lives.specs.Lives.{LivesSo}
 use Rattle.dkg_lives.specs.Ways.{by_worlds}
 use Rattle.dkg_lives.proofs.Awaiting.{IsReached}
 use Rattle.dkg_promises.proofs.Blaming.{Stood, at_there, of_there, opened_stood, step_next, step_why}
-use Rattle.dkg_lives.proofs.Causing.{judged_so, opening_cause, refusal}
+use Rattle.dkg_along.proofs.Causing.{judged_so, opening_cause, refusal}
 use Rattle.dkg_lives.proofs.Former.{BringsBlock, BringsMail, IsMessage, brings_so, event_in_form, form_at, lacks_nobody, life_in, live_at, message_in, step_taken, through_at}
 use Rattle.dkg_lives.proofs.GivenItself.{IsGiven, given}
 use Rattle.dkg_promises.proofs.GivingDealings.{FitsRecords}
-use Rattle.dkg_lives.proofs.GivingLives.{LeavesSo}
+use Rattle.dkg_along.proofs.GivingLives.{LeavesSo}
 use Rattle.dkg_lives.proofs.Heard.{Knows}
 use Rattle.dkg_promises.proofs.LivesClear.{EndsOutside, IsClear, KeepsClear, LeavesClear, life_clear}
 use Rattle.dkg_lives.proofs.NoOthers.{IsOwnDealt}
-use Rattle.dkg_lives.proofs.OwnBacked.{AreBacked, has_previous}
+use Rattle.dkg_along.proofs.OwnBacked.{AreBacked, has_previous}
 use Rattle.dkg_promises.proofs.OwnClear.{none_refused_in, own_same}
 use Rattle.dkg_promises.proofs.OwnRuns as owning
 use Rattle.dkg_promises.proofs.OwnRuns.{IsOwning, ValidHeld}
 use Rattle.dkg_promises.proofs.OwnValid.{AreValidAt, IsStateFault, opening_valid, setup_valid}
-use Rattle.dkg_lives.proofs.Seated.{own_valid}
+use Rattle.dkg_along.proofs.Seated.{own_valid}
 use Rattle.dkg_promises.proofs.Sharing.{fits_dealt, one_share}
-use Rattle.dkg_lives.proofs.SharesFit.{same_shares, share_put}
+use Rattle.dkg_along.proofs.SharesFit.{same_shares, share_put}
 use Rattle.dkg_promises.proofs.SharesKnown.{IsFitting, IsMineAt, SharesFit, last_known, mine, opening_fits, opening_fitting, reads_shares, share_mine, step_comes, step_fits, step_fitting, there_below}
 use Rattle.dkg_promises.proofs.StoredDealers.{IsStoredDealer}
 use Rattle.dkg_promises.proofs.StoredFound.{own_found}

@@ -54,14 +54,14 @@ use Rattle.dkg_lives.specs.Lives.{LivesSo, RunsOver, RunsSo, never}
 use Rattle.dkg_promises.specs.SharesStand.{CommitsFit, FitsCarried}
 use Rattle.dkg_lives.specs.Ways.{by_worlds}
 use Rattle.dkg_lives.proofs.Awaiting.{IsReached}
-use Rattle.dkg_lives.proofs.CommitsOver.{IsTakenShare, Tells, asked, block_over, opened_held, opening_over, peer_over}
-use Rattle.dkg_lives.proofs.Drawn.{all_join}
+use Rattle.dkg_along.proofs.CommitsOver.{IsTakenShare, Tells, asked, block_over, opened_held, opening_over, peer_over}
+use Rattle.dkg_along.proofs.Drawn.{all_join}
 use Rattle.dkg_lives.proofs.Former.{BringsBlock, BringsOther, BringsPeer, IsMessage, brings_kind, event_in_form, form_at, lacks_nobody, live_through, message_in, through_at}
 use Rattle.dkg_promises.proofs.OfferedHalves.{all_of}
-use Rattle.dkg_lives.proofs.SaysOver.{said_over}
-use Rattle.dkg_lives.proofs.SharesFit.{same_shares}
+use Rattle.dkg_along.proofs.SaysOver.{said_over}
+use Rattle.dkg_along.proofs.SharesFit.{same_shares}
 use Rattle.dkg_promises.proofs.SharesKnown.{IsFitting, IsMineAt, IsScripts, SharesFit, boundary_known, known_serves, last_known, mine, opening_fits, opening_fitting, said_of, share_mine, step_comes, step_fits, step_fitting}
-use Rattle.dkg_lives.proofs.WorldLives.{IsCounted, Keeps, Leaves, life_holds, run_holds}
+use Rattle.dkg_along.proofs.WorldLives.{IsCounted, Keeps, Leaves, life_holds, run_holds}
 
 all_as : (P Q : Line → Type 0) (lines : List Line) → ((line : Line) → P line → Q line) → AllByRecursion P lines → AllByRecursion Q lines
 all_as P Q [] so all = tt

@@ -68,7 +68,7 @@ use Rattle.dkg_lives.specs.Epochs.{IsLifeInForm, StandsInScript, any_shares, awa
 use Rattle.dkg_lives.specs.Given.{Lived, at_step, blocks_in, step_of}
 use Rattle.dkg_promises.specs.SharesStand.{ComesInto, Enters, TellsCommit}
 use Rattle.dkg_lives.proofs.Awaiting.{HasHeight, IsReached, has_height}
-use Rattle.dkg_lives.proofs.Causing.{above_by, accepted_by, stage_of}
+use Rattle.dkg_along.proofs.Causing.{above_by, accepted_by, stage_of}
 use Rattle.dkg_lives.proofs.Former.{BringsBlock, BringsMail, IsMadeOf, IsMessage, brings_so, form_at, step_taken, through_at}
 use Rattle.dkg_lives.proofs.NextLives.{applied_so, has_round, passed_so}
 use Rattle.dkg_lives.proofs.Started.{first_block_is, first_epoch_is}

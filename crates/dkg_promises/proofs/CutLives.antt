@@ -33,10 +33,10 @@ use Rattle.dkg_lives.specs.Ended.{by_node_stop}
 use Rattle.dkg_lives.specs.Given.{Lived, anchor_in, at_step, blocks_in, delivered_by, event_in, lived, numbered, step_of, unsealed}
 use Rattle.dkg_lives.specs.Lives.{AnyFiles, EndsLife, LivesFrom, LivesSo, RunsAllSo, RunsOver, RunsSo, Steps, TakesAll, TellsEnd, fuse_for, never}
 use Rattle.dkg_lives.specs.Ways.{Way, by_lines, by_worlds, trace}
-use Rattle.dkg_lives.proofs.Ordered.{lit_within, unlit}
+use Rattle.dkg_along.proofs.Ordered.{lit_within, unlit}
 use Rattle.dkg_promises.proofs.Keeping.{lives_of, same_behind}
-use Rattle.dkg_lives.proofs.Leading.{After, IsInStep, Leads, TellsLines, leads_none, leads_then, life_leads, lines_tell, worlds_tell}
-use Rattle.dkg_lives.proofs.RunKept.{AreLives}
+use Rattle.dkg_along.proofs.Leading.{After, IsInStep, Leads, TellsLines, leads_none, leads_then, life_leads, lines_tell, worlds_tell}
+use Rattle.dkg_along.proofs.RunKept.{AreLives}
 
 abbrev U : Type 0
 U = directory.Unit

@@ -16,7 +16,7 @@ use Rattle.dkg_lives.specs.Given.{lived}
 use Rattle.dkg_lives.specs.Lives.{AnyFiles, EndsLife, LivesFrom, RunsAllSo, RunsSo, TellsEnd}
 use Rattle.dkg_lives.specs.Ways.{by_worlds}
 use Rattle.dkg_promises.proofs.OfferingRuns.{AreLivesFrom, ends_by, ends_cut, ends_of, run_ends, script_lives}
-use Rattle.dkg_lives.proofs.Leading.{After, IsInStep, Leads, leads_as, leads_none, leads_then, life_leads, worlds_tell}
+use Rattle.dkg_along.proofs.Leading.{After, IsInStep, Leads, leads_as, leads_none, leads_then, life_leads, worlds_tell}
 
 -- ALL LIVES
 module _ (s : Setting) where

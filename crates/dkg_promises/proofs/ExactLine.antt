@@ -67,23 +67,23 @@ use Rattle.dkg_lives.specs.Epochs.{IsLifeInForm, any_shares}
 use Rattle.dkg_lives.specs.Given.{AreBytes, Lived, at_step, blocks_in, lived, provided_by}
 use Rattle.dkg_promises.specs.SharesStand.{HeldShare, StandsBy, WasCutInto, Plays as PartPlays}
 use Rattle.dkg_lives.specs.Ways.{by_worlds}
-use Rattle.dkg_lives.proofs.Alone.{epoch_alike, follows_alike}
+use Rattle.dkg_along.proofs.Alone.{epoch_alike, follows_alike}
 use Rattle.dkg_lives.proofs.Awaiting.{IsReached}
-use Rattle.dkg_lives.proofs.AwaitedRises.{is_current}
-use Rattle.dkg_lives.proofs.CommitsOver.{IsTakenShare}
-use Rattle.dkg_lives.proofs.DealerKeys.{keys}
+use Rattle.dkg_along.proofs.AwaitedRises.{is_current}
+use Rattle.dkg_along.proofs.CommitsOver.{IsTakenShare}
+use Rattle.dkg_along.proofs.DealerKeys.{keys}
 use Rattle.dkg_promises.proofs.ExactSteps.{ExactHere, SomeAt}
 use Rattle.dkg_lives.proofs.Former.{life_in, live_through}
 use Rattle.dkg_promises.proofs.LastLogs.{canonical_chain}
-use Rattle.dkg_lives.proofs.LifeSteps.{IsGoing, IsLifeOfSetting}
-use Rattle.dkg_lives.proofs.LineLives.{come}
-use Rattle.dkg_lives.proofs.MarksAt.{gives_recorded, lacks_none}
+use Rattle.dkg_along.proofs.LifeSteps.{IsGoing, IsLifeOfSetting}
+use Rattle.dkg_along.proofs.LineLives.{come}
+use Rattle.dkg_along.proofs.MarksAt.{gives_recorded, lacks_none}
 use Rattle.dkg_lives.proofs.NextLives.{applied_so}
-use Rattle.dkg_lives.proofs.Plays.{deals_early}
+use Rattle.dkg_along.proofs.Plays.{deals_early}
 use Rattle.dkg_promises.proofs.ReadLogs.{IsRecordedTo}
 use Rattle.dkg_promises.proofs.SetUps.{set_up_last}
 use Rattle.dkg_promises.proofs.SharesKnown.{IsScripts, last_known}
-use Rattle.dkg_lives.proofs.Used.{in_chain}
+use Rattle.dkg_along.proofs.Used.{in_chain}
 
 abbrev U : Type 0
 U = directory.Unit

@@ -33,18 +33,18 @@ use Rattle.dkg_lives.specs.Ways.{by_worlds}
 use Rattle.dkg_promises.proofs.ExactSteps.{ExactBetween}
 use Rattle.dkg_promises.proofs.ExactTold.{ExactEntry, SharesBetween, SharesHere, exact_leads}
 use Rattle.dkg_promises.proofs.Keeping.{IsGivenSetting}
-use Rattle.dkg_lives.proofs.LifeSteps.{IsLifeOfSetting}
-use Rattle.dkg_lives.proofs.LineLives.{EachTold, KnownAfter, known_of, told_at}
-use Rattle.dkg_lives.proofs.LivesTold.{Anything}
-use Rattle.dkg_lives.proofs.MarksAt.{handed_known}
+use Rattle.dkg_along.proofs.LifeSteps.{IsLifeOfSetting}
+use Rattle.dkg_along.proofs.LineLives.{EachTold, KnownAfter, known_of, told_at}
+use Rattle.dkg_along.proofs.LivesTold.{Anything}
+use Rattle.dkg_along.proofs.MarksAt.{handed_known}
 use Rattle.dkg_promises.proofs.NotedFirst.{handed_noted}
 use Rattle.dkg_promises.proofs.OfferedHalves.{all_of}
 use Rattle.dkg_promises.proofs.PathsRun.{none_seen}
 use Rattle.dkg_promises.proofs.PathsTold.{FirstBetween, FirstHere}
 use Rattle.dkg_promises.proofs.RecordsBeside.{IsFront, front_of}
 use Rattle.dkg_promises.proofs.RunTold.{base_begins, begins, each_told, its_given, reshares}
-use Rattle.dkg_lives.proofs.ToldBeside.{BothBetween, BothHere, OfRests, OfSteps}
-use Rattle.dkg_lives.proofs.WorldLives.{IsCounted}
+use Rattle.dkg_along.proofs.ToldBeside.{BothBetween, BothHere, OfRests, OfSteps}
+use Rattle.dkg_along.proofs.WorldLives.{IsCounted}
 
 -- it is so where more is known of marks
 by_marks : (s : Setting) (before : List Entry) (epoch : ℕ) (share : Option ℕ) (honest known more : Type 0) → (more → known) → (o : Option Info)

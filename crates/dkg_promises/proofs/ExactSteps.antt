@@ -60,24 +60,24 @@ use Rattle.dkg_lives.specs.Epochs.{IsAt, IsLifeInForm, any_shares}
 use Rattle.dkg_lives.specs.Given.{Lived, at_step, lived, step_of}
 use Rattle.dkg_promises.specs.SharesStand.{ComesInto, Enters, HeldShare, WasCutInto}
 use Rattle.dkg_lives.specs.Ways.{StaysHeld, by_worlds}
-use Rattle.dkg_lives.proofs.Alone.{epoch_alike, height_alike, lacks_alike}
+use Rattle.dkg_along.proofs.Alone.{epoch_alike, height_alike, lacks_alike}
 use Rattle.dkg_lives.proofs.Awaiting.{HasHeight, IsReached, block_behind, has_height}
-use Rattle.dkg_lives.proofs.AwaitedRises.{awaited_begun, begun_rises, block_reach, is_current}
+use Rattle.dkg_along.proofs.AwaitedRises.{awaited_begun, begun_rises, block_reach, is_current}
 use Rattle.dkg_promises.proofs.Committing.{first_above}
-use Rattle.dkg_lives.proofs.CommitsOver.{IsTakenShare, Tells, block_over}
+use Rattle.dkg_along.proofs.CommitsOver.{IsTakenShare, Tells, block_over}
 use Rattle.dkg_lives.proofs.Currently.{begun_behind, begun_more}
 use Rattle.dkg_lives.proofs.Former.{BringsBlock, BringsOther, BringsPeer, IsMadeOf, IsMessage, brings_kind, event_in_form, form_at, lacks_nobody, life_in, live_through, message_in, step_taken, through_at}
-use Rattle.dkg_lives.proofs.KeptSteps.{IsAtStep}
-use Rattle.dkg_lives.proofs.LifeSteps.{IsGoing, IsLifeOfSetting}
-use Rattle.dkg_lives.proofs.LineLives.{come, come_more}
-use Rattle.dkg_lives.proofs.LivesKept.{IsBetween, taken_before, taken_within}
+use Rattle.dkg_along.proofs.KeptSteps.{IsAtStep}
+use Rattle.dkg_along.proofs.LifeSteps.{IsGoing, IsLifeOfSetting}
+use Rattle.dkg_along.proofs.LineLives.{come, come_more}
+use Rattle.dkg_along.proofs.LivesKept.{IsBetween, taken_before, taken_within}
 use Rattle.dkg_promises.proofs.OfferedHalves.{all_of}
-use Rattle.dkg_lives.proofs.RunKept.{cuts_all}
+use Rattle.dkg_along.proofs.RunKept.{cuts_all}
 use Rattle.dkg_lives.proofs.NextLives.{GoesOn, TakesOver, applied_high, has_round, next_so, with_round}
-use Rattle.dkg_lives.proofs.SaysOver.{said_over}
+use Rattle.dkg_along.proofs.SaysOver.{said_over}
 use Rattle.dkg_promises.proofs.SetUps.{IsQuiet, IsSeatedBy, IsSetUpBy, Telling, block_quiet, last_line, opening_leads, peer_quiet, set_up_last, still_seated, taken_leads}
 use Rattle.dkg_promises.proofs.SharesKnown.{IsFitting, IsMineAt, SharesFit, opening_fits, opening_fitting, reads_shares, step_fits, step_fitting}
-use Rattle.dkg_lives.proofs.SharesFit.{same_shares}
+use Rattle.dkg_along.proofs.SharesFit.{same_shares}
 use Rattle.dkg_lives.proofs.Started.{first_block_is, first_epoch_is}
 use Rattle.dkg_promises.proofs.StoredTold.{AtCommits, Leaves, Stores, TellsShare, begins_so, quiet_to, run_stores}
 

@@ -55,26 +55,26 @@ use Rattle.dkg_promises.specs.SharesStand.{EndsEpoch, EndsHonestly, HeldShare, I
 use Rattle.dkg_lives.specs.Ways.{by_worlds}
 use Rattle.dkg_lives.proofs.Awaiting.{IsReached}
 use Rattle.dkg_promises.proofs.Blaming.{same_place}
-use Rattle.dkg_lives.proofs.CommitsOver.{IsTakenShare, Tells}
-use Rattle.dkg_lives.proofs.Drawn.{all_join}
+use Rattle.dkg_along.proofs.CommitsOver.{IsTakenShare, Tells}
+use Rattle.dkg_along.proofs.Drawn.{all_join}
 use Rattle.dkg_promises.proofs.ExactLine.{line_stands}
 use Rattle.dkg_promises.proofs.ExactSteps.{ExactBetween, ExactHere, Never, SomeAt, begun_left, commits_told, cut_left, cut_opening, held_more, over_left, shares_told, unopened_left, unstepped_left, went_left}
 use Rattle.dkg_lives.proofs.Former.{BringsBlock, BringsMail, IsMadeOf, IsMessage, brings_so, event_in_form, message_in}
-use Rattle.dkg_lives.proofs.KeptSteps.{IsAtStep}
-use Rattle.dkg_lives.proofs.LifeSteps.{IsGoing, IsLifeOfSetting}
-use Rattle.dkg_lives.proofs.LineLives.{After, EachTold, KnownAfter, LeadsOn, Left, come, come_more}
-use Rattle.dkg_lives.proofs.LivesTold.{Anything, BaseBetween, BaseHere, base_leads}
+use Rattle.dkg_along.proofs.KeptSteps.{IsAtStep}
+use Rattle.dkg_along.proofs.LifeSteps.{IsGoing, IsLifeOfSetting}
+use Rattle.dkg_along.proofs.LineLives.{After, EachTold, KnownAfter, LeadsOn, Left, come, come_more}
+use Rattle.dkg_along.proofs.LivesTold.{Anything, BaseBetween, BaseHere, base_leads}
 use Rattle.dkg_promises.proofs.OfferedHalves.{all_of}
-use Rattle.dkg_lives.proofs.Ordered.{opened_in, step_is_quiet}
+use Rattle.dkg_along.proofs.Ordered.{opened_in, step_is_quiet}
 use Rattle.dkg_promises.proofs.PathsTold.{FirstBetween, FirstHere}
 use Rattle.dkg_promises.proofs.ReadLogs.{IsRecordedTo}
 use Rattle.dkg_promises.proofs.ReadingRecords.{recorded_here}
 use Rattle.dkg_promises.proofs.RecordsBeside.{IsFront, RecordsBetween, RecordsHere, front_of, records_add}
-use Rattle.dkg_lives.proofs.SeenBlocks.{seen_at}
+use Rattle.dkg_along.proofs.SeenBlocks.{seen_at}
 use Rattle.dkg_promises.proofs.SetUps.{last_line, set_up_last, set_up_there}
 use Rattle.dkg_lives.proofs.Standing.{AddsQuiet}
 use Rattle.dkg_promises.proofs.StoredTold.{AtCommits, TellsShare}
-use Rattle.dkg_lives.proofs.ToldBeside.{Adds, BothBetween, BothHere, OfLines, OfRests, OfSteps, both_leads}
+use Rattle.dkg_along.proofs.ToldBeside.{Adds, BothBetween, BothHere, OfLines, OfRests, OfSteps, both_leads}
 
 abbrev U : Type 0
 U = directory.Unit

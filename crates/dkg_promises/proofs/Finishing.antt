@@ -31,12 +31,12 @@ use Rattle.dkg_script.specs.Valid.{IsValidCase}
 use Rattle.dkg_lives.specs.Ways.{by_worlds}
 use Rattle.dkg_promises.proofs.ClearLives.{HoldsAll, life_holds_all}
 use Rattle.dkg_promises.proofs.Completing.{names_none}
-use Rattle.dkg_lives.proofs.EachLife.{worlds_over}
+use Rattle.dkg_along.proofs.EachLife.{worlds_over}
 use Rattle.dkg_promises.proofs.EndsTold.{ends_are_told}
-use Rattle.dkg_lives.proofs.FitsBrought.{acks_fit, brings_fit}
+use Rattle.dkg_along.proofs.FitsBrought.{acks_fit, brings_fit}
 use Rattle.dkg_promises.proofs.GivingDealings.{FitsRecords}
 use Rattle.dkg_promises.proofs.Keeping.{history_of}
-use Rattle.dkg_lives.proofs.Leading.{Leads}
+use Rattle.dkg_along.proofs.Leading.{Leads}
 use Rattle.dkg_promises.proofs.LivesClear.{EndsOutside, run_clear}
 use Rattle.dkg_promises.proofs.OfferingRuns.{run_ends}
 use Rattle.dkg_lives.proofs.PlanlessReads.{planless_records, planless_secrets}

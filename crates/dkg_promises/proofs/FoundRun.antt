@@ -43,9 +43,9 @@ use Rattle.dkg_lives.specs.Ways.{by_worlds}
 use Rattle.dkg_lives.proofs.Awaiting.{IsBefore, IsReached, before_all, reached_lit}
 use Rattle.dkg_promises.proofs.BegunRounds.{HasDrawn, opening_deals, step_deals}
 use Rattle.dkg_lives.proofs.Checked.{life_in_form}
-use Rattle.dkg_lives.proofs.Drawn.{all_join}
-use Rattle.dkg_lives.proofs.FewPlayers.{HasFew, begun_few, next_few}
-use Rattle.dkg_lives.proofs.Following.{item_at, rest_at}
+use Rattle.dkg_along.proofs.Drawn.{all_join}
+use Rattle.dkg_along.proofs.FewPlayers.{HasFew, begun_few, next_few}
+use Rattle.dkg_along.proofs.Following.{item_at, rest_at}
 use Rattle.dkg_promises.proofs.FoundSteps.{ShowsIn, opening_knows, opening_shows, step_knows, step_shows}
 use Rattle.dkg_lives.proofs.Knowing.{Knows}
 use Rattle.dkg_lives.proofs.LaterRecords.{entries_above}

@@ -67,8 +67,8 @@ use Rattle.dkg_promises.specs.Found.{IsBegunBy, IsDealtBy, IsFirstRefusedIn, IsR
 use Rattle.dkg_lives.specs.Given.{AreBytes, Lived, at_step, blocks_in, step_of}
 use Rattle.dkg_lives.proofs.Awaiting.{IsReached}
 use Rattle.dkg_promises.proofs.BegunRounds.{HasDrawn, first_there, last_begins, own_dealt}
-use Rattle.dkg_lives.proofs.FewPlayers.{HasFew, own_fits}
-use Rattle.dkg_lives.proofs.FitsBrought.{acks_fit}
+use Rattle.dkg_along.proofs.FewPlayers.{HasFew, own_fits}
+use Rattle.dkg_along.proofs.FitsBrought.{acks_fit}
 use Rattle.dkg_lives.proofs.FitsRead.{message_fits}
 use Rattle.dkg_lives.proofs.Former.{Brings, IsMadeOf, IsMessage, event_in_form, form_at, lacks_nobody, live_at, message_in, through_at}
 use Rattle.dkg_lives.proofs.Idle.{idle_held}

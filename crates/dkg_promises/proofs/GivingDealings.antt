@@ -44,10 +44,10 @@ use Rattle.dkg_lives.specs.Given.{Lived, at_step, lived, step_of}
 use Rattle.dkg_promises.specs.GivesBack.{PassesAll}
 use Rattle.dkg_lives.proofs.Awaiting.{IsReached}
 use Rattle.dkg_lives.proofs.BlocksLeave.{gives_no_other}
-use Rattle.dkg_lives.proofs.Drawn.{HasRoundOf, begun_round, step_round}
-use Rattle.dkg_lives.proofs.FewPlayers.{HasFew, begun_few, next_few, own_fits}
+use Rattle.dkg_along.proofs.Drawn.{HasRoundOf, begun_round, step_round}
+use Rattle.dkg_along.proofs.FewPlayers.{HasFew, begun_few, next_few, own_fits}
 use Rattle.dkg_lives.proofs.Former.{BringsBlock, BringsOther, BringsPeer, IsMessage, brings_kind, event_in_form, form_at, lacks_nobody, live_at, message_in, step_taken, through_at}
-use Rattle.dkg_lives.proofs.GivingLives.{KeepsSo, LeavesSo}
+use Rattle.dkg_along.proofs.GivingLives.{KeepsSo, LeavesSo}
 use Rattle.dkg_lives.proofs.Idle.{goes_nothing, idle_held}
 use Rattle.dkg_lives.proofs.LivesStand.{begun_at}
 use Rattle.dkg_lives.proofs.NoOthers.{IsOwnDealt, inserted}

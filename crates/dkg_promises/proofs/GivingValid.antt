@@ -19,7 +19,7 @@ use Rattle.dkg_promises.specs.GivesBack.{StaysValid}
 use Rattle.dkg_lives.specs.Lives.{RunsOver, never}
 use Rattle.dkg_promises.specs.Over.{DevicesStanding}
 use Rattle.dkg_lives.specs.Ways.{by_worlds}
-use Rattle.dkg_lives.proofs.FitsBrought.{acks_fit, brings_fit}
+use Rattle.dkg_along.proofs.FitsBrought.{acks_fit, brings_fit}
 use Rattle.dkg_promises.proofs.GivingDealings.{FitsRecords}
 use Rattle.dkg_promises.proofs.OwnRuns.{run_valid}
 use Rattle.dkg_promises.proofs.SharesStay.{run_shares}

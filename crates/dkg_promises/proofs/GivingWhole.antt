@@ -44,10 +44,10 @@ use Rattle.dkg_lives.specs.Lives.{LivesSo, RunsOver, RunsSo, never}
 use Rattle.dkg_promises.specs.Over.{DevicesStanding}
 use Rattle.dkg_lives.specs.Ways.{by_worlds}
 use Rattle.dkg_lives.proofs.Awaiting.{IsReached}
-use Rattle.dkg_lives.proofs.FewPlayers.{HasFew, begun_few, next_few, own_fits}
-use Rattle.dkg_lives.proofs.FitsBrought.{acks_fit, brings_fit}
+use Rattle.dkg_along.proofs.FewPlayers.{HasFew, begun_few, next_few, own_fits}
+use Rattle.dkg_along.proofs.FitsBrought.{acks_fit, brings_fit}
 use Rattle.dkg_lives.proofs.Former.{BringsBlock, BringsOther, BringsPeer, IsMessage, brings_kind, event_in_form, form_at, lacks_nobody, live_at, message_in, step_taken, through_at}
-use Rattle.dkg_lives.proofs.GivingLives.{KeepsSo, LeavesSo, life_holds, run_holds}
+use Rattle.dkg_along.proofs.GivingLives.{KeepsSo, LeavesSo, life_holds, run_holds}
 use Rattle.dkg_lives.proofs.Idle.{goes_nothing, idle_held}
 use Rattle.dkg_lives.proofs.LivesStand.{begun_at}
 use Rattle.dkg_lives.proofs.OpeningsLeave.{opening_whole}

@@ -58,11 +58,11 @@ use Rattle.dkg_lives.specs.Ways.{by_worlds}
 use Rattle.dkg_lives.proofs.Currently.{RestsIn, current_all}
 use Rattle.dkg_lives.proofs.FitsRead.{message_fits}
 use Rattle.dkg_lives.proofs.Former.{Brings, IsMessage, event_in_form}
-use Rattle.dkg_lives.proofs.LifeSteps.{IsLifeOfSetting}
+use Rattle.dkg_along.proofs.LifeSteps.{IsLifeOfSetting}
 use Rattle.dkg_lives.proofs.LogsFit.{block_fits}
-use Rattle.dkg_lives.proofs.RunKept.{AreLives, LeavesRun, run_kept}
-use Rattle.dkg_lives.proofs.MarksAt.{handed_known}
-use Rattle.dkg_lives.proofs.Marked.{Comes, EachMarked, answered_at, each_sound, marks_of}
+use Rattle.dkg_along.proofs.RunKept.{AreLives, LeavesRun, run_kept}
+use Rattle.dkg_along.proofs.MarksAt.{handed_known}
+use Rattle.dkg_along.proofs.Marked.{Comes, EachMarked, answered_at, each_sound, marks_of}
 
 abbrev U : Type 0
 U = directory.Unit

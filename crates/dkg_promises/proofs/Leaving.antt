@@ -60,13 +60,13 @@ use Rattle.dkg_lives.proofs.Apart.{IsApart, Reads, node_apart}
 use Rattle.dkg_promises.proofs.Ancestry.{IsRead}
 use Rattle.dkg_lives.proofs.Awaiting.{IsBefore as IsUncut, IsReached, before_all, reached_lit}
 use Rattle.dkg_promises.proofs.Blaming.{Known, its_live, m, next_known, opening_comes, reshare, step_lines}
-use Rattle.dkg_lives.proofs.Following.{item_at, rest_at}
+use Rattle.dkg_along.proofs.Following.{item_at, rest_at}
 use Rattle.dkg_lives.proofs.Former.{IsMessage, form_at, lacks_nobody, step_taken, through_at}
 use Rattle.dkg_lives.proofs.LivesStand.{before_suc}
-use Rattle.dkg_lives.proofs.Ordered.{opened_in, opening_added, step_is_quiet, tells_fault, went_opened}
+use Rattle.dkg_along.proofs.Ordered.{opened_in, opening_added, step_is_quiet, tells_fault, went_opened}
 use Rattle.dkg_promises.proofs.Requested.{IsHeld, read_here, sent_new, stands_as, untold}
 use Rattle.dkg_lives.proofs.Standing.{AddsOpening, AddsQuiet, TellsFault}
-use Rattle.dkg_lives.proofs.Steps.{Opening}
+use Rattle.dkg_along.proofs.Steps.{Opening}
 use Rattle.dkg_promises.proofs.Tracking.{AreTracked, InOrder, made_once, order_first, step_tracked}
 use Rattle.dkg_lives.proofs.Unanswered.{IsUnanswered, opening_lines}
 

@@ -51,9 +51,9 @@ use Rattle.dkg_lives.specs.Lives.{LivesSo, Steps, TakesAll, fuse_for, fuse_withi
 use Rattle.dkg_lives.specs.Ways.{by_worlds}
 use Rattle.dkg_lives.proofs.Awaiting.{HasHeight, IsBefore, IsReached, before_all, block_behind, has_height, reached_lit}
 use Rattle.dkg_lives.proofs.Delivered.{epochs_rise, from_first}
-use Rattle.dkg_lives.proofs.Drawn.{HasRoundOf, begun_round, step_round}
+use Rattle.dkg_along.proofs.Drawn.{HasRoundOf, begun_round, step_round}
 use Rattle.dkg_lives.proofs.Former.{Brings, BringsBlock, BringsMail, IsMadeOf, IsMessage, brings_so, event_in_form, form_at, lacks_nobody, live_at, message_in, step_taken, through_at}
-use Rattle.dkg_lives.proofs.HeightsRise.{awaited_rise}
+use Rattle.dkg_along.proofs.HeightsRise.{awaited_rise}
 use Rattle.dkg_lives.proofs.LivesStand.{begun_at}
 use Rattle.dkg_lives.proofs.NextLives.{with_round}
 use Rattle.dkg_promises.proofs.OfferedHalves.{HasOffered, IsDealtAt, IsOfferedNow, more_offered, unoffered_now}

@@ -25,9 +25,9 @@ use Rattle.dkg_lives.specs.Epochs.{IsLifeInForm, epoch_by}
 use Rattle.dkg_lives.specs.Given.{Lived, lived}
 use Rattle.dkg_lives.specs.Lives.{AnyFiles, EndsLife, LivesFrom, LivesSo, RunsAllSo, RunsSo, TellsEnd}
 use Rattle.dkg_lives.specs.Ways.{by_worlds}
-use Rattle.dkg_lives.proofs.Alone.{epoch_alike}
+use Rattle.dkg_along.proofs.Alone.{epoch_alike}
 use Rattle.dkg_lives.proofs.Former.{life_in}
-use Rattle.dkg_lives.proofs.HeightsRise.{awaited_rise}
+use Rattle.dkg_along.proofs.HeightsRise.{awaited_rise}
 use Rattle.dkg_promises.proofs.OfferedHalves.{HasOffered, more_offered, nothing_offered}
 use Rattle.dkg_promises.proofs.OfferingLives.{IsLeft, least_at, life_offers, taken_by}
 

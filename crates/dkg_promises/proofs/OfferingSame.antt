@@ -21,7 +21,7 @@ use Rattle.dkg_lives.specs.Given.{lived}
 use Rattle.dkg_lives.specs.Lives.{RunsOver, never}
 use Rattle.dkg_lives.specs.Ways.{by_worlds}
 use Rattle.dkg_promises.proofs.EndsTold.{ends_are_told}
-use Rattle.dkg_lives.proofs.Leading.{Leads}
+use Rattle.dkg_along.proofs.Leading.{Leads}
 use Rattle.dkg_promises.proofs.OfferingRuns.{OffersSame, run_ends, run_offers}
 
 module _ (script : Script) (files : Files) (secrets : Secrets) where

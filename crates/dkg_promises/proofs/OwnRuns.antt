@@ -52,14 +52,14 @@ use Rattle.dkg_lives.proofs.BlocksLeave.{records_log}
 use Rattle.dkg_lives.proofs.Former.{BringsBlock, BringsOther, BringsPeer, IsMessage, brings_kind, event_in_form, form_at, message_in}
 use Rattle.dkg_promises.proofs.GivingDealings as giving
 use Rattle.dkg_promises.proofs.GivingDealings.{FitsRecords, IsPassing, PassHeld}
-use Rattle.dkg_lives.proofs.GivingLives.{KeepsSo, LeavesSo, life_holds, run_holds}
+use Rattle.dkg_along.proofs.GivingLives.{KeepsSo, LeavesSo, life_holds, run_holds}
 use Rattle.dkg_lives.proofs.Idle.{idle_held}
 use Rattle.dkg_lives.proofs.Living.{holds_at}
 use Rattle.dkg_lives.proofs.NoOthers as others
 use Rattle.dkg_lives.proofs.NoOthers.{IsNoOther, IsOwnDealt, inserted}
 use Rattle.dkg_promises.proofs.OfferingLives as offering
 use Rattle.dkg_promises.proofs.OfferingLives.{IsStanding}
-use Rattle.dkg_lives.proofs.OwnBacked.{AreBacked, HoldsStill, IsBacked, IsBackedBy, along_both, commits_any_backed, commits_backed, opening_backed, prunes_backed, said_backed, same_backed, still_backed}
+use Rattle.dkg_along.proofs.OwnBacked.{AreBacked, HoldsStill, IsBacked, IsBackedBy, along_both, commits_any_backed, commits_backed, opening_backed, prunes_backed, said_backed, same_backed, still_backed}
 use Rattle.dkg_lives.proofs.OwnSteps.{SameSecrets, deals_same, logs_same}
 use Rattle.dkg_promises.proofs.StoredDealers.{IsStoredDealer}
 

@@ -32,7 +32,7 @@ use Rattle.dkg_core.specs.Live.{Live}
 use Rattle.dkg_core.specs.Seen.{Seen}
 use Rattle.dkg_core.specs.Endings.{OnInfo, first_block, first_epoch}
 use Rattle.dkg_lives.specs.Given.{Lived, at_step, blocks_in, lived}
-use Rattle.dkg_lives.proofs.Drawn.{Numbered, found_number, held_begin, info_known, round_is}
+use Rattle.dkg_along.proofs.Drawn.{Numbered, found_number, held_begin, info_known, round_is}
 use Rattle.dkg_lives.proofs.Former.{is_ceremony, made_there}
 use Rattle.dkg_promises.proofs.OwnClear.{recovered_fits, share_serves, stored_pass}
 use Rattle.dkg_lives.proofs.Started.{source_is}

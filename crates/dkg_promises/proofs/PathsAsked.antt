@@ -48,17 +48,17 @@ use Rattle.dkg_lives.specs.Asks.{bounds_in, fed_in, next_bytes}
 use Rattle.dkg_lives.specs.Blamed.{IsHad, IsInfoOf, per_epoch, refusal_in, tip_in}
 use Rattle.dkg_lives.specs.Epochs.{IsLifeInForm, StandsInScript, any_shares, epoch_by}
 use Rattle.dkg_lives.specs.Given.{AreBytes, Lived, at_step, blocks_in, lived, step_of}
-use Rattle.dkg_lives.proofs.Alone.{epoch_alike, follows_alike}
+use Rattle.dkg_along.proofs.Alone.{epoch_alike, follows_alike}
 use Rattle.dkg_promises.proofs.AnswerPaths.{IsRecordedBy, by_path, by_path_later}
 use Rattle.dkg_promises.proofs.Answered.{IsSaidAt, IsSaidIn}
 use Rattle.dkg_lives.proofs.Awaiting.{IsReached, comes_to}
 use Rattle.dkg_promises.proofs.Blaming.{Stood, its_live, opened_held, opened_stood, step_next, told_apart, told_lines, told_next}
-use Rattle.dkg_lives.proofs.Causing.{accepted_by, first_awaited}
-use Rattle.dkg_lives.proofs.ChainBlocks.{ChainTo, HasBlockAt, chain_begins, chain_next, chain_to_tip, first_taken, on_chain}
-use Rattle.dkg_lives.proofs.Chaining.{IsOnChain, Tips, tips_so}
-use Rattle.dkg_lives.proofs.DealerKeys.{keys}
-use Rattle.dkg_lives.proofs.Drawn.{Begins, Numbered, held_begin, used_begin}
-use Rattle.dkg_lives.proofs.FedRequests.{fed_grows}
+use Rattle.dkg_along.proofs.Causing.{accepted_by, first_awaited}
+use Rattle.dkg_along.proofs.ChainBlocks.{ChainTo, HasBlockAt, chain_begins, chain_next, chain_to_tip, first_taken, on_chain}
+use Rattle.dkg_along.proofs.Chaining.{IsOnChain, Tips, tips_so}
+use Rattle.dkg_along.proofs.DealerKeys.{keys}
+use Rattle.dkg_along.proofs.Drawn.{Begins, Numbered, held_begin, used_begin}
+use Rattle.dkg_along.proofs.FedRequests.{fed_grows}
 use Rattle.dkg_lives.proofs.Former.{BringsBlock, BringsMail, IsMessage, brings_so, event_in_form, life_in, message_in}
 use Rattle.dkg_lives.proofs.NextLives.{applied_so, with_round}
 use Rattle.dkg_promises.proofs.OfferedHalves.{all_of}
@@ -66,7 +66,7 @@ use Rattle.dkg_promises.proofs.OwnValid.{known_at}
 use Rattle.dkg_promises.proofs.ReadLogs.{IsByPath, IsRecordedTo}
 use Rattle.dkg_promises.proofs.Requested.{AreHeld, IsReadFor, KnowsRead, asked_same, bounds_of, dealt_part, dealt_tip, observed_part}
 use Rattle.dkg_promises.proofs.SharesKnown.{reached_below}
-use Rattle.dkg_lives.proofs.Used.{all_back, all_front, of_delivered}
+use Rattle.dkg_along.proofs.Used.{all_back, all_front, of_delivered}
 
 abbrev U : Type 0
 U = directory.Unit

@@ -24,15 +24,15 @@ use Rattle.dkg_lives.specs.Given.{lived}
 use Rattle.dkg_lives.specs.Lives.{RunsOver, never}
 use Rattle.dkg_lives.specs.Ways.{by_worlds}
 use Rattle.dkg_promises.proofs.Keeping.{IsGivenSetting}
-use Rattle.dkg_lives.proofs.LifeSteps.{IsLifeOfSetting}
-use Rattle.dkg_lives.proofs.LineLives.{EachTold, told_at}
-use Rattle.dkg_lives.proofs.LivesTold.{Anything}
+use Rattle.dkg_along.proofs.LifeSteps.{IsLifeOfSetting}
+use Rattle.dkg_along.proofs.LineLives.{EachTold, told_at}
+use Rattle.dkg_along.proofs.LivesTold.{Anything}
 use Rattle.dkg_promises.proofs.NotedFirst.{handed_noted}
 use Rattle.dkg_promises.proofs.PathsTold.{FirstBetween, FirstHere, Nothing, PathEntry, PathsHere, path_leads, past_of}
 use Rattle.dkg_promises.proofs.RecordsBeside.{IsFront, front_of}
 use Rattle.dkg_promises.proofs.RunTold.{base_begins, begins, each_told, its_given, reshares}
-use Rattle.dkg_lives.proofs.ToldBeside.{BothBetween, BothHere, OfRests, OfSteps}
-use Rattle.dkg_lives.proofs.WorldLives.{IsCounted}
+use Rattle.dkg_along.proofs.ToldBeside.{BothBetween, BothHere, OfRests, OfSteps}
+use Rattle.dkg_along.proofs.WorldLives.{IsCounted}
 
 -- a line by which a step is counted, a life is cut, or a fault is told answers nothing
 plain_path : (s : Setting) (ends : List (Option CutAt)) (marks : Type 0) (before : List Entry) (line : Entry) → IsCounted line → PathEntry s ends marks before line

@@ -36,23 +36,23 @@ use Rattle.dkg_lives.specs.Epochs.{IsLifeInForm, any_shares, epoch_by}
 use Rattle.dkg_lives.specs.Given.{AreBytes, Lived, at_step, lived, step_of}
 use Rattle.dkg_promises.specs.SharesStand.{IsWholePast}
 use Rattle.dkg_lives.specs.Ways.{by_worlds}
-use Rattle.dkg_lives.proofs.Alone.{epoch_alike}
+use Rattle.dkg_along.proofs.Alone.{epoch_alike}
 use Rattle.dkg_lives.proofs.Awaiting.{IsReached}
 use Rattle.dkg_promises.proofs.Blaming.{same_place}
 use Rattle.dkg_lives.proofs.Former.{BringsBlock, BringsMail, IsMessage, brings_so, event_in_form, form_at, lacks_nobody, life_in, live_at, message_in, step_taken, through_at}
-use Rattle.dkg_lives.proofs.KeptSteps.{IsAtStep}
-use Rattle.dkg_lives.proofs.LifeSteps.{IsGoing, IsLifeOfSetting}
-use Rattle.dkg_lives.proofs.LineLives.{After, EachTold, KnownAfter, LeadsOn, Left, come, come_more}
-use Rattle.dkg_lives.proofs.LivesTold.{Anything, BaseBetween, BaseHere, base_leads}
-use Rattle.dkg_lives.proofs.Ordered.{step_is_quiet}
+use Rattle.dkg_along.proofs.KeptSteps.{IsAtStep}
+use Rattle.dkg_along.proofs.LifeSteps.{IsGoing, IsLifeOfSetting}
+use Rattle.dkg_along.proofs.LineLives.{After, EachTold, KnownAfter, LeadsOn, Left, come, come_more}
+use Rattle.dkg_along.proofs.LivesTold.{Anything, BaseBetween, BaseHere, base_leads}
+use Rattle.dkg_along.proofs.Ordered.{step_is_quiet}
 use Rattle.dkg_promises.proofs.PathsAsked.{IsPathSaid, IsPathState, path_answer, state_lines, state_next, state_opens}
 use Rattle.dkg_promises.proofs.ReadLogs.{IsRecordedTo}
 use Rattle.dkg_promises.proofs.ReadingRecords.{block_recorded, mail_recorded}
 use Rattle.dkg_promises.proofs.RecordsBeside.{IsFront, RecordsBetween, RecordsHere, front_of, records_add}
 use Rattle.dkg_promises.proofs.Requested.{IsReadFor}
-use Rattle.dkg_lives.proofs.SeenBlocks.{seen_at}
+use Rattle.dkg_along.proofs.SeenBlocks.{seen_at}
 use Rattle.dkg_lives.proofs.Standing.{AddsQuiet}
-use Rattle.dkg_lives.proofs.ToldBeside.{Adds, BothBetween, BothHere, OfLines, OfRests, OfSteps, both_leads}
+use Rattle.dkg_along.proofs.ToldBeside.{Adds, BothBetween, BothHere, OfLines, OfRests, OfSteps, both_leads}
 use Rattle.dkg_lives.proofs.Unanswered.{IsUnanswered, opening_lines}
 
 abbrev U : Type 0

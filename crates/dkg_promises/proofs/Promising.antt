@@ -41,10 +41,10 @@ use Rattle.dkg_promises.proofs.Blaming.{CommitsIn, run_answers, run_blames, run_
 use Rattle.dkg_promises.proofs.Completing.{unblamed}
 use Rattle.dkg_promises.proofs.Finishing.{completes}
 use Rattle.dkg_promises.proofs.CutLives.{lines_cut}
-use Rattle.dkg_lives.proofs.EachLife.{lives_over}
+use Rattle.dkg_along.proofs.EachLife.{lives_over}
 use Rattle.dkg_promises.proofs.FoundRun.{run_found}
 use Rattle.dkg_promises.proofs.Leaving.{run_leaves}
-use Rattle.dkg_lives.proofs.Ordered.{run_all_lives, run_in_order}
+use Rattle.dkg_along.proofs.Ordered.{run_all_lives, run_in_order}
 use Rattle.dkg_lives.proofs.Places.{all_of_both}
 use Rattle.dkg_promises.proofs.Skipping.{run_skips}
 use Rattle.dkg_promises.proofs.Telling.{run_ends}

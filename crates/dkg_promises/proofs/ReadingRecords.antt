@@ -43,13 +43,13 @@ use Rattle.dkg_lives.specs.Given.{Lived, at_step, lived}
 use Rattle.dkg_promises.specs.SharesStand.{IsWholePast}
 use Rattle.dkg_lives.proofs.Awaiting.{IsReached}
 use Rattle.dkg_lives.proofs.ChainLogs.{brings_of}
-use Rattle.dkg_lives.proofs.Drawn.{HasRoundOf}
+use Rattle.dkg_along.proofs.Drawn.{HasRoundOf}
 use Rattle.dkg_lives.proofs.FirstLogs.{IsFirst}
 use Rattle.dkg_lives.proofs.GrowingLogs.{HasBelow, IsAtIts, IsLookedAt, below_next, sound_next}
-use Rattle.dkg_lives.proofs.HeightsRise.{heights_rise}
+use Rattle.dkg_along.proofs.HeightsRise.{heights_rise}
 use Rattle.dkg_lives.proofs.LogsBehind.{HasObserved, dealt_logs}
 use Rattle.dkg_promises.proofs.NotedFirst.{AreSoundIn, HasThoseIn, counts_within, has_none}
-use Rattle.dkg_lives.proofs.ObservedLogs.{looked_at}
+use Rattle.dkg_along.proofs.ObservedLogs.{looked_at}
 use Rattle.dkg_promises.proofs.ReadLogs.{IsEarly, IsRecordedTo}
 use Rattle.dkg_promises.proofs.RecordingSteps as steps
 use Rattle.dkg_promises.proofs.RecordingSteps.{IsRecording}

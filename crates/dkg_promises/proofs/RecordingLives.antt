@@ -45,14 +45,14 @@ use Rattle.dkg_laws.proofs.RecordingLogs.{node_steps_record_logs}
 use Rattle.dkg_lives.specs.Epochs.{IsLifeInForm, StandsInScript, any_shares}
 use Rattle.dkg_lives.specs.Given.{Lived, at_step, blocks_in, lived}
 use Rattle.dkg_promises.specs.SharesStand.{IsWholePast}
-use Rattle.dkg_lives.proofs.Alone.{epoch_alike, follows_alike}
-use Rattle.dkg_lives.proofs.Asking.{same_epoch}
+use Rattle.dkg_along.proofs.Alone.{epoch_alike, follows_alike}
+use Rattle.dkg_along.proofs.Asking.{same_epoch}
 use Rattle.dkg_lives.proofs.Awaiting.{HasHeight, IsReached, event_behind, has_height}
-use Rattle.dkg_lives.proofs.AwaitedRises.{awaited_begun, block_reach}
+use Rattle.dkg_along.proofs.AwaitedRises.{awaited_begun, block_reach}
 use Rattle.dkg_lives.proofs.Currently.{begun_behind}
-use Rattle.dkg_lives.proofs.FewPlayers.{own_fits}
+use Rattle.dkg_along.proofs.FewPlayers.{own_fits}
 use Rattle.dkg_lives.proofs.Former.{BringsBlock, BringsMail, IsMessage, IsMadeOf, brings_so, form_at, lacks_nobody, life_in, live_at, step_taken, through_at}
-use Rattle.dkg_lives.proofs.LifeSteps.{IsGoing, IsLifeOfSetting}
+use Rattle.dkg_along.proofs.LifeSteps.{IsGoing, IsLifeOfSetting}
 use Rattle.dkg_lives.proofs.LogsBehind.{LogsBehind, node_logs}
 use Rattle.dkg_lives.proofs.NextLives.{GoesOn, TakesOver, applied_high, next_so}
 use Rattle.dkg_promises.proofs.NotedFirst.{AreNoted, noted_same}

@@ -41,22 +41,22 @@ use Rattle.dkg_core.proofs.Heights.{epoch_to}
 use Rattle.dkg_lives.specs.Epochs.{IsAt, IsLifeInForm, StandsInScript, any_shares, epoch_by}
 use Rattle.dkg_lives.specs.Given.{Lived, at_step, lived}
 use Rattle.dkg_promises.specs.SharesStand.{IsWholePast}
-use Rattle.dkg_lives.proofs.Alone.{epoch_alike, follows_alike, height_alike}
+use Rattle.dkg_along.proofs.Alone.{epoch_alike, follows_alike, height_alike}
 use Rattle.dkg_lives.proofs.Awaiting.{IsReached, block_behind, comes_to}
-use Rattle.dkg_lives.proofs.AwaitedRises.{begun_rises, is_current}
+use Rattle.dkg_along.proofs.AwaitedRises.{begun_rises, is_current}
 use Rattle.dkg_lives.proofs.ChainLogs.{brings_of}
 use Rattle.dkg_lives.proofs.Currently.{begun_more}
-use Rattle.dkg_lives.proofs.Drawn.{HasRoundOf}
+use Rattle.dkg_along.proofs.Drawn.{HasRoundOf}
 use Rattle.dkg_lives.proofs.FirstLogs.{IsFirst, NoneIn, first_of}
 use Rattle.dkg_lives.proofs.Former.{life_in, live_at}
 use Rattle.dkg_lives.proofs.GrowingLogs.{HasBelow, IsAtIts, those_here}
 use Rattle.dkg_lives.proofs.LogsBehind.{LogsBehind}
 use Rattle.dkg_lives.proofs.NextLives.{applied_here, applied_high, applied_so, has_round, passed_so, with_round}
 use Rattle.dkg_promises.proofs.NotedFirst.{AreNoted, HasThoseIn, IsCome, counts_within, has_more, has_none, noted_same}
-use Rattle.dkg_lives.proofs.ObservedLogs.{brings_accepted, looked_at}
-use Rattle.dkg_lives.proofs.Plays.{deals_early}
+use Rattle.dkg_along.proofs.ObservedLogs.{brings_accepted, looked_at}
+use Rattle.dkg_along.proofs.Plays.{deals_early}
 use Rattle.dkg_promises.proofs.ReadLogs.{IsEarly}
-use Rattle.dkg_lives.proofs.Used.{of_delivered}
+use Rattle.dkg_along.proofs.Used.{of_delivered}
 
 abbrev U : Type 0
 U = directory.Unit

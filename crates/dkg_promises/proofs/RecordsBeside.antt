@@ -36,17 +36,17 @@ use Rattle.dkg_lives.specs.Ways.{StaysHeld, by_worlds}
 use Rattle.dkg_lives.proofs.Awaiting.{IsReached}
 use Rattle.dkg_lives.proofs.Currently.{begun_more}
 use Rattle.dkg_lives.proofs.Former.{IsMessage, event_in_form, message_in}
-use Rattle.dkg_lives.proofs.KeptSteps.{IsAtStep}
-use Rattle.dkg_lives.proofs.LifeSteps.{IsLifeOfSetting}
-use Rattle.dkg_lives.proofs.LineLives.{After, KnownAfter, Left, come, come_more}
-use Rattle.dkg_lives.proofs.LivesKept.{IsBetween, taken_before, taken_by, taken_within}
-use Rattle.dkg_lives.proofs.LivesTold.{Anything, BaseBetween, BaseHere, all_told}
+use Rattle.dkg_along.proofs.KeptSteps.{IsAtStep}
+use Rattle.dkg_along.proofs.LifeSteps.{IsLifeOfSetting}
+use Rattle.dkg_along.proofs.LineLives.{After, KnownAfter, Left, come, come_more}
+use Rattle.dkg_along.proofs.LivesKept.{IsBetween, taken_before, taken_by, taken_within}
+use Rattle.dkg_along.proofs.LivesTold.{Anything, BaseBetween, BaseHere, all_told}
 use Rattle.dkg_promises.proofs.NotedFirst.{AreNoted, noted_same}
 use Rattle.dkg_promises.proofs.RecordingLives as lives
 use Rattle.dkg_promises.proofs.RecordingLives.{left_noted}
 use Rattle.dkg_promises.proofs.RecordingSteps.{IsRecording, Saw, saw_first}
-use Rattle.dkg_lives.proofs.RunKept.{cuts_all}
-use Rattle.dkg_lives.proofs.ToldBeside.{Adds}
+use Rattle.dkg_along.proofs.RunKept.{cuts_all}
+use Rattle.dkg_along.proofs.ToldBeside.{Adds}
 
 abbrev U : Type 0
 U = directory.Unit

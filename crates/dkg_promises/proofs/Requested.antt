@@ -42,8 +42,8 @@ use Rattle.dkg_lives.specs.Epochs.{IsLifeInForm, StandsInScript, any_shares, epo
 use Rattle.dkg_lives.specs.Given.{Lived, at_step, blocks_in, numbered}
 use Rattle.dkg_promises.proofs.Ancestry.{IsCompleted, IsRead, read_so}
 use Rattle.dkg_lives.proofs.Apart.{IsApart, IsNewOne, IsReadAt, LacksNumber, Reads, none_apart, as_apart}
-use Rattle.dkg_lives.proofs.Asking.{dealt_same, goes, heard_same, observed_same, same_epoch}
-use Rattle.dkg_lives.proofs.FedRequests.{adds, adds_block, becomes_open, fed_more, fed_nothing, made_anew, stands_more}
+use Rattle.dkg_along.proofs.Asking.{dealt_same, goes, heard_same, observed_same, same_epoch}
+use Rattle.dkg_along.proofs.FedRequests.{adds, adds_block, becomes_open, fed_more, fed_nothing, made_anew, stands_more}
 use Rattle.dkg_lives.proofs.Former.{Brings, IsMessage, life_in}
 use Rattle.dkg_lives.proofs.NextLives.{GoesOn, TakesOver}
 

@@ -21,11 +21,11 @@ use Rattle.dkg_lives.specs.Given.{lived}
 use Rattle.dkg_lives.specs.Lives.{RunsOver, never}
 use Rattle.dkg_lives.specs.Ways.{by_worlds}
 use Rattle.dkg_promises.proofs.Keeping.{IsGivenSetting, given, lives_of, rests_at_start, same_behind}
-use Rattle.dkg_lives.proofs.LifeSteps.{IsLifeOfSetting}
-use Rattle.dkg_lives.proofs.LineLives.{EachTold, LeadsOn, Told, run_told}
-use Rattle.dkg_lives.proofs.LivesTold.{BaseBetween}
-use Rattle.dkg_lives.proofs.ToldBeside.{OfLines, OfRests, OfSteps}
-use Rattle.dkg_lives.proofs.WorldLives.{IsCounted}
+use Rattle.dkg_along.proofs.LifeSteps.{IsLifeOfSetting}
+use Rattle.dkg_along.proofs.LineLives.{EachTold, LeadsOn, Told, run_told}
+use Rattle.dkg_along.proofs.LivesTold.{BaseBetween}
+use Rattle.dkg_along.proofs.ToldBeside.{OfLines, OfRests, OfSteps}
+use Rattle.dkg_along.proofs.WorldLives.{IsCounted}
 
 module _ (s : Setting) (built : IsGivenSetting s) (no_plans : s.plans ≡ []) (added : List Entry) (consistent : IsConsistentScript s (progress s added).cuts) where
   -- how the lives ended, as these entries tell it

@@ -59,15 +59,15 @@ use Rattle.dkg_core.proofs.Storing.{looked_up}
 use Rattle.dkg_lives.specs.Epochs.{IsLifeInForm}
 use Rattle.dkg_lives.specs.Given.{Lived, anchor_in, at_step, blocks_in, delivered_by, lived, numbered, step_of}
 use Rattle.dkg_lives.proofs.Awaiting.{IsReached, comes_to, one_more}
-use Rattle.dkg_lives.proofs.Drawn.{Begins, Numbered, all_join, found_number, held_begin, used_begin}
+use Rattle.dkg_along.proofs.Drawn.{Begins, Numbered, all_join, found_number, held_begin, used_begin}
 use Rattle.dkg_lives.proofs.Former.{BringsBlock, BringsMail, BringsOther, BringsPeer, IsMessage, brings_kind, brings_so, event_in_form, form_at, lacks_nobody, live_through, message_in, step_taken, through_at}
 use Rattle.dkg_lives.proofs.Idle.{idle_held}
 use Rattle.dkg_lives.proofs.NextLives.{GoesOn, TakesOver, next_so}
 use Rattle.dkg_promises.proofs.OwnClear.{recovered_fits}
 use Rattle.dkg_promises.proofs.OwnValid.{known_at}
-use Rattle.dkg_lives.proofs.SharesFit.{BoundaryServes, HoldsSuch, Serves, block_such, message_such, opening_such, same_shares}
+use Rattle.dkg_along.proofs.SharesFit.{BoundaryServes, HoldsSuch, Serves, block_such, message_such, opening_such, same_shares}
 use Rattle.dkg_lives.proofs.Started.{anchored_is}
-use Rattle.dkg_lives.proofs.Used.{all_back, all_front, of_delivered}
+use Rattle.dkg_along.proofs.Used.{all_back, all_front, of_delivered}
 
 some_is : {A : Type 0} {x y : A} → ◌≡◌ {A = Option A} (Some x) (Some y) → x ≡ y
 some_is e = cc

@@ -28,8 +28,8 @@ use Rattle.dkg_lives.specs.Ways.{by_worlds}
 use Rattle.dkg_lives.proofs.Awaiting.{IsReached}
 use Rattle.dkg_promises.proofs.GivingDealings as giving
 use Rattle.dkg_promises.proofs.GivingDealings.{FitsRecords, IsPassing, PassHeld}
-use Rattle.dkg_lives.proofs.GivingLives.{KeepsSo, LeavesSo, life_holds, run_holds}
-use Rattle.dkg_lives.proofs.SharesFit.{same_shares}
+use Rattle.dkg_along.proofs.GivingLives.{KeepsSo, LeavesSo, life_holds, run_holds}
+use Rattle.dkg_along.proofs.SharesFit.{same_shares}
 use Rattle.dkg_promises.proofs.SharesKnown.{IsFitting, IsMineAt, SharesFit, opening_fits, opening_fitting, step_fits, step_fitting}
 
 -- whole devices give back dealings that pass, and hold shares that fit

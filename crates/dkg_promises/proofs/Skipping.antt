@@ -37,13 +37,13 @@ use Rattle.dkg_promises.specs.Refusals.{BlamesOnlySkips, IsNoFirst, IsRefusal, S
 use Rattle.dkg_lives.specs.Ways.{by_lines, trace}
 use Rattle.dkg_lives.proofs.Awaiting.{IsReached}
 use Rattle.dkg_promises.proofs.Blaming.{Judges, TellsWhy, all_judged}
-use Rattle.dkg_lives.proofs.Chaining.{IsOutside, IsSkipped, Tips, refused_so, tips_so}
+use Rattle.dkg_along.proofs.Chaining.{IsOutside, IsSkipped, Tips, refused_so, tips_so}
 use Rattle.dkg_lives.proofs.Checked.{anchor_above}
-use Rattle.dkg_lives.proofs.EachLife.{lives_over}
-use Rattle.dkg_lives.proofs.Following.{RunEndsBy}
+use Rattle.dkg_along.proofs.EachLife.{lives_over}
+use Rattle.dkg_along.proofs.Following.{RunEndsBy}
 use Rattle.dkg_promises.proofs.Keeping.{history_of}
-use Rattle.dkg_lives.proofs.Ordered.{all_in_order, tells_fault}
-use Rattle.dkg_lives.proofs.Runs.{starts}
+use Rattle.dkg_along.proofs.Ordered.{all_in_order, tells_fault}
+use Rattle.dkg_along.proofs.Runs.{starts}
 use Rattle.dkg_lives.proofs.Standing.{IsBetweenOf, MayTell, Moves, TellsFault}
 
 -- NO INFO, no share and no dealing is a reason for a block's refusal

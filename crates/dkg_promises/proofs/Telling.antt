@@ -38,9 +38,9 @@ use Rattle.dkg_lives.specs.Given.{blocks_in, lived}
 use Rattle.dkg_lives.specs.Lives.{RunsSo, TellsEnd}
 use Rattle.dkg_lives.specs.Ways.{ReadsSomething, Trace, by_lines}
 use Rattle.dkg_promises.proofs.Blaming.{Judges, TellsWhy, all_judged}
-use Rattle.dkg_lives.proofs.Following.{RunEndsBy}
-use Rattle.dkg_lives.proofs.Ordered.{tells_fault}
-use Rattle.dkg_lives.proofs.Runs.{starts}
+use Rattle.dkg_along.proofs.Following.{RunEndsBy}
+use Rattle.dkg_along.proofs.Ordered.{tells_fault}
+use Rattle.dkg_along.proofs.Runs.{starts}
 use Rattle.dkg_lives.proofs.Standing.{IsBetweenOf, Moves, TellsFault}
 
 -- the fault is one that can be told, or want of memory

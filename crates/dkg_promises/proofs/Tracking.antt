@@ -47,8 +47,8 @@ use Rattle.dkg_promises.specs.Leaves.{IsOldest, IsOpenRequest, IsSaidBy, IsVerif
 use Rattle.dkg_lives.proofs.Accounting.{Before, IsAnsweredIn, IsKept, IsWaiting, among_both, among_last, among_left, at_first, cancelled_apart, kept_as, last_kept, none_in, step_kept}
 use Rattle.dkg_promises.proofs.Answered.{IsSaidAt, answered_so}
 use Rattle.dkg_lives.proofs.Apart.{IsApart, IsNewOne, LacksNumber, Reads, idle_work, queued_apart}
-use Rattle.dkg_lives.proofs.Asking.{dealt_same, goes, heard_same, observed_same, same_epoch}
-use Rattle.dkg_lives.proofs.FedRequests.{asked_anew, stands_more}
+use Rattle.dkg_along.proofs.Asking.{dealt_same, goes, heard_same, observed_same, same_epoch}
+use Rattle.dkg_along.proofs.FedRequests.{asked_anew, stands_more}
 use Rattle.dkg_lives.proofs.Former.{Brings, BringsBlock, BringsMail, IsMessage, brings_so, life_in, step_taken, through_at}
 use Rattle.dkg_lives.proofs.NextLives.{GoesOn, TakesOver, has_round}
 use Rattle.dkg_promises.proofs.Requested.{AreHeld, AreReady, IsHeld, dealt_said, included_said, less_one, mail_said, sends_info, sent_new, stands_as, untold, were_asked}

@@ -45,7 +45,7 @@ use Rattle.dkg_lives.proofs.Currently.{current_all}
 use Rattle.dkg_promises.proofs.Keeping.{history_of}
 use Rattle.dkg_promises.proofs.Leaving.{scan_leaves}
 use Rattle.dkg_promises.proofs.OfferedHalves.{all_of}
-use Rattle.dkg_lives.proofs.Used.{all_back}
+use Rattle.dkg_along.proofs.Used.{all_back}
 
 -- Both devices stand as they stood.
 pub record Unmoved (o : Over) : Type 0 where

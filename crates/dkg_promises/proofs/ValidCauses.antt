@@ -42,15 +42,15 @@ use Rattle.dkg_lives.specs.Blamed.{IsBlockCause, IsCause, IsInfoCause, IsLastCau
 use Rattle.dkg_lives.specs.Epochs.{IsAnchorAbove}
 use Rattle.dkg_lives.specs.Given.{AreBytes, blocks_in, limits_of, payload_in}
 use Rattle.dkg_script.specs.Valid.{BeginsWell, ComesInTurn, EndsEpoch, HasPlayers, IsValidCase, LiesInRange, ProvidesNext, ServesIn}
-use Rattle.dkg_lives.proofs.Alone.{epoch_alike, follows_alike, height_alike}
+use Rattle.dkg_along.proofs.Alone.{epoch_alike, follows_alike, height_alike}
 use Rattle.dkg_core.specs.Sources.{Tip}
 use Rattle.dkg_lives.proofs.Awaiting.{IsReached, awaited, comes_to}
-use Rattle.dkg_lives.proofs.Chaining.{IsOutside, IsSkipped, Tips, refused_so, tips_so}
+use Rattle.dkg_along.proofs.Chaining.{IsOutside, IsSkipped, Tips, refused_so, tips_so}
 use Rattle.dkg_lives.proofs.Delivered.{starts}
-use Rattle.dkg_lives.proofs.Drawn.{all_join, found_number, own_info, same_limits}
+use Rattle.dkg_along.proofs.Drawn.{all_join, found_number, own_info, same_limits}
 use Rattle.dkg_lives.proofs.Former.{IsMadeOf, made_there}
 use Rattle.dkg_lives.proofs.Started.{starts_at_anchor}
-use Rattle.dkg_lives.proofs.Used.{all_back, all_front, held as held_in, of_anchor, of_delivered}
+use Rattle.dkg_along.proofs.Used.{all_back, all_front, held as held_in, of_anchor, of_delivered}
 
 ok_err : {A E : Type 0} (x : A) (e : E) → ◌≡◌ {A = Result A E} (Ok x) (Err e) → ⊥
 ok_err x e is = cc

@@ -40,7 +40,7 @@ use Rattle.dkg_lives.proofs.Awaiting.{IsReached, comes_to}
 use Rattle.dkg_lives.proofs.Former.{BringsBlock, BringsMail, IsMadeOf, IsMessage, brings_so, is_ceremony, made_there}
 use Rattle.dkg_lives.proofs.NextLives.{GoesOn, TakesOver, next_so}
 use Rattle.dkg_lives.proofs.Started.{source_is}
-use Rattle.dkg_lives.proofs.Used.{all_back, all_front, all_sources, held as held_in, of_delivered}
+use Rattle.dkg_along.proofs.Used.{all_back, all_front, all_sources, held as held_in, of_delivered}
 
 some_is : {A : Type 0} {x y : A} → ◌≡◌ {A = Option A} (Some x) (Some y) → x ≡ y
 some_is e = cc

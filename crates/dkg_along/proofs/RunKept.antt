@@ -38,9 +38,9 @@ use Rattle.dkg_lives.specs.Given.{Lived, at_step, lived, step_of}
 use Rattle.dkg_lives.specs.Lives.{AnyFiles, EndsLife, LivesFrom, LivesSo, RunsAllSo, RunsSo, Steps, TakesAll, TellsEnd, Wants, fuse_for}
 use Rattle.dkg_lives.specs.Ways.{by_worlds}
 use Rattle.dkg_lives.proofs.Currently.{RestsIn, before_front, begun_behind, current_later}
-use Rattle.dkg_lives.proofs.LifeSteps.{IsLifeOfSetting}
-use Rattle.dkg_lives.proofs.LivesKept.{IsBetween, IsStopped, LeavesLife, lives_kept, taken_by}
-use Rattle.dkg_lives.proofs.Marked.{Comes, comes_first, comes_none, comes_then, marks_after}
+use Rattle.dkg_along.proofs.LifeSteps.{IsLifeOfSetting}
+use Rattle.dkg_along.proofs.LivesKept.{IsBetween, IsStopped, LeavesLife, lives_kept, taken_by}
+use Rattle.dkg_along.proofs.Marked.{Comes, comes_first, comes_none, comes_then, marks_after}
 
 abbrev U : Type 0
 U = directory.Unit

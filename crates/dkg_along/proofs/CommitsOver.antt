@@ -60,7 +60,7 @@ use Rattle.dkg_core.proofs.SayingThrough.{deals_so, hears_so, so_behind, so_if}
 use Rattle.dkg_core.proofs.Verifying as verifying
 use Rattle.dkg_core.proofs.Verifying.{IsEndedIn, verified_is, verifying_ends}
 use Rattle.dkg_lives.proofs.HalfLines as halves
-use Rattle.dkg_lives.proofs.SaysOver.{SaysOver, anywhere, only_so, over_behind, over_if, over_only, over_option, over_under}
+use Rattle.dkg_along.proofs.SaysOver.{SaysOver, anywhere, only_so, over_behind, over_if, over_only, over_option, over_under}
 
 none_apart : {A : Type 0} (a : A) → ◌≡◌ {A = Option A} None (Some a) → ⊥
 none_apart a e = cc

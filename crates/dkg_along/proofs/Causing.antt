@@ -46,7 +46,7 @@ use Rattle.dkg_core.proofs.StepDealing as dealing
 use Rattle.dkg_lives.specs.Blamed.{IsAskedOwn, IsBlockCause, IsBlockOwn, IsCause, IsClear, IsInfoCause, IsInfoOf, IsNextCause, IsOwn, IsOwnCause, IsProviderCause, IsReadingEvent, IsTakenLast, MayRead, OnCarried, first_epoch_in, is_beyond, is_first_taken, next_epoch, opening_block, per_epoch, refusal_by, refusal_in, round_by, tip_in}
 use Rattle.dkg_lives.specs.Epochs.{IsLifeInForm, StandsInScript, any_shares, awaited_by, epoch_by}
 use Rattle.dkg_lives.specs.Given.{Lived, at_step, blocks_in}
-use Rattle.dkg_lives.proofs.Asking.{AreMade, Each, IsCarried, WasMade, first_block_same}
+use Rattle.dkg_along.proofs.Asking.{AreMade, Each, IsCarried, WasMade, first_block_same}
 use Rattle.dkg_lives.proofs.Awaiting.{HasHeight, IsReached, awaited, block_behind, event_behind, has_height}
 use Rattle.dkg_lives.proofs.Delivered.{starts}
 use Rattle.dkg_lives.proofs.Former.{IsMessage, made_there}

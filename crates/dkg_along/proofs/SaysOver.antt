@@ -11,7 +11,7 @@ use Rattle.dkg_core.specs.Forms.{ComesOver}
 use Rattle.dkg_core.specs.SayingThrough.{SaysSo}
 use Rattle.dkg_core.specs.Transcripts.{AddsDeeds, lines_of}
 use Rattle.dkg_core.proofs.Lines.{runs_add_deeds}
-use Rattle.dkg_lives.proofs.Used.{all_front}
+use Rattle.dkg_along.proofs.Used.{all_front}
 
 -- Each line of the course is such a one.
 abbrev pub SaysOver : {Dir F S : Type 0} → (Line → Type 0) → Course Dir F S → Held → Type 0

@@ -28,10 +28,10 @@ use Rattle.dkg_lives.specs.Ended.{by_node_stop}
 use Rattle.dkg_lives.specs.Given.{Lived, at_step, step_of}
 use Rattle.dkg_lives.specs.Lives.{LivesSo, Steps, TakesAll, fuse_for}
 use Rattle.dkg_lives.specs.Ways.{Way, by_lines, by_worlds}
-use Rattle.dkg_lives.proofs.Ordered.{opened_in, opening_added, step_is_quiet}
+use Rattle.dkg_along.proofs.Ordered.{opened_in, opening_added, step_is_quiet}
 use Rattle.dkg_lives.proofs.Standing.{AddsQuiet}
-use Rattle.dkg_lives.proofs.Steps.{Opening}
-use Rattle.dkg_lives.proofs.LivesKept.{Rest, all_rest}
+use Rattle.dkg_along.proofs.Steps.{Opening}
+use Rattle.dkg_along.proofs.LivesKept.{Rest, all_rest}
 
 abbrev U : Type 0
 U = directory.Unit

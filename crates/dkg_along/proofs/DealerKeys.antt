@@ -22,8 +22,8 @@ use Rattle.dkg_lives.proofs.ChainLogs.{brings_of, counted_at}
 use Rattle.dkg_lives.proofs.Former.{made_there}
 use Rattle.dkg_lives.proofs.Living.{holds_at}
 use Rattle.dkg_lives.proofs.LogsFit.{log_read}
-use Rattle.dkg_lives.proofs.SeenBlocks.{made_at, seen}
-use Rattle.dkg_lives.proofs.Used.{in_chain}
+use Rattle.dkg_along.proofs.SeenBlocks.{made_at, seen}
+use Rattle.dkg_along.proofs.Used.{in_chain}
 
 none_some : {A : Type 0} {x : A} → ◌≡◌ {A = Option A} None (Some x) → ⊥
 none_some e = cc

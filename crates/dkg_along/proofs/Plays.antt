@@ -30,8 +30,8 @@ use Rattle.dkg_core.specs.Seen.{Seen}
 use Rattle.dkg_core.specs.Setup.{Standing, Uncommitted}
 use Rattle.dkg_core.specs.Endings.{first_block, stage_in}
 use Rattle.dkg_lives.specs.Given.{Lived, at_step, lived}
-use Rattle.dkg_lives.proofs.Drawn.{HasRoundOf}
-use Rattle.dkg_lives.proofs.MarksAt.{GivesRecorded, KnowsMarks, lacks_none}
+use Rattle.dkg_along.proofs.Drawn.{HasRoundOf}
+use Rattle.dkg_along.proofs.MarksAt.{GivesRecorded, KnowsMarks, lacks_none}
 use Rattle.dkg_lives.proofs.Seats.{plays_so, valid_so}
 
 some_is : {A : Type 0} {x y : A} → ◌≡◌ {A = Option A} (Some x) (Some y) → x ≡ y

@@ -32,14 +32,14 @@ use Rattle.dkg_lives.specs.Epochs.{IsLifeInForm}
 use Rattle.dkg_lives.specs.Given.{Lived, at_step, lived, step_of}
 use Rattle.dkg_lives.specs.Ways.{StaysHeld, by_worlds}
 use Rattle.dkg_lives.proofs.Awaiting.{IsReached}
-use Rattle.dkg_lives.proofs.AwaitedRises.{begun_rises}
+use Rattle.dkg_along.proofs.AwaitedRises.{begun_rises}
 use Rattle.dkg_lives.proofs.Currently.{MayBeKept, RestsIn, begun_behind, begun_more, current_later, may_of, may_still}
 use Rattle.dkg_lives.proofs.Former.{IsMessage, event_in_form, message_in}
-use Rattle.dkg_lives.proofs.KeptSteps.{AnyCall, IsAtStep, Reaches, WithinCall, saved_carried}
-use Rattle.dkg_lives.proofs.LifeSteps.{IsGoing, IsLifeOfSetting, IsSettled, OpeningLeaves, StepLeaves, opening_goes, step_goes}
-use Rattle.dkg_lives.proofs.LineLives.{After, CutThen, EachTold, KnownAfter, LeadsOn, Left, Told, come, come_more, known_before}
-use Rattle.dkg_lives.proofs.LivesKept.{IsBetween, IsStopped, held_pairs, held_whole, logs_later, may_later, stops_saved, taken_before, taken_by, taken_within, told_going}
-use Rattle.dkg_lives.proofs.RunKept.{logs_then, rests_then}
+use Rattle.dkg_along.proofs.KeptSteps.{AnyCall, IsAtStep, Reaches, WithinCall, saved_carried}
+use Rattle.dkg_along.proofs.LifeSteps.{IsGoing, IsLifeOfSetting, IsSettled, OpeningLeaves, StepLeaves, opening_goes, step_goes}
+use Rattle.dkg_along.proofs.LineLives.{After, CutThen, EachTold, KnownAfter, LeadsOn, Left, Told, come, come_more, known_before}
+use Rattle.dkg_along.proofs.LivesKept.{IsBetween, IsStopped, held_pairs, held_whole, logs_later, may_later, stops_saved, taken_before, taken_by, taken_within, told_going}
+use Rattle.dkg_along.proofs.RunKept.{logs_then, rests_then}
 
 abbrev U : Type 0
 U = directory.Unit

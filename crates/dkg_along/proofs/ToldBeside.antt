@@ -20,10 +20,10 @@ use Rattle.dkg_lives.specs.Epochs.{IsLifeInForm}
 use Rattle.dkg_lives.specs.Given.{Lived, at_step, lived, step_of}
 use Rattle.dkg_lives.specs.Ways.{StaysHeld, by_worlds}
 use Rattle.dkg_lives.proofs.Awaiting.{IsReached}
-use Rattle.dkg_lives.proofs.KeptSteps.{IsAtStep}
-use Rattle.dkg_lives.proofs.LifeSteps.{IsLifeOfSetting}
-use Rattle.dkg_lives.proofs.LineLives.{After, CutThen, EachTold, KnownAfter, LeadsOn, Left, Told, come}
-use Rattle.dkg_lives.proofs.LivesKept.{IsBetween}
+use Rattle.dkg_along.proofs.KeptSteps.{IsAtStep}
+use Rattle.dkg_along.proofs.LifeSteps.{IsLifeOfSetting}
+use Rattle.dkg_along.proofs.LineLives.{After, CutThen, EachTold, KnownAfter, LeadsOn, Left, Told, come}
+use Rattle.dkg_along.proofs.LivesKept.{IsBetween}
 
 abbrev U : Type 0
 U = directory.Unit

@@ -24,7 +24,7 @@ use Rattle.dkg_lives.specs.Given.{Lived, at_step, lived, step_of}
 use Rattle.dkg_lives.specs.Lives.{AnyFiles, EndsLife, LivesFrom, LivesSo, RunsAllSo, RunsSo, Steps, TakesAll, TellsEnd, fuse_for}
 use Rattle.dkg_lives.specs.Ways.{by_worlds}
 use Rattle.dkg_lives.proofs.Awaiting.{IsBefore, IsReached, before_all, reached_lit}
-use Rattle.dkg_lives.proofs.GivingLives.{before_suc, item_at, rest_at}
+use Rattle.dkg_along.proofs.GivingLives.{before_suc, item_at, rest_at}
 
 -- a line by which a step is counted, a life is cut, or a fault is told
 abbrev pub IsCounted : Entry → Type 0

@@ -55,7 +55,7 @@ use Rattle.dkg_lives.proofs.Heard.{Carries, IsHeard, IsSameStep, IsUnchanged, Va
 use Rattle.dkg_lives.proofs.NoOthers.{IsOwnDealt, IsToldSince}
 use Rattle.dkg_lives.proofs.PeerForms.{IsUndue}
 use Rattle.dkg_lives.proofs.Recorded.{gives_one, restored_at, with_pair_finds}
-use Rattle.dkg_lives.proofs.Seated.{own_valid}
+use Rattle.dkg_along.proofs.Seated.{own_valid}
 
 -- ENTRIES, one behind another
 

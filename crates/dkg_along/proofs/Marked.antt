@@ -17,7 +17,7 @@ use Rattle.dkg_script.specs.Progress.{Progress, read, pair_of}
 use Rattle.dkg_script.specs.Setting.{Setting, me}
 use Rattle.dkg_script.proofs.EachEntry.{EachAfter}
 use Rattle.dkg_lives.proofs.Currently.{IsGrown, IsKeptEntry, IsWithin}
-use Rattle.dkg_lives.proofs.KeptSteps.{Reaches}
+use Rattle.dkg_along.proofs.KeptSteps.{Reaches}
 use Rattle.dkg_lives.proofs.Recorded.{found_is}
 
 -- A MARK that is known stays so

@@ -37,7 +37,7 @@ use Rattle.dkg_core.proofs.StepDealing as dealing
 use Rattle.dkg_lives.specs.Blamed.{IsHad, IsInfoOf, first_epoch_in, opening_block, per_epoch}
 use Rattle.dkg_lives.specs.Epochs.{IsLifeInForm, StandsInScript, any_shares, epoch_by}
 use Rattle.dkg_lives.specs.Given.{Lived, at_step, blocks_in}
-use Rattle.dkg_lives.proofs.Drawn.{all_join, found_number}
+use Rattle.dkg_along.proofs.Drawn.{all_join, found_number}
 use Rattle.dkg_lives.proofs.Former.{Brings, BringsBlock, BringsMail, IsMessage, brings_so, form_at}
 use Rattle.dkg_lives.proofs.NextLives.{GoesOn, TakesOver, next_so}
 use Rattle.dkg_lives.proofs.Started.{first_epoch_is, source_is}

@@ -35,7 +35,7 @@ use Rattle.dkg_lives.proofs.Former.{height_at}
 use Rattle.dkg_lives.proofs.Living.{holds_at}
 use Rattle.dkg_lives.proofs.Started.{at_anchor, starts_at_anchor}
 use Rattle.dkg_lives.proofs.Delivered.{starts}
-use Rattle.dkg_lives.proofs.Used.{in_chain, of_anchor, of_delivered}
+use Rattle.dkg_along.proofs.Used.{in_chain, of_anchor, of_delivered}
 
 not_there : {A : Type 0} (x : A) → ◌≡◌ {A = Option A} None (Some x) → ⊥
 not_there x e = cc

@@ -41,11 +41,11 @@ use Rattle.dkg_lives.specs.Ways.{StaysHeld, by_worlds}
 use Rattle.dkg_lives.proofs.Awaiting.{IsBefore, before_all, before_next, reached_lit}
 use Rattle.dkg_lives.proofs.Currently.{MayBeKept, RestsIn, begun_behind, begun_more, current_later, may_of, may_still}
 use Rattle.dkg_lives.proofs.Former.{IsMessage, event_in_form, message_in}
-use Rattle.dkg_lives.proofs.LifeSteps.{IsGoing, IsLifeOfSetting, OpeningLeaves, StepLeaves, opening_goes, step_goes}
-use Rattle.dkg_lives.proofs.Marked.{Comes, comes_behind, comes_first, comes_none, comes_of}
-use Rattle.dkg_lives.proofs.Owed.{no_opening_due}
-use Rattle.dkg_lives.proofs.AwaitedRises.{begun_rises}
-use Rattle.dkg_lives.proofs.KeptSteps.{AnyCall, IsAtStep, IsSaved, Reaches, WithinCall, saved_carried}
+use Rattle.dkg_along.proofs.LifeSteps.{IsGoing, IsLifeOfSetting, OpeningLeaves, StepLeaves, opening_goes, step_goes}
+use Rattle.dkg_along.proofs.Marked.{Comes, comes_behind, comes_first, comes_none, comes_of}
+use Rattle.dkg_along.proofs.Owed.{no_opening_due}
+use Rattle.dkg_along.proofs.AwaitedRises.{begun_rises}
+use Rattle.dkg_along.proofs.KeptSteps.{AnyCall, IsAtStep, IsSaved, Reaches, WithinCall, saved_carried}
 
 abbrev U : Type 0
 U = directory.Unit

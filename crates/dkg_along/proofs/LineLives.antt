@@ -31,11 +31,11 @@ use Rattle.dkg_lives.specs.Given.{Lived, at_step, lived, step_of}
 use Rattle.dkg_lives.specs.Lives.{AnyFiles, EndsLife, LivesFrom, LivesSo, RunsAllSo, RunsSo, Steps, TakesAll, TellsEnd, Wants, fuse_for}
 use Rattle.dkg_lives.specs.Ways.{StaysHeld, by_worlds}
 use Rattle.dkg_lives.proofs.Awaiting.{IsBefore as IsUncut, IsReached, before_all, before_next, reached_lit}
-use Rattle.dkg_lives.proofs.KeptSteps.{IsAtStep}
-use Rattle.dkg_lives.proofs.LifeSteps.{IsLifeOfSetting}
-use Rattle.dkg_lives.proofs.LivesKept.{IsBetween, Rest, StandsAt, all_rest, behind, cut_before, cut_within}
-use Rattle.dkg_lives.proofs.RunKept.{AreLives, EndSo as EndsFrom, Grows, end_then, from_grow, front, never_back_at, run_mid}
-use Rattle.dkg_lives.proofs.WorldLives.{IsCounted}
+use Rattle.dkg_along.proofs.KeptSteps.{IsAtStep}
+use Rattle.dkg_along.proofs.LifeSteps.{IsLifeOfSetting}
+use Rattle.dkg_along.proofs.LivesKept.{IsBetween, Rest, StandsAt, all_rest, behind, cut_before, cut_within}
+use Rattle.dkg_along.proofs.RunKept.{AreLives, EndSo as EndsFrom, Grows, end_then, from_grow, front, never_back_at, run_mid}
+use Rattle.dkg_along.proofs.WorldLives.{IsCounted}
 
 abbrev U : Type 0
 U = directory.Unit

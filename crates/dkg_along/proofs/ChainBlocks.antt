@@ -27,14 +27,14 @@ use Rattle.dkg_core.proofs.Heights.{epoch_is, epoch_to}
 use Rattle.dkg_lives.specs.Blamed.{is_beyond, is_first_taken, refusal_by, refusal_in, refusal_over, tip_in}
 use Rattle.dkg_lives.specs.Epochs.{IsAnchorAbove}
 use Rattle.dkg_lives.specs.Given.{AreBytes, blocks_in}
-use Rattle.dkg_lives.proofs.Alone.{follows_alike}
+use Rattle.dkg_along.proofs.Alone.{follows_alike}
 use Rattle.dkg_lives.proofs.Awaiting.{IsReached, awaited, block_behind, comes_to, event_behind}
-use Rattle.dkg_lives.proofs.Chaining.{Tips, delivered}
+use Rattle.dkg_along.proofs.Chaining.{Tips, delivered}
 use Rattle.dkg_lives.proofs.Delivered.{enters_here, epochs_rise, from_first}
 use Rattle.dkg_lives.proofs.Former.{IsMadeOf, made_of}
-use Rattle.dkg_lives.proofs.SeenBlocks.{made_at, seen, seen_at}
+use Rattle.dkg_along.proofs.SeenBlocks.{made_at, seen, seen_at}
 use Rattle.dkg_lives.proofs.Started.{not_late}
-use Rattle.dkg_lives.proofs.Used.{of_delivered}
+use Rattle.dkg_along.proofs.Used.{of_delivered}
 
 -- The chain's block at a height is one of the node's.
 pub record HasBlockAt (s : Setting) (height : ℕ) : Type 0 where

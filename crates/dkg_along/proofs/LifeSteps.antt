@@ -64,28 +64,28 @@ use Rattle.dkg_laws.proofs.NodeThrough.{node_openings_through, node_steps_lead_t
 use Rattle.dkg_laws.proofs.RecordingLogs.{node_steps_record_logs}
 use Rattle.dkg_lives.specs.Epochs.{IsAt, IsLifeInForm, any_shares}
 use Rattle.dkg_lives.specs.Given.{Lived, at_step, lived}
-use Rattle.dkg_lives.proofs.Alone.{epoch_alike, follows_alike, height_alike}
+use Rattle.dkg_along.proofs.Alone.{epoch_alike, follows_alike, height_alike}
 use Rattle.dkg_lives.proofs.Awaiting.{HasHeight, IsReached, has_height}
-use Rattle.dkg_lives.proofs.BlockLogs.{known_in_step}
+use Rattle.dkg_along.proofs.BlockLogs.{known_in_step}
 use Rattle.dkg_lives.proofs.BlocksLeave.{gives_no_other}
 use Rattle.dkg_lives.proofs.Currently.{IsGrown, RestsIn, begun_more}
-use Rattle.dkg_lives.proofs.Drawn.{HasRoundOf, begun_round, step_round}
-use Rattle.dkg_lives.proofs.FewPlayers.{HasFew, begun_few, next_few, own_fits}
+use Rattle.dkg_along.proofs.Drawn.{HasRoundOf, begun_round, step_round}
+use Rattle.dkg_along.proofs.FewPlayers.{HasFew, begun_few, next_few, own_fits}
 use Rattle.dkg_lives.proofs.Former.{Brings, IsMadeOf, IsMessage, event_in_form, form_at, lacks_nobody, life_in, live_at, step_taken, through_at}
 use Rattle.dkg_lives.proofs.Heard.{IsSameStep, Knows, ValidAt}
-use Rattle.dkg_lives.proofs.Marked.{still_known}
-use Rattle.dkg_lives.proofs.MarksAt.{gives_recorded}
+use Rattle.dkg_along.proofs.Marked.{still_known}
+use Rattle.dkg_along.proofs.MarksAt.{gives_recorded}
 use Rattle.dkg_lives.proofs.NextLives.{GoesOn, IsApplied, TakesOver, applied_so, has_round, next_so, with_round}
 use Rattle.dkg_lives.proofs.NoOthers.{IsOwnDealt}
-use Rattle.dkg_lives.proofs.KeptOpenings.{IsOpenedBy, Opens, opening_kept}
+use Rattle.dkg_along.proofs.KeptOpenings.{IsOpenedBy, Opens, opening_kept}
 use Rattle.dkg_lives.proofs.OpeningsLeave.{opening_gives, opening_keeps, opening_logs, opening_unsaid, opening_whole}
-use Rattle.dkg_lives.proofs.Owed.{no_event_due, owed}
+use Rattle.dkg_along.proofs.Owed.{no_event_due, owed}
 use Rattle.dkg_lives.proofs.PeerForms.{IsUndue}
-use Rattle.dkg_lives.proofs.Plays.{HoldsKnown, PlaysWhere, begun_plays, begun_valid, deals_early, plays_on, seated_plays, seated_valid}
-use Rattle.dkg_lives.proofs.AwaitedRises.{awaited_begun, begun_rises, block_current, block_reach, is_current, mail_begun, mail_epoch}
-use Rattle.dkg_lives.proofs.Seated.{own_valid}
+use Rattle.dkg_along.proofs.Plays.{HoldsKnown, PlaysWhere, begun_plays, begun_valid, deals_early, plays_on, seated_plays, seated_valid}
+use Rattle.dkg_along.proofs.AwaitedRises.{awaited_begun, begun_rises, block_current, block_reach, is_current, mail_begun, mail_epoch}
+use Rattle.dkg_along.proofs.Seated.{own_valid}
 use Rattle.dkg_lives.proofs.Started.{first_epoch_is}
-use Rattle.dkg_lives.proofs.KeptSteps.{AnyCall, CarriesAt, IsAtStep, IsBehindStep, IsLeftBy, IsSaved, Reaches, WithinCall, block_kept, mail_kept, message_kept, reaches_as}
+use Rattle.dkg_along.proofs.KeptSteps.{AnyCall, CarriesAt, IsAtStep, IsBehindStep, IsLeftBy, IsSaved, Reaches, WithinCall, block_kept, mail_kept, message_kept, reaches_as}
 use Rattle.dkg_lives.proofs.Stood.{begun_stands, step_stands}
 
 abbrev U : Type 0

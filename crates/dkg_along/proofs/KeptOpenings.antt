@@ -20,7 +20,7 @@ use Rattle.dkg_laws.specs.NodeKept.{BeginsRestored}
 use Rattle.dkg_core.specs.Transcripts.{IfWentTo}
 use Rattle.dkg_lives.proofs.Currently.{AreKept, IsGrown, IsKeptEntry, MayBeKept, RestsIn, are_opened, current_as, current_later, grown, keeps_opening, may_of, may_still}
 use Rattle.dkg_lives.proofs.Heard.{IsUnchanged, Knows, each_aside, read_aside}
-use Rattle.dkg_lives.proofs.KeptSteps.{AnyCall, CarriesAt, IsBehindStep, IsSaved, Reaches}
+use Rattle.dkg_along.proofs.KeptSteps.{AnyCall, CarriesAt, IsBehindStep, IsSaved, Reaches}
 
 -- what an opening leaves, how it ended
 pub record IsOpenedBy {F Dir : Type 0} (c : Fixed Dir) (begun epoch l : ℕ) (ended : Ended F (Live Dir)) (h : Held) (s : Setting) (p q : Progress) : Type 0 where
