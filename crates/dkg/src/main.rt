@@ -3,9 +3,9 @@
 //! Its exit status is the number of the command's status. What a person is told of it stands on standard error.
 #![tactic(auto)]
 
+use dkg_infos::{Entry, Transcript};
 use dkg_run::{Status, StdSink, StdSource, fresh_devices, run_command};
 use dkg_told::{KeptSource, told};
-use dkg_types::{Entry, Transcript};
 use dkg_values::{Mem, NoMemory};
 use std::io::Write;
 use std::process::ExitCode;

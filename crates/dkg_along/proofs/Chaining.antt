@@ -9,9 +9,9 @@ use Rattle.std.proofs.lemmas.Bool.Decides.{nat_tests}
 use Rattle.std.proofs.lemmas.List.Sums.{fold-append}
 use Rattle.std.proofs.lemmas.Slice.Eq.{bytes_eq-Decides}
 use Rattle.dkg_types.specs.Blocks as made
-use Rattle.dkg_types.specs.declared.directory.Unit as directory
-use Rattle.dkg_types.specs.declared.fault.Fault.{Fault}
-use Rattle.dkg_types.specs.declared.fault.Fault.TheVariants.{ConflictingBlock, DetachedBlock, HeightRange, OutOfWindow, SkippedHeight}
+use Rattle.dkg_infos.specs.declared.directory.Unit as directory
+use Rattle.dkg_infos.specs.declared.fault.Fault.{Fault}
+use Rattle.dkg_infos.specs.declared.fault.Fault.TheVariants.{ConflictingBlock, DetachedBlock, HeightRange, OutOfWindow, SkippedHeight}
 use Rattle.dkg_text.specs.declared.script.Anchor.{Anchor}
 use Rattle.dkg_text.specs.declared.script.Anchor.TheVariants.{Processed, Absent}
 use Rattle.dkg_text.specs.declared.script.BlockLine.{BlockLine}

@@ -17,15 +17,15 @@ use Rattle.dkg_journal.specs.Operations.{Bars, Opens}
 use Rattle.dkg_types.specs.BlockCodes.{info_of}
 use Rattle.dkg_types.specs.Blocks.{Block}
 use Rattle.dkg_types.specs.PayloadCodes.{its_log}
-use Rattle.dkg_types.specs.declared.entry.Entry.TheVariants.{Acked, Committed}
-use Rattle.dkg_types.specs.declared.entry.Entry.{Entry as Line}
-use Rattle.dkg_types.specs.declared.entry.Why.TheVariants.{Finished}
-use Rattle.dkg_types.specs.declared.fault.Fault.TheVariants.{HeightRange, LocalState, MissingEpochInfo, WrongEpoch}
-use Rattle.dkg_types.specs.declared.fault.Fault.{Fault}
-use Rattle.dkg_types.specs.declared.fault.LocalCause.TheVariants.{OutcomeOmitted}
-use Rattle.dkg_types.specs.declared.info.EpochInfo.{EpochInfo}
-use Rattle.dkg_types.specs.declared.participants.Participants.{Participants}
-use Rattle.dkg_types.specs.declared.participants.ParticipantsError.{ParticipantsError}
+use Rattle.dkg_infos.specs.declared.entry.Entry.TheVariants.{Acked, Committed}
+use Rattle.dkg_infos.specs.declared.entry.Entry.{Entry as Line}
+use Rattle.dkg_infos.specs.declared.entry.Why.TheVariants.{Finished}
+use Rattle.dkg_infos.specs.declared.fault.Fault.TheVariants.{HeightRange, LocalState, MissingEpochInfo, WrongEpoch}
+use Rattle.dkg_infos.specs.declared.fault.Fault.{Fault}
+use Rattle.dkg_infos.specs.declared.fault.LocalCause.TheVariants.{OutcomeOmitted}
+use Rattle.dkg_infos.specs.declared.info.EpochInfo.{EpochInfo}
+use Rattle.dkg_infos.specs.declared.participants.Participants.{Participants}
+use Rattle.dkg_infos.specs.declared.participants.ParticipantsError.{ParticipantsError}
 use Rattle.dkg_core.specs.Asked.{HasAsked, IsArtifactIn, IsAskStop, IsJobIn, IsResultIn, OfShares, ReadsShare}
 use Rattle.dkg_core.specs.Behind.{event_of}
 use Rattle.dkg_core.specs.Blocks as b

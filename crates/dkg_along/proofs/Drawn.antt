@@ -10,9 +10,9 @@ use Rattle.dkg_ceremony.specs.declared.mode.Reveal.TheVariants.{V1}
 use Rattle.dkg_ceremony.specs.declared.round.RoundParts.{RoundParts as Round}
 use Rattle.dkg_types.specs.Blocks as made
 use Rattle.dkg_types.specs.BlockCodes.{info_of}
-use Rattle.dkg_types.specs.Units.{unit_spelling}
-use Rattle.dkg_types.specs.declared.directory.Unit as directory
-use Rattle.dkg_types.specs.declared.info.EpochInfo.{EpochInfo}
+use Rattle.dkg_infos.specs.Units.{unit_spelling}
+use Rattle.dkg_infos.specs.declared.directory.Unit as directory
+use Rattle.dkg_infos.specs.declared.info.EpochInfo.{EpochInfo}
 use Rattle.dkg_types.specs.declared.payload.Payload.{Payload}
 use Rattle.dkg_types.specs.declared.payload.Payload.TheVariants as payload
 use Rattle.dkg_journal.specs.Names.{Files}

@@ -1,7 +1,7 @@
 -- How the entries of a whole run end: without a fault, or in the one that ended it.
 use Rattle.std.proofs.Common.{List, inl, inr}
-use Rattle.dkg_types.specs.declared.entry.Entry.{Entry}
-use Rattle.dkg_types.specs.declared.fault.Fault.{Fault}
+use Rattle.dkg_infos.specs.declared.entry.Entry.{Entry}
+use Rattle.dkg_infos.specs.declared.fault.Fault.{Fault}
 use Rattle.dkg_text.specs.declared.script.Script.{Script}
 use Rattle.dkg_script.specs.Order.{IsInOrder}
 use Rattle.dkg_script.specs.Promise.{Adds, RunsInOrder}

@@ -11,12 +11,12 @@ use Rattle.dkg_ceremony.specs.declared.round.RoundParts.{RoundParts as Round}
 use Rattle.dkg_ceremony.specs.declared.round.RoundError.{RoundError}
 use Rattle.dkg_types.specs.Blocks.{Block}
 use Rattle.dkg_types.specs.BlockCodes.{info_of}
-use Rattle.dkg_types.specs.Validation.{validation}
-use Rattle.dkg_types.specs.declared.directory.Unit as directory
-use Rattle.dkg_types.specs.declared.info.EpochInfo.{EpochInfo}
-use Rattle.dkg_types.specs.declared.participants.Participants.{Participants}
-use Rattle.dkg_types.specs.declared.participants.ParticipantsError.{ParticipantsError}
-use Rattle.dkg_types.specs.declared.participants.ParticipantsError.TheVariants.{EmptyDealers, EmptyPlayers, TooManyParticipants}
+use Rattle.dkg_infos.specs.Validation.{validation}
+use Rattle.dkg_infos.specs.declared.directory.Unit as directory
+use Rattle.dkg_infos.specs.declared.info.EpochInfo.{EpochInfo}
+use Rattle.dkg_infos.specs.declared.participants.Participants.{Participants}
+use Rattle.dkg_infos.specs.declared.participants.ParticipantsError.{ParticipantsError}
+use Rattle.dkg_infos.specs.declared.participants.ParticipantsError.TheVariants.{EmptyDealers, EmptyPlayers, TooManyParticipants}
 use Rattle.dkg_store.specs.Acts.{Held}
 use Rattle.dkg_store.specs.Events.{IsEvent}
 use Rattle.dkg_store.specs.declared.event.Event.TheVariants as events

@@ -22,8 +22,8 @@ use Rattle.dkg_ceremony.specs.declared.sign.Domain.{Domain}
 use Rattle.dkg_ceremony.specs.declared.sign.Domain.TheVariants as domains
 use Rattle.dkg_ceremony.specs.declared.signed_log.SignedDealerLog.{SignedDealerLog}
 use Rattle.dkg_types.specs.PayloadCodes.{PayloadFits, its_log, payload_at, payload_grammar, payload_spelling}
-use Rattle.dkg_types.specs.Units.{unit_at, unit_grammar, unit_spelling}
-use Rattle.dkg_types.specs.declared.directory.Unit as directory
+use Rattle.dkg_infos.specs.Units.{unit_at, unit_grammar, unit_spelling}
+use Rattle.dkg_infos.specs.declared.directory.Unit as directory
 use Rattle.dkg_types.specs.declared.payload.Payload.{Payload}
 use Rattle.dkg_types.specs.declared.payload.Payload.TheVariants as payload
 use Rattle.dkg_text.specs.declared.script.BlockLine.{BlockLine}

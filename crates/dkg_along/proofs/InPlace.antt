@@ -3,9 +3,9 @@ use Rattle.std.proofs.Common.{ℕ, suc, ◌+◌, ◌<◌, ◌≤◌, Bool, true,
 use Rattle.std.specs.Prelude.{fold, IfSome, IsSomeAnd, ◌||◌, ◌==◌, slice_get}
 use Rattle.std.specs.List.{AllByRecursion, list_any}
 use Rattle.std.proofs.lemmas.Bool.Decides.{nat_tests}
-use Rattle.dkg_types.specs.declared.entry.Entry.{Entry}
-use Rattle.dkg_types.specs.declared.entry.Entry.TheVariants as entry
-use Rattle.dkg_types.specs.declared.entry.Restored.{Restored}
+use Rattle.dkg_infos.specs.declared.entry.Entry.{Entry}
+use Rattle.dkg_infos.specs.declared.entry.Entry.TheVariants as entry
+use Rattle.dkg_infos.specs.declared.entry.Restored.{Restored}
 use Rattle.dkg_text.specs.declared.script.Cut as cut
 use Rattle.dkg_text.specs.declared.script.Life.{Life}
 use Rattle.dkg_script.specs.Ends.{EndsWell, is_fault}

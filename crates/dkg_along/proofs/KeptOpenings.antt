@@ -2,9 +2,9 @@
 use Rattle.std.proofs.Common.{◌≡◌, ℕ, ◌+◌, ◌-◌, ◌<◌, ◌≤◌, List, [], ◌∷◌, ◌++◌, Some, refl, sym, ◌∙◌, ap, subst, length, arith, append-nil}
 use Rattle.std.specs.Prelude.{fold}
 use Rattle.std.specs.FinMap.{get}
-use Rattle.dkg_types.specs.declared.entry.Entry.{Entry}
-use Rattle.dkg_types.specs.declared.entry.Entry.TheVariants as entry
-use Rattle.dkg_types.specs.declared.entry.Restored.{Restored}
+use Rattle.dkg_infos.specs.declared.entry.Entry.{Entry}
+use Rattle.dkg_infos.specs.declared.entry.Entry.TheVariants as entry
+use Rattle.dkg_infos.specs.declared.entry.Restored.{Restored}
 use Rattle.dkg_store.specs.Acts.{Held, World, Ended, went, stopped, broken, notes}
 use Rattle.dkg_store.specs.Pairs.{Pairs, IsWhole}
 use Rattle.dkg_store.specs.Recorded.{restored_list}

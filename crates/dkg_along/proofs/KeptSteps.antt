@@ -10,10 +10,10 @@ use Rattle.std.proofs.lemmas.List.Sums.{fold-append}
 use Rattle.dkg_ceremony.specs.Dealings.{dealing_of}
 use Rattle.dkg_ceremony.specs.declared.round.RoundParts.{RoundParts as Round}
 use Rattle.dkg_types.specs.Blocks.{Block}
-use Rattle.dkg_types.specs.declared.entry.Entry.{Entry}
-use Rattle.dkg_types.specs.declared.entry.Entry.TheVariants as entry
-use Rattle.dkg_types.specs.declared.entry.Restored.{Restored}
-use Rattle.dkg_types.specs.declared.fault.Fault.{Fault}
+use Rattle.dkg_infos.specs.declared.entry.Entry.{Entry}
+use Rattle.dkg_infos.specs.declared.entry.Entry.TheVariants as entry
+use Rattle.dkg_infos.specs.declared.entry.Restored.{Restored}
+use Rattle.dkg_infos.specs.declared.fault.Fault.{Fault}
 use Rattle.dkg_text.specs.declared.script.Event.TheVariants.{Peer as FromPeer, Final}
 use Rattle.dkg_text.specs.declared.script.Life.{Life}
 use Rattle.dkg_store.specs.Acts.{Cause, Held, World, Ended, went, stopped, broken, notes}

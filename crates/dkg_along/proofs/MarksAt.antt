@@ -20,7 +20,7 @@ use Rattle.dkg_store.specs.declared.recorded_log.RecordedLog.{RecordedLog}
 use Rattle.dkg_secrets.proofs.Map.{keys_total}
 use Rattle.dkg_store.proofs.Own.{lookup_at}
 use Rattle.dkg_store.proofs.Pairs.{same_key, get_at, get_other}
-use Rattle.dkg_types.specs.declared.entry.Restored.{Restored}
+use Rattle.dkg_infos.specs.declared.entry.Restored.{Restored}
 use Rattle.dkg_script.specs.Blocks.{round_at}
 use Rattle.dkg_script.specs.Kept.{AllCurrent, Gives}
 use Rattle.dkg_script.specs.LogsKnown.{LogsKnown}

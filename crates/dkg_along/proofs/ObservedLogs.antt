@@ -13,8 +13,8 @@ use Rattle.dkg_store.specs.Acts.{Held}
 use Rattle.dkg_types.specs.Blocks as made
 use Rattle.dkg_types.specs.Paths.{log_counts}
 use Rattle.dkg_types.specs.PayloadCodes.{its_log}
-use Rattle.dkg_types.specs.Units.{unit_spelling}
-use Rattle.dkg_types.specs.declared.directory.Unit as directory
+use Rattle.dkg_infos.specs.Units.{unit_spelling}
+use Rattle.dkg_infos.specs.declared.directory.Unit as directory
 use Rattle.dkg_text.specs.declared.script.Life.{Life}
 use Rattle.dkg_script.specs.Blocks.{Block, chain}
 use Rattle.dkg_script.specs.Setting.{Setting, blocks_per_epoch}

@@ -10,8 +10,8 @@ use Rattle.dkg_values.specs.Codec.{IsBytes, whole}
 use Rattle.dkg_types.specs.BlockCodes.{IsBlock, flagged_bytes}
 use Rattle.dkg_types.specs.Blocks as made
 use Rattle.dkg_types.specs.PayloadCodes.{payload_at, payload_spelling}
-use Rattle.dkg_types.specs.Units.{unit_at, unit_spelling}
-use Rattle.dkg_types.specs.declared.directory.Unit as directory
+use Rattle.dkg_infos.specs.Units.{unit_at, unit_spelling}
+use Rattle.dkg_infos.specs.declared.directory.Unit as directory
 use Rattle.dkg_types.specs.declared.payload.Payload.{Payload}
 use Rattle.dkg_text.specs.declared.script.BlockLine.{BlockLine}
 use Rattle.dkg_script.specs.Blocks.{Block, block_at, block_of, blocks, zeros}

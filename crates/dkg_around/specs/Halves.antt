@@ -5,9 +5,9 @@ use Rattle.dkg_ceremony.specs.Schedule.{first}
 use Rattle.dkg_ceremony.specs.declared.epocher.Bounds.{Bounds}
 use Rattle.dkg_types.specs.Blocks.{Block}
 use Rattle.dkg_types.specs.BlockCodes.{info_of}
-use Rattle.dkg_types.specs.declared.directory.Unit as directory
-use Rattle.dkg_types.specs.declared.fault.Fault.{Fault}
-use Rattle.dkg_types.specs.declared.fault.Fault.TheVariants.{HeightRange, MissingEpochInfo, WrongEpoch}
+use Rattle.dkg_infos.specs.declared.directory.Unit as directory
+use Rattle.dkg_infos.specs.declared.fault.Fault.{Fault}
+use Rattle.dkg_infos.specs.declared.fault.Fault.TheVariants.{HeightRange, MissingEpochInfo, WrongEpoch}
 use Rattle.dkg_core.specs.Fixed.{Fixed}
 use Rattle.dkg_core.specs.Laws.{start_of}
 use Rattle.dkg_core.specs.Setup.{is_past_range}

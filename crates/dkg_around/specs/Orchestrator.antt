@@ -4,8 +4,8 @@ use Rattle.dkg_ceremony.specs.Schedule.{last}
 use Rattle.dkg_fence.specs.Readiness.{Readiness}
 use Rattle.dkg_store.specs.Acts.{Ended, went}
 use Rattle.dkg_types.specs.Blocks.{Block}
-use Rattle.dkg_types.specs.declared.directory.Unit as directory
-use Rattle.dkg_types.specs.declared.participants.TrackedPeers.{TrackedPeers}
+use Rattle.dkg_infos.specs.declared.directory.Unit as directory
+use Rattle.dkg_infos.specs.declared.participants.TrackedPeers.{TrackedPeers}
 use Rattle.dkg_values.specs.Rising.{lookup}
 use Rattle.dkg_core.specs.Entering as core
 use Rattle.dkg_core.specs.Entering.{is_ready}

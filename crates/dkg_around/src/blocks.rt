@@ -7,9 +7,10 @@ ghost use Rattle.dkg_script.specs.Readings.{unit_payload};
 ghost use Rattle.dkg_lives.specs.Given.{AreBytes, block_on, blocks_in, parent_in, payload_in};
 
 use dkg_ceremony::{Digest, Epoch, Height, Key, Mem};
+use dkg_infos::Unit;
 use dkg_script::{BlockLine, Script, ScriptConfig};
 use dkg_text::Carried;
-use dkg_types::{Block, Context, Payload, Unit};
+use dkg_types::{Block, Context, Payload};
 use dkg_values::Shared;
 use std::alloc::Global;
 

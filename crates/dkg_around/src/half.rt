@@ -9,8 +9,8 @@ ghost use Rattle.dkg_ceremony.specs.Schedule.{boundary, first, last};
 ghost use Rattle.dkg_fence.specs.Fence.{waited};
 ghost use Rattle.dkg_fence.specs.declared.fence.Waited.TheVariants as waits;
 ghost use Rattle.dkg_types.specs.Blocks as blocks;
-ghost use Rattle.dkg_types.specs.declared.directory.Unit as directory;
-ghost use Rattle.dkg_types.specs.declared.entry.Entry.TheVariants as entry;
+ghost use Rattle.dkg_infos.specs.declared.directory.Unit as directory;
+ghost use Rattle.dkg_infos.specs.declared.entry.Entry.TheVariants as entry;
 ghost use Rattle.dkg_core.specs.Courses.{bind};
 ghost use Rattle.dkg_core.specs.Entering.{acked_at, takes_delivered, delivered_in, is_ready};
 ghost use Rattle.dkg_core.specs.Fixed.{Fixed};
@@ -19,7 +19,7 @@ ghost use Rattle.dkg_core.specs.Node.{kept_material};
 ghost use Rattle.dkg_life.specs.Ends.{IsCaused};
 ghost use Rattle.dkg_life.specs.Made.{Speaks};
 ghost use Rattle.dkg_life.specs.declared.stop.Stop.TheVariants.{Fault as FaultOf};
-ghost use Rattle.dkg_types.specs.declared.fault.Fault.TheVariants.{NoMemory};
+ghost use Rattle.dkg_infos.specs.declared.fault.Fault.TheVariants.{NoMemory};
 ghost use Rattle.dkg_lives.specs.Ended.{ends_node};
 ghost use Rattle.dkg_around.specs.Halves.{IsStartOf, beginning_of};
 ghost use Rattle.dkg_around.specs.Orchestrator.{HasHalf, IsFenceReady, IsHalfGiven, IsSettled, MayEnter, MayGoOn, MayPass, ends_half, ends_on, with_half};
@@ -27,8 +27,9 @@ ghost use Rattle.dkg_around.specs.Orchestrator.{HasHalf, IsFenceReady, IsHalfGiv
 use dkg_ceremony::{Bounds, Epoch, Epocher, Height};
 use dkg_life::{Stop, Tip};
 use dkg_fence::{Fence, Waited};
+use dkg_infos::{Entry, Fault, Transcript, Unit};
 use dkg_setup::{BlockSource, startup};
-use dkg_types::{Block, Entry, Fault, Transcript, Unit};
+use dkg_types::Block;
 use std::num::NonZeroU64;
 
 /// The orchestrator's half between two steps. It doesn't wait: an opening has marked its epoch on the fence.

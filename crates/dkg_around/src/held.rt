@@ -7,9 +7,10 @@ ghost use Rattle.dkg_lives.specs.Given.{anchor_block, anchor_in, numbered, unsea
 ghost use Rattle.dkg_around.specs.Sources.{anchor_numbers};
 
 use dkg_ceremony::{Digest, Height, Mem};
+use dkg_infos::Unit;
 use dkg_script::{Anchor, Life};
 use dkg_setup::{BlockSource, Processed};
-use dkg_types::{Block, Finalization, Unit};
+use dkg_types::{Block, Finalization};
 use std::alloc::Global;
 
 /// The blocks that a life holds, then its anchor's, and then those that were delivered to it, by their numbers in this order.

@@ -5,8 +5,9 @@ ghost use Rattle.dkg_values.specs.Rising.{rises};
 ghost use Rattle.dkg_script.specs.Players.{epochs_of};
 
 use dkg_ceremony::{Epoch, Mem, Set, Value};
+use dkg_infos::Unit;
 use dkg_script::PlayerLine;
-use dkg_types::{ParticipantsProvider, Unit};
+use dkg_types::ParticipantsProvider;
 use std::alloc::Global;
 
 /// The players of a script's epochs. An epoch without a line has none, and its peers are found by their keys.

@@ -3,7 +3,7 @@ ghost use Rattle.std.specs.Prelude.{◌≡◌, ◌↔◌, IfOk, IsSome, IsSomeAn
 ghost use Rattle.std.specs.Option.{option_copied};
 
 use dkg_ceremony::{DealerLog, Share};
-use dkg_types::{Directory, EpochInfo};
+use dkg_infos::{Directory, EpochInfo};
 use dkg_values::{Map, Mem, Value};
 use std::alloc::Global;
 use std::marker::Model;

@@ -9,7 +9,8 @@ ghost use Rattle.dkg_artifact.specs.Requested.{ended_for, fed_for, is_other};
 ghost use Rattle.dkg_artifact.specs.Places.{AreKnown, IsBefore, IsBehind, IsNext, changed_at, KeepsNumbers};
 
 use dkg_ceremony::Mem;
-use dkg_types::{Block, Directory};
+use dkg_infos::Directory;
+use dkg_types::Block;
 use dkg_values::{NoMemory, Value};
 use std::alloc::Global;
 use std::collections::{BTreeMap, BTreeSet};

@@ -9,7 +9,8 @@ ghost use Rattle.dkg_artifact.specs.Scans.{IsAwaiting, added, closes, counted, f
 
 use crate::lowest::Lowest;
 use dkg_ceremony::{Bounds, Ceremony, DealerLog, Round, SignedDealerLog};
-use dkg_types::{Block, Directory, Payload, ReshareBlock, Why};
+use dkg_infos::{Directory, Why};
+use dkg_types::{Block, Payload, ReshareBlock};
 use dkg_values::{Digest, Height, Key, Map, Mem, Value};
 use std::alloc::Global;
 use std::marker::Model;

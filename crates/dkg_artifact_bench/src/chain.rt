@@ -1,6 +1,7 @@
 //! Blocks of an ancestry, each of which carries a log.
 use dkg_ceremony::{Bounds, Epocher, SignedDealerLog};
-use dkg_types::{Block, Context, Payload, Unit};
+use dkg_infos::Unit;
+use dkg_types::{Block, Context, Payload};
 use dkg_values::{Digest, Epoch, Height, Key, Value};
 use std::alloc::Global;
 use std::num::NonZeroU64;

@@ -4,7 +4,8 @@ ghost use Rattle.dkg_artifact.specs.Scans.{IsAwaiting};
 
 use dkg_artifact::{Fed, Scan};
 use dkg_ceremony::{Bounds, Ceremony, DealerLog, Round};
-use dkg_types::{Block, Unit};
+use dkg_infos::Unit;
+use dkg_types::Block;
 use dkg_values::Map;
 use std::alloc::Global;
 

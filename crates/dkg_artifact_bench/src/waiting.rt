@@ -1,6 +1,7 @@
 //! Requests that wait, and what is done to them by their numbers.
 use dkg_artifact::{Path, Request, Requests};
-use dkg_types::{Block, Unit};
+use dkg_infos::Unit;
+use dkg_types::Block;
 use dkg_values::Mem;
 use std::alloc::Global;
 

@@ -1,7 +1,8 @@
 //! Requests for a final block's payload: they are fed, ended and taken away by their numbers.
 
 use dkg_artifact::{Path, Request, Requests};
-use dkg_types::{Block, Context, Unit};
+use dkg_infos::Unit;
+use dkg_types::{Block, Context};
 use dkg_values::{Digest, Epoch, Height, Key, Mem};
 use std::alloc::Global;
 use std::test::Fail;

@@ -6,7 +6,7 @@ use crate::logs::{both, one, round};
 use crate::results::{finished, seen};
 use dkg_artifact::{Artifact, ArtifactCache, Job, Verification, VerifiedLogs};
 use dkg_ceremony::{Ceremony, DealerLog, Round, StandCeremony};
-use dkg_types::{Directory, Unit};
+use dkg_infos::{Directory, Unit};
 use dkg_values::Map;
 use std::alloc::Global;
 use std::test::Fail;

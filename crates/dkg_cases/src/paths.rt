@@ -11,7 +11,8 @@ use dkg_artifact::{Fed, Scan, Tip, verify_logs};
 use dkg_ceremony::{
     Bounds, Ceremony, DealerLog, Epocher, Mode, ModeVersion, Output, Reveal, Round, StandCeremony,
 };
-use dkg_types::{Block, Unit, Why};
+use dkg_infos::{Unit, Why};
+use dkg_types::Block;
 use dkg_values::{Digest, Height, Key, Map, MapCfg, Read, Set, Value, decode_cfg};
 use std::alloc::Global;
 use std::num::{NonZeroU32, NonZeroU64};

@@ -5,10 +5,8 @@
 
 use crate::counts::Count;
 use dkg_ceremony::ModeVersion;
-use dkg_types::{
-    Address, Addresses, Block, Context, Directory, EpochInfo, Finalization, Message, Participants,
-    Payload, Unit,
-};
+use dkg_infos::{Directory, EpochInfo, Participants, Unit};
+use dkg_types::{Address, Addresses, Block, Context, Finalization, Message, Payload};
 use dkg_values::{CodecError, EncodeSize, Mem, NoMemory, Read, Write, decode_cfg, encode};
 use hex::FromHexError;
 use std::alloc::{AllocError, Global};

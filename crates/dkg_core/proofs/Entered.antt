@@ -10,11 +10,11 @@ use Rattle.dkg_fence.specs.declared.fence.Waited.TheVariants.{Ready, Pending, Cl
 use Rattle.dkg_fence.specs.Fence.{waited}
 use Rattle.dkg_fence.specs.Readiness.{Readiness}
 use Rattle.dkg_types.specs.BlockCodes.{info_of}
-use Rattle.dkg_types.specs.declared.fault.Fault.TheVariants.{MissingEpochInfo, WrongEpoch, SkippedHeight}
-use Rattle.dkg_types.specs.declared.info.EpochInfo.{EpochInfo}
+use Rattle.dkg_infos.specs.declared.fault.Fault.TheVariants.{MissingEpochInfo, WrongEpoch, SkippedHeight}
+use Rattle.dkg_infos.specs.declared.info.EpochInfo.{EpochInfo}
 use Rattle.dkg_types.specs.declared.scheme.SchemeInfo.{SchemeInfo}
 use Rattle.dkg_types.specs.Blocks.{Block}
-use Rattle.dkg_types.specs.declared.entry.Entry.TheVariants.{Entered}
+use Rattle.dkg_infos.specs.declared.entry.Entry.TheVariants.{Entered}
 use Rattle.dkg_core.specs.Courses.{Course, Say, Goes, Stops, bind, Deed, Called, Genesis, Tracks, StartsEngine}
 use Rattle.dkg_core.specs.Fixed.{Fixed}
 use Rattle.dkg_core.specs.Live.{Live, Orchestrator, Waiting, NodeStop, Faulted}

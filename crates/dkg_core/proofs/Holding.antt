@@ -3,7 +3,7 @@ use Rattle.std.proofs.Common.{◌≡◌, List, ◌∷◌, Bool, true, false, Opt
 use Rattle.std.specs.Prelude.{if◌then◌else◌}
 use Rattle.std.specs.Option.{option_map_or}
 use Rattle.dkg_store.specs.Acts.{Operation, World, says, does}
-use Rattle.dkg_types.specs.declared.entry.Entry.{Entry as Line}
+use Rattle.dkg_infos.specs.declared.entry.Entry.{Entry as Line}
 use Rattle.dkg_core.specs.Courses.{Course, Say, Do, Call, Ask, Goes, Stops, bind, Deed, Said, Did, Called, Throughout}
 use Rattle.dkg_core.specs.Laws.{Law, Holds, LawKeeps}
 

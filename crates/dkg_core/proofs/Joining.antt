@@ -1,7 +1,7 @@
 -- A probe's acts, joined to a node's.
 use Rattle.std.proofs.Common.{◌≡◌, ℕ, inl, inr, List, Option, refl, ap}
-use Rattle.dkg_types.specs.declared.entry.Entry.{Entry as Line}
-use Rattle.dkg_types.specs.declared.participants.TrackedPeers.{TrackedPeers}
+use Rattle.dkg_infos.specs.declared.entry.Entry.{Entry as Line}
+use Rattle.dkg_infos.specs.declared.participants.TrackedPeers.{TrackedPeers}
 use Rattle.dkg_types.specs.Tracking.{with_set}
 use Rattle.dkg_probe.specs.Acts.{ProbeActs, Say, Track, Goes, Stops, tracked_after, ProbeCompletes, ProbeFaults, ProbeBreaks, went, stopped, broken}
 use Rattle.dkg_store.specs.Acts as of_store

@@ -15,15 +15,15 @@ use Rattle.dkg_ceremony.specs.Outcomes.{LogMap}
 use Rattle.dkg_ceremony.specs.Schedule.{epoch_of, midpoint}
 use Rattle.dkg_types.specs.Blocks.{Block}
 use Rattle.dkg_types.specs.BlockCodes.{info_of}
-use Rattle.dkg_types.specs.declared.entry.Entry.{Entry as Line}
-use Rattle.dkg_types.specs.declared.entry.Entry.TheVariants as lines
-use Rattle.dkg_types.specs.declared.entry.Why.TheVariants.{Finished}
-use Rattle.dkg_types.specs.declared.fault.Fault.{Fault}
-use Rattle.dkg_types.specs.declared.fault.Fault.TheVariants.{HeightRange, InvalidParticipants, DirectoryMismatch, LocalState, ConflictingBlock, DetachedBlock, SkippedHeight, OutOfWindow, MissingEpochInfo, WrongEpoch}
-use Rattle.dkg_types.specs.declared.fault.LocalCause.TheVariants.{OwnDealing, OutcomeOmitted}
-use Rattle.dkg_types.specs.declared.fault.ParticipantsCause.TheVariants.{ProviderEmpty, ProviderAbove}
-use Rattle.dkg_types.specs.declared.info.EpochInfo.{EpochInfo}
-use Rattle.dkg_types.specs.NextInfos.{info_by}
+use Rattle.dkg_infos.specs.declared.entry.Entry.{Entry as Line}
+use Rattle.dkg_infos.specs.declared.entry.Entry.TheVariants as lines
+use Rattle.dkg_infos.specs.declared.entry.Why.TheVariants.{Finished}
+use Rattle.dkg_infos.specs.declared.fault.Fault.{Fault}
+use Rattle.dkg_infos.specs.declared.fault.Fault.TheVariants.{HeightRange, InvalidParticipants, DirectoryMismatch, LocalState, ConflictingBlock, DetachedBlock, SkippedHeight, OutOfWindow, MissingEpochInfo, WrongEpoch}
+use Rattle.dkg_infos.specs.declared.fault.LocalCause.TheVariants.{OwnDealing, OutcomeOmitted}
+use Rattle.dkg_infos.specs.declared.fault.ParticipantsCause.TheVariants.{ProviderEmpty, ProviderAbove}
+use Rattle.dkg_infos.specs.declared.info.EpochInfo.{EpochInfo}
+use Rattle.dkg_infos.specs.NextInfos.{info_by}
 use Rattle.dkg_types.specs.PayloadCodes.{its_log}
 use Rattle.dkg_journal.specs.Operations.{Bars, Opens, Appends, Prunes, PutsPlan, ClearsPlan}
 use Rattle.dkg_store.specs.Acts.{Operation, OnDisk, Changes}

@@ -19,18 +19,18 @@ use Rattle.dkg_ceremony.specs.Outcomes.{LogMap}
 use Rattle.dkg_ceremony.specs.Schedule.{epoch_of, midpoint}
 use Rattle.dkg_types.specs.Blocks.{Block}
 use Rattle.dkg_types.specs.BlockCodes.{info_of}
-use Rattle.dkg_types.specs.declared.entry.Entry.{Entry as Line}
-use Rattle.dkg_types.specs.declared.entry.Entry.TheVariants.{Answer, Committed, Setup, Offer}
-use Rattle.dkg_types.specs.declared.entry.AnswerLine.TheVariants.{Available, Unavailable}
-use Rattle.dkg_types.specs.declared.entry.Why.{Why}
-use Rattle.dkg_types.specs.declared.entry.Why.TheVariants.{Finished}
-use Rattle.dkg_types.specs.declared.fault.Fault.{Fault}
-use Rattle.dkg_types.specs.declared.fault.Fault.TheVariants.{HeightRange, MissingEpochInfo, WrongEpoch, LocalState}
-use Rattle.dkg_types.specs.declared.fault.LocalCause.TheVariants.{OutcomeOmitted, OwnDealing}
-use Rattle.dkg_types.specs.declared.info.EpochInfo.{EpochInfo}
+use Rattle.dkg_infos.specs.declared.entry.Entry.{Entry as Line}
+use Rattle.dkg_infos.specs.declared.entry.Entry.TheVariants.{Answer, Committed, Setup, Offer}
+use Rattle.dkg_infos.specs.declared.entry.AnswerLine.TheVariants.{Available, Unavailable}
+use Rattle.dkg_infos.specs.declared.entry.Why.{Why}
+use Rattle.dkg_infos.specs.declared.entry.Why.TheVariants.{Finished}
+use Rattle.dkg_infos.specs.declared.fault.Fault.{Fault}
+use Rattle.dkg_infos.specs.declared.fault.Fault.TheVariants.{HeightRange, MissingEpochInfo, WrongEpoch, LocalState}
+use Rattle.dkg_infos.specs.declared.fault.LocalCause.TheVariants.{OutcomeOmitted, OwnDealing}
+use Rattle.dkg_infos.specs.declared.info.EpochInfo.{EpochInfo}
 use Rattle.dkg_types.specs.declared.message.Message.{Message as Channel}
 use Rattle.dkg_types.specs.declared.message.Message.TheVariants.{Dealer as ADealing, Ack as AnAck}
-use Rattle.dkg_types.specs.declared.participants.ParticipantsError.{ParticipantsError}
+use Rattle.dkg_infos.specs.declared.participants.ParticipantsError.{ParticipantsError}
 use Rattle.dkg_types.specs.MessageCodes.{message_at}
 use Rattle.dkg_types.specs.PayloadCodes.{its_log, info_payload, log_payload}
 use Rattle.dkg_store.specs.declared.event.Event.TheVariants as events

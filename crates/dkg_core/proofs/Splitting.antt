@@ -1,6 +1,6 @@
 -- Courses one behind another, taken apart.
 use Rattle.std.proofs.Common.{◌≡◌, ◌⊎◌, inl, inr, List, [], ◌∷◌, ◌++◌, refl, sym, ◌∙◌, ap, subst, append_assoc}
-use Rattle.dkg_types.specs.declared.entry.Entry.{Entry as Line}
+use Rattle.dkg_infos.specs.declared.entry.Entry.{Entry as Line}
 use Rattle.dkg_store.specs.Acts.{World, says, does, Cause, Ended, went, stopped, broken, Completes, Faults, Breaks}
 use Rattle.dkg_core.specs.Courses.{Course, Say, Do, Call, Ask, Goes, Stops, bind, under, on_devices}
 use Rattle.dkg_core.specs.Said.{Said, SaysAll, SaysUpTo, SaysFirst}

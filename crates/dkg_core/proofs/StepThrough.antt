@@ -8,7 +8,7 @@ use Rattle.dkg_ceremony.specs.declared.ceremony.AckError.{AckError}
 use Rattle.dkg_ceremony.specs.declared.round.RoundParts.{RoundParts as Round}
 use Rattle.dkg_ceremony.specs.Schedule.{epoch_of, midpoint}
 use Rattle.dkg_types.specs.Blocks.{Block}
-use Rattle.dkg_types.specs.declared.fault.Fault.{Fault}
+use Rattle.dkg_infos.specs.declared.fault.Fault.{Fault}
 use Rattle.dkg_store.specs.Acts.{Held}
 use Rattle.dkg_core.specs.Courses.{Course, Goes}
 use Rattle.dkg_core.specs.Fixed.{Fixed}

@@ -17,16 +17,16 @@ use Rattle.dkg_ceremony.specs.declared.signed_log.SignedDealerLog.{SignedDealerL
 use Rattle.dkg_ceremony.specs.Schedule.{epoch_of, last}
 use Rattle.dkg_types.specs.Blocks.{Block}
 use Rattle.dkg_types.specs.BlockCodes.{info_of}
-use Rattle.dkg_types.specs.declared.entry.Entry.TheVariants.{Offer}
-use Rattle.dkg_types.specs.declared.fault.Fault.{Fault}
-use Rattle.dkg_types.specs.declared.fault.Fault.TheVariants.{HeightRange, StateSyncEpochs, StateSyncMaterial, MissingEpochInfo, LocalState}
-use Rattle.dkg_types.specs.declared.fault.LocalCause.TheVariants.{OwnDealing}
-use Rattle.dkg_types.specs.declared.info.EpochInfo.{EpochInfo}
-use Rattle.dkg_types.specs.declared.outcome.EpochOutcome.{EpochOutcome}
-use Rattle.dkg_types.specs.declared.outcome.EpochOutcome.TheVariants.{Success, Failure}
-use Rattle.dkg_types.specs.declared.participants.ParticipantsError.{ParticipantsError}
+use Rattle.dkg_infos.specs.declared.entry.Entry.TheVariants.{Offer}
+use Rattle.dkg_infos.specs.declared.fault.Fault.{Fault}
+use Rattle.dkg_infos.specs.declared.fault.Fault.TheVariants.{HeightRange, StateSyncEpochs, StateSyncMaterial, MissingEpochInfo, LocalState}
+use Rattle.dkg_infos.specs.declared.fault.LocalCause.TheVariants.{OwnDealing}
+use Rattle.dkg_infos.specs.declared.info.EpochInfo.{EpochInfo}
+use Rattle.dkg_infos.specs.declared.outcome.EpochOutcome.{EpochOutcome}
+use Rattle.dkg_infos.specs.declared.outcome.EpochOutcome.TheVariants.{Success, Failure}
+use Rattle.dkg_infos.specs.declared.participants.ParticipantsError.{ParticipantsError}
 use Rattle.dkg_types.specs.PayloadCodes.{its_log}
-use Rattle.dkg_types.specs.Validation.{validation}
+use Rattle.dkg_infos.specs.Validation.{validation}
 use Rattle.dkg_journal.specs.Operations as of_journal
 use Rattle.dkg_journal.specs.Operations.{Bars, Opens, PutsPlan, ClearsPlan}
 use Rattle.dkg_secrets.specs.Keys.{StaysOrGoes}

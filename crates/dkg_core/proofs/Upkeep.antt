@@ -6,7 +6,7 @@ use Rattle.std.specs.FinMap.{FinMap, get, empty, insert}
 use Rattle.dkg_values.specs.Rising.{lookup}
 use Rattle.dkg_journal.specs.Operations.{Appends, Prunes, Journaled}
 use Rattle.dkg_journal.specs.Records.{SectionEntry, placed, from_section}
-use Rattle.dkg_types.specs.declared.info.EpochInfo.{EpochInfo}
+use Rattle.dkg_infos.specs.declared.info.EpochInfo.{EpochInfo}
 use Rattle.dkg_store.specs.Acts.{Held, OnDisk, Changes, World, says, does, notes, Cause, Tears, IsLeft}
 use Rattle.dkg_store.specs.Events.{event_spelling, IsEvent}
 use Rattle.dkg_store.specs.declared.event.Event.{Event}
@@ -28,8 +28,8 @@ use Rattle.dkg_core.specs.Behind.{IsAside}
 use Rattle.dkg_core.specs.Heard.{recovered_in}
 use Rattle.dkg_core.proofs.Keeping.{fold_silent, silent_whole, left_entries}
 use Rattle.std.specs.List.{AllByRecursion}
-use Rattle.dkg_types.specs.declared.entry.Entry.{Entry as Line}
-use Rattle.dkg_types.specs.declared.entry.Entry.TheVariants.{Recorded, Ack}
+use Rattle.dkg_infos.specs.declared.entry.Entry.{Entry as Line}
+use Rattle.dkg_infos.specs.declared.entry.Entry.TheVariants.{Recorded, Ack}
 use Rattle.dkg_secrets.specs.declared.secrets.SecretOp.{SecretOp}
 use Rattle.dkg_core.specs.Enduring.{AckOf, IsSaidFrom, IsKeptFrom}
 use Rattle.dkg_core.proofs.Agreeing.{all_whole, whole_kept}

@@ -2,8 +2,8 @@
 use Rattle.std.specs.Prelude.{ℕ, Bool, true, false, not, List, [], ◌∷◌, ◌+◌, ◌^◌, ◌&&◌, nat_lt, Option, Some, None, is_none, if◌then◌else◌}
 use Rattle.std.specs.Str.{bytes_eq}
 use Rattle.dkg_types.specs.Blocks.{Block}
-use Rattle.dkg_types.specs.declared.entry.Verdict.{Verdict}
-use Rattle.dkg_types.specs.declared.entry.Verdict.TheVariants.{Accept, Reject, Unresolved}
+use Rattle.dkg_infos.specs.declared.entry.Verdict.{Verdict}
+use Rattle.dkg_infos.specs.declared.entry.Verdict.TheVariants.{Accept, Reject, Unresolved}
 use Rattle.dkg_types.specs.declared.payload.Payload.{Payload}
 use Rattle.dkg_types.specs.declared.payload.Payload.TheVariants.{DealerLog, EpochInfo}
 use Rattle.dkg_core.specs.Fixed.{Fixed}

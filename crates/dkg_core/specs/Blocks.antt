@@ -13,12 +13,12 @@ use Rattle.dkg_ceremony.specs.Outcomes.{LogMap}
 use Rattle.dkg_ceremony.specs.Schedule.{epoch_of, midpoint}
 use Rattle.dkg_types.specs.Blocks.{Block}
 use Rattle.dkg_types.specs.BlockCodes.{info_of}
-use Rattle.dkg_types.specs.declared.entry.Entry.TheVariants.{Completed}
-use Rattle.dkg_types.specs.declared.entry.Why.TheVariants.{Finished}
-use Rattle.dkg_types.specs.declared.fault.Fault.{Fault}
-use Rattle.dkg_types.specs.declared.fault.Fault.TheVariants.{ConflictingBlock, DetachedBlock, SkippedHeight, OutOfWindow, HeightRange, MissingEpochInfo, WrongEpoch, LocalState}
-use Rattle.dkg_types.specs.declared.fault.LocalCause.TheVariants.{OutcomeOmitted}
-use Rattle.dkg_types.specs.declared.info.EpochInfo.{EpochInfo}
+use Rattle.dkg_infos.specs.declared.entry.Entry.TheVariants.{Completed}
+use Rattle.dkg_infos.specs.declared.entry.Why.TheVariants.{Finished}
+use Rattle.dkg_infos.specs.declared.fault.Fault.{Fault}
+use Rattle.dkg_infos.specs.declared.fault.Fault.TheVariants.{ConflictingBlock, DetachedBlock, SkippedHeight, OutOfWindow, HeightRange, MissingEpochInfo, WrongEpoch, LocalState}
+use Rattle.dkg_infos.specs.declared.fault.LocalCause.TheVariants.{OutcomeOmitted}
+use Rattle.dkg_infos.specs.declared.info.EpochInfo.{EpochInfo}
 use Rattle.dkg_types.specs.PayloadCodes.{its_log, info_payload}
 use Rattle.dkg_core.specs.Courses.{Course, Say, Goes, Stops, bind}
 use Rattle.dkg_secrets.specs.Keys.{key_cmp}

@@ -1,7 +1,7 @@
 -- The reshare actor: an opening and a step as courses, and the relations of both over plain data.
 use Rattle.std.specs.Prelude.{false, List, [], ◌∷◌, map, Option, Some, None, ◌≡◌}
-use Rattle.dkg_types.specs.declared.entry.Entry.TheVariants.{Opened}
-use Rattle.dkg_types.specs.declared.fault.Fault.{Fault}
+use Rattle.dkg_infos.specs.declared.entry.Entry.TheVariants.{Opened}
+use Rattle.dkg_infos.specs.declared.fault.Fault.{Fault}
 use Rattle.dkg_journal.specs.Operations.{Bars, Opens}
 use Rattle.dkg_store.specs.Acts.{OnDisk, Held, World, Ended}
 use Rattle.dkg_store.specs.Recorded.{restored_of}

@@ -1,8 +1,8 @@
 -- What a step does, in its order: lines that it says, operations on the devices, calls of what is outside of the node, and how it ends.
 use Rattle.std.specs.Prelude.{ℕ, List, [], ◌∷◌, Option, Some, None}
-use Rattle.dkg_types.specs.declared.entry.Entry.{Entry as Line}
+use Rattle.dkg_infos.specs.declared.entry.Entry.{Entry as Line}
 use Rattle.dkg_types.specs.declared.finalization.Finalization.{Finalization}
-use Rattle.dkg_types.specs.declared.participants.TrackedPeers.{TrackedPeers}
+use Rattle.dkg_infos.specs.declared.participants.TrackedPeers.{TrackedPeers}
 use Rattle.dkg_types.specs.declared.scheme.SchemeInfo.{SchemeInfo}
 use Rattle.dkg_store.specs.Acts as acts_of
 use Rattle.dkg_store.specs.Acts.{Acts, Operation, Held, World, Along, Completes, Ended, Runs, after}

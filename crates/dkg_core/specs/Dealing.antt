@@ -11,12 +11,12 @@ use Rattle.dkg_ceremony.specs.declared.ceremony.AckError.TheVariants.{Unexpected
 use Rattle.dkg_ceremony.specs.declared.ceremony.DealingError.{DealingError}
 use Rattle.dkg_ceremony.specs.declared.ceremony.DealingError.TheVariants.{UnexpectedDealer, InvalidCommitmentDegree, MismatchedReshareCommitment, InvalidDealerShare}
 use Rattle.dkg_ceremony.specs.declared.round.RoundParts.{RoundParts as Round}
-use Rattle.dkg_types.specs.declared.entry.BlockedWhy.{BlockedWhy}
-use Rattle.dkg_types.specs.declared.entry.BlockedWhy.TheVariants as why
-use Rattle.dkg_types.specs.declared.entry.Entry.TheVariants.{Recorded, Ack, Offer, Blocked}
-use Rattle.dkg_types.specs.declared.fault.Fault.{Fault}
-use Rattle.dkg_types.specs.declared.fault.Fault.TheVariants.{LocalState}
-use Rattle.dkg_types.specs.declared.fault.LocalCause.TheVariants.{OwnDealing}
+use Rattle.dkg_infos.specs.declared.entry.BlockedWhy.{BlockedWhy}
+use Rattle.dkg_infos.specs.declared.entry.BlockedWhy.TheVariants as why
+use Rattle.dkg_infos.specs.declared.entry.Entry.TheVariants.{Recorded, Ack, Offer, Blocked}
+use Rattle.dkg_infos.specs.declared.fault.Fault.{Fault}
+use Rattle.dkg_infos.specs.declared.fault.Fault.TheVariants.{LocalState}
+use Rattle.dkg_infos.specs.declared.fault.LocalCause.TheVariants.{OwnDealing}
 use Rattle.dkg_types.specs.declared.message.Message.{Message as Channel}
 use Rattle.dkg_types.specs.declared.message.Message.TheVariants.{Dealer as ADealing, Ack as AnAck}
 use Rattle.dkg_types.specs.MessageCodes.{message_at}

@@ -5,11 +5,11 @@ use Rattle.std.specs.List.{list_any}
 use Rattle.dkg_values.specs.Rising.{lookup}
 use Rattle.dkg_types.specs.Blocks.{Block}
 use Rattle.dkg_types.specs.BlockCodes.{block_bytes}
-use Rattle.dkg_types.specs.declared.entry.Entry.TheVariants.{Prepared, Proposed, Verdict}
-use Rattle.dkg_types.specs.declared.entry.PreparedLine.{PreparedLine}
-use Rattle.dkg_types.specs.declared.entry.PreparedLine.TheVariants as prepared
-use Rattle.dkg_types.specs.declared.entry.Why.TheVariants as causes
-use Rattle.dkg_types.specs.declared.fault.Fault.{Fault}
+use Rattle.dkg_infos.specs.declared.entry.Entry.TheVariants.{Prepared, Proposed, Verdict}
+use Rattle.dkg_infos.specs.declared.entry.PreparedLine.{PreparedLine}
+use Rattle.dkg_infos.specs.declared.entry.PreparedLine.TheVariants as prepared
+use Rattle.dkg_infos.specs.declared.entry.Why.TheVariants as causes
+use Rattle.dkg_infos.specs.declared.fault.Fault.{Fault}
 use Rattle.dkg_core.specs.Courses.{Course, Say, Goes, bind}
 use Rattle.dkg_core.specs.Fixed.{Fixed}
 use Rattle.dkg_core.specs.Live.{Live, Told, GaveLog, GaveInfo}

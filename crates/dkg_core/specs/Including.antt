@@ -10,19 +10,19 @@ use Rattle.dkg_ceremony.specs.declared.signed_log.SignedDealerLog.{SignedDealerL
 use Rattle.dkg_ceremony.specs.Outcomes.{LogMap}
 use Rattle.dkg_ceremony.specs.Schedule.{midpoint, last}
 use Rattle.dkg_types.specs.Blocks.{Block}
-use Rattle.dkg_types.specs.declared.entry.Entry.TheVariants.{Log, Answer}
-use Rattle.dkg_types.specs.declared.entry.AnswerLine.TheVariants.{Available, Unavailable}
-use Rattle.dkg_types.specs.declared.entry.Why.{Why}
-use Rattle.dkg_types.specs.declared.entry.Why.TheVariants.{Short, WrongHeight, Unlinked, Detached, Following, Terminal}
-use Rattle.dkg_types.specs.declared.fault.Fault.{Fault}
-use Rattle.dkg_types.specs.declared.fault.Fault.TheVariants.{HeightRange, InvalidParticipants, DirectoryMismatch, LocalState}
-use Rattle.dkg_types.specs.declared.fault.LocalCause.TheVariants.{NoShare, StoredDealing}
-use Rattle.dkg_types.specs.declared.fault.ParticipantsCause.TheVariants.{ProviderEmpty, ProviderAbove}
-use Rattle.dkg_types.specs.declared.info.EpochInfo.{EpochInfo}
+use Rattle.dkg_infos.specs.declared.entry.Entry.TheVariants.{Log, Answer}
+use Rattle.dkg_infos.specs.declared.entry.AnswerLine.TheVariants.{Available, Unavailable}
+use Rattle.dkg_infos.specs.declared.entry.Why.{Why}
+use Rattle.dkg_infos.specs.declared.entry.Why.TheVariants.{Short, WrongHeight, Unlinked, Detached, Following, Terminal}
+use Rattle.dkg_infos.specs.declared.fault.Fault.{Fault}
+use Rattle.dkg_infos.specs.declared.fault.Fault.TheVariants.{HeightRange, InvalidParticipants, DirectoryMismatch, LocalState}
+use Rattle.dkg_infos.specs.declared.fault.LocalCause.TheVariants.{NoShare, StoredDealing}
+use Rattle.dkg_infos.specs.declared.fault.ParticipantsCause.TheVariants.{ProviderEmpty, ProviderAbove}
+use Rattle.dkg_infos.specs.declared.info.EpochInfo.{EpochInfo}
 use Rattle.dkg_types.specs.declared.payload.Payload.{Payload}
-use Rattle.dkg_types.specs.declared.outcome.EpochOutcome.TheVariants.{Success}
-use Rattle.dkg_types.specs.InfoCodes.{peers_of}
-use Rattle.dkg_types.specs.NextInfos.{info_by, info_with}
+use Rattle.dkg_infos.specs.declared.outcome.EpochOutcome.TheVariants.{Success}
+use Rattle.dkg_infos.specs.InfoCodes.{peers_of}
+use Rattle.dkg_infos.specs.NextInfos.{info_by, info_with}
 use Rattle.dkg_types.specs.PayloadCodes.{payload_spelling, its_log, log_payload, info_payload}
 use Rattle.dkg_core.specs.Courses.{Course, Say, Goes, Stops, bind}
 use Rattle.dkg_core.specs.Fixed.{Fixed, OneShot, has}

@@ -1,7 +1,7 @@
 -- How a node joins its probe: the probe's acts as a course.
 use Rattle.std.specs.Prelude.{◌≡◌, ℕ, List, [], ◌∷◌, Option}
-use Rattle.dkg_types.specs.declared.entry.Entry.{Entry as Line}
-use Rattle.dkg_types.specs.declared.participants.TrackedPeers.{TrackedPeers}
+use Rattle.dkg_infos.specs.declared.entry.Entry.{Entry as Line}
+use Rattle.dkg_infos.specs.declared.participants.TrackedPeers.{TrackedPeers}
 use Rattle.dkg_types.specs.Tracking.{with_set}
 use Rattle.dkg_probe.specs.Acts as of_probe
 use Rattle.dkg_probe.specs.Acts.{ProbeActs, ProbeRuns, tracked_after}

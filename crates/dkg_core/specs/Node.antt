@@ -3,8 +3,8 @@ use Rattle.std.specs.Prelude.{List, [], ◌∷◌, ◌≡◌, is_some, option_an
 use Rattle.std.specs.Result.{result_ok}
 use Rattle.dkg_values.specs.Codec.{whole}
 use Rattle.dkg_types.specs.Blocks.{Block}
-use Rattle.dkg_types.specs.declared.entry.Entry.TheVariants.{Acked}
-use Rattle.dkg_types.specs.declared.fault.Fault.{Fault}
+use Rattle.dkg_infos.specs.declared.entry.Entry.TheVariants.{Acked}
+use Rattle.dkg_infos.specs.declared.fault.Fault.{Fault}
 use Rattle.dkg_store.specs.Acts.{Held, World, Ended}
 use Rattle.dkg_core.specs.Courses.{Course, Say, Goes, bind, under, EndsSo}
 use Rattle.dkg_core.specs.Sources.{Source}

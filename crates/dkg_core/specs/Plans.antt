@@ -7,12 +7,12 @@ use Rattle.dkg_values.specs.declared.codec.CodecError.{CodecError}
 use Rattle.dkg_values.specs.declared.name.Name.TheVariants as names
 use Rattle.dkg_ceremony.specs.Schedule.{epoch_of}
 use Rattle.dkg_types.specs.Blocks.{Block}
-use Rattle.dkg_types.specs.declared.fault.Fault.{Fault}
-use Rattle.dkg_types.specs.declared.fault.Fault.TheVariants.{Corrupt, HeightRange, StateSyncEpochs, StateSyncMaterial, FloorBlockMissing}
+use Rattle.dkg_infos.specs.declared.fault.Fault.{Fault}
+use Rattle.dkg_infos.specs.declared.fault.Fault.TheVariants.{Corrupt, HeightRange, StateSyncEpochs, StateSyncMaterial, FloorBlockMissing}
 use Rattle.dkg_types.specs.declared.finalization.Finalization.{Finalization}
-use Rattle.dkg_types.specs.declared.info.EpochInfo.{EpochInfo}
+use Rattle.dkg_infos.specs.declared.info.EpochInfo.{EpochInfo}
 use Rattle.dkg_types.specs.FinalizationCodes.{finalization_spelling, finalization_at}
-use Rattle.dkg_types.specs.InfoCodes.{info_spelling, info_at}
+use Rattle.dkg_infos.specs.InfoCodes.{info_spelling, info_at}
 use Rattle.dkg_store.specs.Acts.{OnDisk}
 use Rattle.dkg_journal.specs.Operations.{PutsPlan, ClearsPlan}
 use Rattle.dkg_core.specs.Courses.{Course, Do, Stops, bind}

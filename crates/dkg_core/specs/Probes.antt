@@ -1,6 +1,6 @@
 -- A step of a probe is the node's half of it.
 use Rattle.std.specs.Prelude.{◌≡◌, ℕ, List, Some}
-use Rattle.dkg_types.specs.declared.entry.Entry.{Entry as Line}
+use Rattle.dkg_infos.specs.declared.entry.Entry.{Entry as Line}
 use Rattle.dkg_probe.specs.declared.event.Event.{Event as ProbeEvent}
 use Rattle.dkg_probe.specs.declared.state.State.{State}
 use Rattle.dkg_probe.specs.Acts.{ProbeEnded, went, stopped, broken, ProbeRuns}

@@ -1,6 +1,6 @@
 -- The lines that acts say, whatever the devices tell.
 use Rattle.std.specs.Prelude.{◌≡◌, ◌⊎◌, ◌++◌, ◌∷◌, [], List}
-use Rattle.dkg_types.specs.declared.entry.Entry.{Entry as Line}
+use Rattle.dkg_infos.specs.declared.entry.Entry.{Entry as Line}
 use Rattle.dkg_store.specs.Acts.{Acts, Say, Do, Ask, Goes, Stops, Ended, went, stopped, broken, Held, World, Runs}
 
 -- All of them, of whatever was read, up to this end.

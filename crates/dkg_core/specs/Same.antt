@@ -12,9 +12,9 @@ use Rattle.dkg_ceremony.specs.declared.output.Output.{Output}
 use Rattle.dkg_ceremony.specs.declared.round.RoundParts.{RoundParts as Round}
 use Rattle.dkg_ceremony.specs.declared.sharing.Sharing.{Sharing}
 use Rattle.dkg_ceremony.specs.Outcomes.{LogMap}
-use Rattle.dkg_types.specs.declared.info.EpochInfo.{EpochInfo}
-use Rattle.dkg_types.specs.declared.outcome.EpochOutcome.{EpochOutcome}
-use Rattle.dkg_types.specs.declared.outcome.EpochOutcome.TheVariants.{Success, Failure}
+use Rattle.dkg_infos.specs.declared.info.EpochInfo.{EpochInfo}
+use Rattle.dkg_infos.specs.declared.outcome.EpochOutcome.{EpochOutcome}
+use Rattle.dkg_infos.specs.declared.outcome.EpochOutcome.TheVariants.{Success, Failure}
 use Rattle.dkg_core.specs.Fixed.{Directories}
 
 -- LOGS

@@ -5,13 +5,13 @@ use Rattle.dkg_ceremony.specs.declared.round.RoundParts.{RoundParts as Round}
 use Rattle.dkg_ceremony.specs.Outcomes.{LogMap}
 use Rattle.dkg_types.specs.Blocks.{Block}
 use Rattle.dkg_types.specs.BlockCodes.{info_of}
-use Rattle.dkg_types.specs.declared.entry.Entry.{Entry as Line}
-use Rattle.dkg_types.specs.declared.entry.Entry.TheVariants.{Answer, Log, Committed}
-use Rattle.dkg_types.specs.declared.entry.AnswerLine.TheVariants.{Available, Unavailable}
-use Rattle.dkg_types.specs.declared.entry.Why.TheVariants.{Finished, Following}
-use Rattle.dkg_types.specs.declared.fault.Fault.{Fault}
-use Rattle.dkg_types.specs.declared.info.EpochInfo.{EpochInfo}
-use Rattle.dkg_types.specs.NextInfos.{next_info}
+use Rattle.dkg_infos.specs.declared.entry.Entry.{Entry as Line}
+use Rattle.dkg_infos.specs.declared.entry.Entry.TheVariants.{Answer, Log, Committed}
+use Rattle.dkg_infos.specs.declared.entry.AnswerLine.TheVariants.{Available, Unavailable}
+use Rattle.dkg_infos.specs.declared.entry.Why.TheVariants.{Finished, Following}
+use Rattle.dkg_infos.specs.declared.fault.Fault.{Fault}
+use Rattle.dkg_infos.specs.declared.info.EpochInfo.{EpochInfo}
+use Rattle.dkg_infos.specs.NextInfos.{next_info}
 use Rattle.dkg_types.specs.PayloadCodes.{info_payload}
 use Rattle.dkg_store.specs.Acts.{Held, Ended}
 use Rattle.dkg_core.specs.Courses.{Course, Say, Do, Call, Ask, Goes, Stops, on_devices}

@@ -16,24 +16,24 @@ use Rattle.dkg_ceremony.specs.Thresholds.{max_faults_of}
 use Rattle.dkg_fence.specs.Fence.{marked}
 use Rattle.dkg_types.specs.Blocks.{Block}
 use Rattle.dkg_types.specs.BlockCodes.{info_of}
-use Rattle.dkg_types.specs.declared.entry.Entry.TheVariants.{Committed, Registered, Setup}
-use Rattle.dkg_types.specs.declared.entry.Part.{Part}
-use Rattle.dkg_types.specs.declared.entry.Part.TheVariants.{Follow, Player, Dealer as Deals_alone, Both, Observer}
-use Rattle.dkg_types.specs.declared.entry.Role.{Role}
-use Rattle.dkg_types.specs.declared.entry.Role.TheVariants.{Signer, Member, Verifier}
-use Rattle.dkg_types.specs.declared.fault.Fault.{Fault}
-use Rattle.dkg_types.specs.declared.fault.Fault.TheVariants.{HeightRange, MissingEpochInfo, WrongEpoch, InvalidParticipants, LocalState}
-use Rattle.dkg_types.specs.declared.fault.LocalCause.TheVariants.{ShareRefused, StoredDealing}
-use Rattle.dkg_types.specs.declared.fault.ParticipantsCause.TheVariants.{Refused, Round as NoRound}
-use Rattle.dkg_types.specs.declared.info.EpochInfo.{EpochInfo}
-use Rattle.dkg_types.specs.declared.outcome.EpochOutcome.{EpochOutcome}
-use Rattle.dkg_types.specs.declared.outcome.EpochOutcome.TheVariants.{Success, Failure}
-use Rattle.dkg_types.specs.declared.participants.Participants.{Participants}
-use Rattle.dkg_types.specs.declared.participants.ParticipantsError.{ParticipantsError}
+use Rattle.dkg_infos.specs.declared.entry.Entry.TheVariants.{Committed, Registered, Setup}
+use Rattle.dkg_infos.specs.declared.entry.Part.{Part}
+use Rattle.dkg_infos.specs.declared.entry.Part.TheVariants.{Follow, Player, Dealer as Deals_alone, Both, Observer}
+use Rattle.dkg_infos.specs.declared.entry.Role.{Role}
+use Rattle.dkg_infos.specs.declared.entry.Role.TheVariants.{Signer, Member, Verifier}
+use Rattle.dkg_infos.specs.declared.fault.Fault.{Fault}
+use Rattle.dkg_infos.specs.declared.fault.Fault.TheVariants.{HeightRange, MissingEpochInfo, WrongEpoch, InvalidParticipants, LocalState}
+use Rattle.dkg_infos.specs.declared.fault.LocalCause.TheVariants.{ShareRefused, StoredDealing}
+use Rattle.dkg_infos.specs.declared.fault.ParticipantsCause.TheVariants.{Refused, Round as NoRound}
+use Rattle.dkg_infos.specs.declared.info.EpochInfo.{EpochInfo}
+use Rattle.dkg_infos.specs.declared.outcome.EpochOutcome.{EpochOutcome}
+use Rattle.dkg_infos.specs.declared.outcome.EpochOutcome.TheVariants.{Success, Failure}
+use Rattle.dkg_infos.specs.declared.participants.Participants.{Participants}
+use Rattle.dkg_infos.specs.declared.participants.ParticipantsError.{ParticipantsError}
 use Rattle.dkg_types.specs.declared.scheme.SchemeInfo.{SchemeInfo}
 use Rattle.dkg_types.specs.declared.scheme.SchemeInfo.TheVariants.{Verifier as Verifies, Member as IsMember, Signer as Signs}
 use Rattle.dkg_types.specs.Schemes.{scheme_of}
-use Rattle.dkg_types.specs.Validation.{validation}
+use Rattle.dkg_infos.specs.Validation.{validation}
 use Rattle.dkg_store.specs.Acts.{OnDisk, Changes}
 use Rattle.dkg_store.specs.Dealer.{with_held, with_unsent}
 use Rattle.dkg_journal.specs.Operations.{Prunes}

@@ -1,6 +1,6 @@
 -- Courses one behind another, and a course under other names for its faults: how the whole ended by how its parts did.
 use Rattle.std.specs.Prelude.{◌≡◌, ◌⊎◌, List}
-use Rattle.dkg_types.specs.declared.entry.Entry.{Entry as Line}
+use Rattle.dkg_infos.specs.declared.entry.Entry.{Entry as Line}
 use Rattle.dkg_store.specs.Acts.{World, Ended, went, stopped, broken}
 use Rattle.dkg_core.specs.Courses.{Course, bind, under, on_devices, EndsSo}
 use Rattle.dkg_core.specs.Said.{Said}

@@ -1,9 +1,9 @@
 -- What a course adds to a transcript: the lines of its deeds.
 use Rattle.std.specs.Prelude.{◌≡◌, ℕ, List, [], ◌∷◌, ◌++◌, Some}
 use Rattle.std.specs.List.{AllByRecursion}
-use Rattle.dkg_types.specs.declared.entry.Entry.{Entry as Line}
-use Rattle.dkg_types.specs.declared.entry.Entry.TheVariants.{Opened}
-use Rattle.dkg_types.specs.declared.fault.Fault.{Fault}
+use Rattle.dkg_infos.specs.declared.entry.Entry.{Entry as Line}
+use Rattle.dkg_infos.specs.declared.entry.Entry.TheVariants.{Opened}
+use Rattle.dkg_infos.specs.declared.fault.Fault.{Fault}
 use Rattle.dkg_store.specs.Acts.{Acts, Held, World, Ended, went, stopped, broken, Runs}
 use Rattle.dkg_core.specs.Courses.{Course, on_devices, EndsSo, Deed, Said, Did, Called, deeds_of, end_of, fault_of}
 use Rattle.dkg_core.specs.Said.{Said as SaysBy}

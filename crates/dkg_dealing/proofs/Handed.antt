@@ -5,9 +5,9 @@ use Rattle.std.specs.FinMap.{FinMap, get, insert}
 use Rattle.std.specs.Ordering.{nat_cmp}
 use Rattle.dkg_ceremony.specs.declared.ceremony.DealingError.{DealingError}
 use Rattle.dkg_ceremony.specs.declared.round.RoundParts.{RoundParts as Round}
-use Rattle.dkg_types.specs.declared.entry.Entry.{Entry as Line}
-use Rattle.dkg_types.specs.declared.entry.Entry.TheVariants.{Recorded}
-use Rattle.dkg_types.specs.declared.fault.Fault.{Fault}
+use Rattle.dkg_infos.specs.declared.entry.Entry.{Entry as Line}
+use Rattle.dkg_infos.specs.declared.entry.Entry.TheVariants.{Recorded}
+use Rattle.dkg_infos.specs.declared.fault.Fault.{Fault}
 use Rattle.dkg_store.specs.Acts.{Acts, went, under}
 use Rattle.dkg_store.specs.Calls.{answering}
 use Rattle.dkg_store.specs.Pairs.{Pairs}

@@ -8,7 +8,7 @@ use Rattle.dkg_values.specs.declared.codec.CodecError.{CodecError}
 use Rattle.dkg_ceremony.specs.declared.round.RoundParts.{RoundParts as Round}
 use Rattle.dkg_fence.specs.Readiness.{Readiness}
 use Rattle.dkg_types.specs.MessageCodes.{message_at}
-use Rattle.dkg_types.specs.declared.fault.Fault.{Fault}
+use Rattle.dkg_infos.specs.declared.fault.Fault.{Fault}
 use Rattle.dkg_types.specs.declared.message.Message.{Message as Channel}
 use Rattle.dkg_core.specs.Courses.{Course, Goes}
 use Rattle.dkg_core.specs.Dealing as dealing

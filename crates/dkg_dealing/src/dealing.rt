@@ -11,7 +11,7 @@ ghost use Rattle.dkg_fence.specs.Readiness.{Readiness};
 ghost use Rattle.dkg_store.specs.Corrupt.{AreFit};
 ghost use Rattle.dkg_store.specs.Dealer.{IsDealerOf};
 ghost use Rattle.dkg_types.specs.MessageCodes.{MessageFits, message_at};
-ghost use Rattle.dkg_types.specs.declared.fault.Fault.TheVariants.{NoMemory as OutOfMemory};
+ghost use Rattle.dkg_infos.specs.declared.fault.Fault.TheVariants.{NoMemory as OutOfMemory};
 ghost use Rattle.dkg_core.specs.Dealing as dealing;
 ghost use Rattle.dkg_core.specs.Fixed.{Fixed};
 ghost use Rattle.dkg_core.specs.Said.{Said};
@@ -29,10 +29,11 @@ ghost use Rattle.dkg_life.specs.declared.stop.Stop.TheVariants.{Fault as Faulted
 
 use crate::decoded::decoded;
 use dkg_ceremony::{Ack, AckError, Ceremony, DealingError, Private, Public, decode_cfg};
+use dkg_infos::{BlockedWhy, Directory, Entry, Transcript};
 use dkg_journal::Disk;
 use dkg_life::{Life, Stage, Stop, Terms};
 use dkg_store::{AckHandleError, Dealer, DealingHandleError, Devices, Player, SecretStore, Store};
-use dkg_types::{BlockedWhy, Directory, Entry, Message, Transcript};
+use dkg_types::Message;
 use dkg_values::{Epoch, Key, Mem};
 use std::alloc::Global;
 

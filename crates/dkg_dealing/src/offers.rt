@@ -12,8 +12,8 @@ ghost use Rattle.dkg_fence.specs.Readiness.{Readiness};
 ghost use Rattle.dkg_store.specs.Corrupt.{AreFit};
 ghost use Rattle.dkg_store.specs.Dealer.{unsent};
 ghost use Rattle.dkg_store.specs.declared.dealer.Dealer.{Dealer};
-ghost use Rattle.dkg_types.specs.declared.fault.Fault.TheVariants.{LocalState, NoMemory as OutOfMemory};
-ghost use Rattle.dkg_types.specs.declared.fault.LocalCause.TheVariants.{OwnDealing};
+ghost use Rattle.dkg_infos.specs.declared.fault.Fault.TheVariants.{LocalState, NoMemory as OutOfMemory};
+ghost use Rattle.dkg_infos.specs.declared.fault.LocalCause.TheVariants.{OwnDealing};
 ghost use Rattle.dkg_core.specs.Dealing as dealing;
 ghost use Rattle.dkg_core.specs.Fixed.{Fixed};
 ghost use Rattle.dkg_core.specs.Setup as setup;
@@ -31,10 +31,10 @@ ghost use Rattle.dkg_life.specs.declared.stop.Stop.TheVariants.{Fault as Faulted
 
 use crate::dealing::{handle, take_ack};
 use dkg_ceremony::{Ceremony, Private, Public};
+use dkg_infos::{BoxedPublic, Directory, Entry, Fault, LocalCause, Transcript};
 use dkg_journal::Disk;
 use dkg_life::{Life, Stop, Terms};
 use dkg_store::{Dealer, Devices, SecretStore, Store};
-use dkg_types::{BoxedPublic, Directory, Entry, Fault, LocalCause, Transcript};
 use dkg_values::{Epoch, Key, Mem};
 use std::alloc::Global;
 

@@ -13,9 +13,10 @@ ghost use Rattle.dkg_example.specs.Sent.{IsFair, IsPlaying, IsSameSeat, IsSoundA
 mod tests;
 
 use dkg_ceremony::{Ack, Ceremony, CodecError, Private, Public, Round, decode_cfg};
+use dkg_infos::{Transcript, Unit};
 use dkg_journal::Disk;
 use dkg_store::{DealingHandleError, Devices, Player, SecretStore, Store, StoreError};
-use dkg_types::{Message, Transcript, Unit};
+use dkg_types::Message;
 use dkg_values::{Epoch, Key};
 use std::alloc::Global;
 use std::num::NonZeroU32;

@@ -3,9 +3,9 @@ ghost use Rattle.std.specs.Prelude.{Contains};
 
 use crate::{Answer, Node};
 use dkg_ceremony::{Ack, Ceremony, Mode, Reveal, Round, Signer, StandCeremony, StandSigner};
+use dkg_infos::Transcript;
 use dkg_journal::{Disk, Fuse, MemoryDisk};
 use dkg_store::{Devices, MemorySecrets, SecretStore, StoreError};
-use dkg_types::Transcript;
 use dkg_values::{Epoch, Key, Set};
 use std::alloc::Global;
 use std::num::NonZeroU32;

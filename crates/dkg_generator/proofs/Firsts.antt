@@ -10,7 +10,7 @@ use Rattle.dkg_ceremony.specs.Agreement.{PartsAgree, parts_agree}
 use Rattle.dkg_ceremony.specs.AgreementTest.{agreed}
 use Rattle.dkg_ceremony.specs.Deals.{coefficient_of}
 use Rattle.dkg_ceremony.specs.OutputGrammar.{same_output}
-use Rattle.dkg_types.specs.declared.outcome.EpochOutcome.TheVariants.{Success}
+use Rattle.dkg_infos.specs.declared.outcome.EpochOutcome.TheVariants.{Success}
 use Rattle.dkg_generator.specs.Chain.{everybody, genesis, genesis_output, genesis_poly}
 use Rattle.dkg_generator.specs.Made.{Shown}
 

@@ -10,7 +10,7 @@ use Rattle.dkg_ceremony.specs.declared.round.RoundParts.{RoundParts as Round}
 use Rattle.dkg_ceremony.specs.OutputGrammar.{parts_of_output}
 use Rattle.dkg_ceremony.specs.Outcomes.{LogMap, combined_of, keeps_key, outcome_of, outcome_parts, output_with, revealed_of, selected_of, sum_of}
 use Rattle.dkg_ceremony.specs.Outputs.{OutputParts, do_parts_agree, output_from}
-use Rattle.dkg_types.specs.NextInfos.{info_by, next_info}
+use Rattle.dkg_infos.specs.NextInfos.{info_by, next_info}
 use Rattle.dkg_generator.specs.Chain.{by_dealer, everybody, genesis, genesis_output, info_after, info_at, logs_of, provided, round_after}
 use Rattle.dkg_generator.specs.Made.{Shown}
 

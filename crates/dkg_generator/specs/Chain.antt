@@ -17,10 +17,10 @@ use Rattle.dkg_ceremony.specs.Deals.{coefficient_of, deal_of}
 use Rattle.dkg_ceremony.specs.Outcomes.{LogMap, outcome_of}
 use Rattle.dkg_ceremony.specs.PartialPublics.{partial_public_of}
 use Rattle.dkg_ceremony.specs.ValidLogs.{sign_log_of}
-use Rattle.dkg_types.specs.declared.directory.Unit as directory
-use Rattle.dkg_types.specs.declared.info.EpochInfo.{EpochInfo}
-use Rattle.dkg_types.specs.declared.outcome.EpochOutcome.TheVariants.{Success}
-use Rattle.dkg_types.specs.NextInfos.{Provided, next_info}
+use Rattle.dkg_infos.specs.declared.directory.Unit as directory
+use Rattle.dkg_infos.specs.declared.info.EpochInfo.{EpochInfo}
+use Rattle.dkg_infos.specs.declared.outcome.EpochOutcome.TheVariants.{Success}
+use Rattle.dkg_infos.specs.NextInfos.{Provided, next_info}
 
 -- WHO
 

@@ -8,13 +8,13 @@ use Rattle.dkg_values.specs.Rising.{lookup}
 use Rattle.dkg_ceremony.specs.declared.mode.Mode.TheVariants.{NonZeroCounter}
 use Rattle.dkg_ceremony.specs.declared.signed_log.SignedDealerLog.{SignedDealerLog}
 use Rattle.dkg_ceremony.specs.Acks.{ack_of}
-use Rattle.dkg_types.specs.declared.directory.Unit as directory
-use Rattle.dkg_types.specs.declared.info.EpochInfo as info
+use Rattle.dkg_infos.specs.declared.directory.Unit as directory
+use Rattle.dkg_infos.specs.declared.info.EpochInfo as info
 use Rattle.dkg_types.specs.declared.message.Message.TheVariants.{Dealer, Ack}
 use Rattle.dkg_types.specs.declared.payload.Payload.TheVariants.{DealerLog, EpochInfo}
 use Rattle.dkg_types.specs.MessageCodes.{message_spelling}
 use Rattle.dkg_types.specs.PayloadCodes.{payload_spelling}
-use Rattle.dkg_types.specs.Units.{unit_spelling}
+use Rattle.dkg_infos.specs.Units.{unit_spelling}
 use Rattle.dkg_text.specs.declared.script.Anchor.{Anchor}
 use Rattle.dkg_text.specs.declared.script.Anchor.TheVariants.{Processed}
 use Rattle.dkg_text.specs.declared.script.BlockLine.{BlockLine}

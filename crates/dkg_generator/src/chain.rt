@@ -7,7 +7,7 @@ ghost use Rattle.dkg_values.specs.Rising.{lookup};
 ghost use Rattle.dkg_ceremony.specs.Deals.{coefficient_of};
 ghost use Rattle.dkg_ceremony.specs.Outcomes.{outcome_of};
 ghost use Rattle.dkg_ceremony.specs.PartialPublics.{partial_public_of};
-ghost use Rattle.dkg_types.specs.NextInfos.{info_by, next_info};
+ghost use Rattle.dkg_infos.specs.NextInfos.{info_by, next_info};
 ghost use Rattle.dkg_generator.specs.Chain.{acks_of as acks_from, by_dealer as by_dealer_of, dealer_seed as dealer_seed_of, everybody as everybody_of, fresh_seed as fresh_seed_of, genesis as genesis_of, genesis_poly, halves_of, log_by, provided, round_after as round_from};
 
 use dkg_ceremony::{
@@ -15,7 +15,7 @@ use dkg_ceremony::{
     Output, Private, Public, Reveal, Round, RoundParts, Seed, Set, Share, Sharing, SignedDealerLog,
     StandCeremony, StandSigner, Value,
 };
-use dkg_types::{EpochInfo, EpochOutcome, Unit};
+use dkg_infos::{EpochInfo, EpochOutcome, Unit};
 use sha2::{Digest, Sha256};
 use std::alloc::Global;
 

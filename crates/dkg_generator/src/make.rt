@@ -13,7 +13,7 @@ use dkg_text::{
     BlockLine, BlockLines, Carried, Events, Life, Lives, PlayerLine, PlayerLines, Script,
     ScriptConfig,
 };
-use dkg_types::{EpochInfo, Unit};
+use dkg_infos::{EpochInfo, Unit};
 use std::alloc::Global;
 use std::num::{NonZeroU32, NonZeroU64};
 

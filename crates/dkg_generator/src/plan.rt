@@ -12,7 +12,8 @@ use dkg_ceremony::{
     Blob, Ceremony, Key, Map, Mem, Private, Public, Round, SignedDealerLog, StandCeremony,
     StandSigner, Value, encode,
 };
-use dkg_types::{EpochInfo, Message, Payload, Unit};
+use dkg_infos::{EpochInfo, Unit};
+use dkg_types::{Message, Payload};
 use std::alloc::Global;
 
 /// This node.

@@ -5,8 +5,8 @@ use Rattle.std.specs.FinMap.{FinMap}
 use Rattle.std.specs.Option.{option_eq, option_map_or}
 use Rattle.std.specs.Ordering.{nat_cmp}
 use Rattle.dkg_fence.specs.Readiness.{Readiness}
-use Rattle.dkg_types.specs.declared.entry.Why.TheVariants as why
-use Rattle.dkg_types.specs.declared.fault.Fault.{Fault}
+use Rattle.dkg_infos.specs.declared.entry.Why.TheVariants as why
+use Rattle.dkg_infos.specs.declared.fault.Fault.{Fault}
 use Rattle.dkg_artifact.specs.Requested as requested
 use Rattle.dkg_artifact.specs.Requested.{is_other}
 use Rattle.dkg_core.specs.Courses.{Course, Goes}

@@ -11,10 +11,10 @@ use Rattle.dkg_ceremony.specs.Schedule.{midpoint}
 use Rattle.dkg_fence.specs.Readiness.{Readiness}
 use Rattle.dkg_journal.specs.Names.{Files}
 use Rattle.dkg_types.specs.PayloadCodes.{info_payload}
-use Rattle.dkg_types.specs.declared.entry.Entry.{Entry as Line}
-use Rattle.dkg_types.specs.declared.fault.Fault.{Fault}
-use Rattle.dkg_types.specs.declared.fault.Fault.TheVariants.{LocalState, NoMemory}
-use Rattle.dkg_types.specs.declared.fault.LocalCause.TheVariants.{StoredDealing}
+use Rattle.dkg_infos.specs.declared.entry.Entry.{Entry as Line}
+use Rattle.dkg_infos.specs.declared.fault.Fault.{Fault}
+use Rattle.dkg_infos.specs.declared.fault.Fault.TheVariants.{LocalState, NoMemory}
+use Rattle.dkg_infos.specs.declared.fault.LocalCause.TheVariants.{StoredDealing}
 use Rattle.dkg_types.specs.declared.payload.Payload.{Payload}
 use Rattle.dkg_artifact.specs.Results.{Checked}
 use Rattle.dkg_artifact.specs.Seen.{Verification}

@@ -7,7 +7,7 @@ use Rattle.dkg_ceremony.specs.declared.round.RoundParts.{RoundParts as Round}
 use Rattle.dkg_ceremony.specs.Schedule.{bounds_at, epoch_of, last, midpoint}
 use Rattle.dkg_fence.specs.Readiness.{Readiness}
 use Rattle.dkg_types.specs.Blocks.{Block}
-use Rattle.dkg_types.specs.declared.entry.Why.TheVariants.{Short}
+use Rattle.dkg_infos.specs.declared.entry.Why.TheVariants.{Short}
 use Rattle.dkg_artifact.specs.Requested as requested
 use Rattle.dkg_artifact.specs.Requested.{ended_for, fed_for}
 use Rattle.dkg_artifact.specs.Scans as scans

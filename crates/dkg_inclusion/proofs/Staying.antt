@@ -7,7 +7,7 @@ use Rattle.dkg_journal.specs.Names.{Files}
 use Rattle.dkg_ceremony.specs.Outcomes.{LogMap}
 use Rattle.dkg_ceremony.specs.Schedule.{bounds_at, midpoint}
 use Rattle.dkg_ceremony.specs.declared.round.RoundParts.{RoundParts as Round}
-use Rattle.dkg_types.specs.declared.fault.Fault.TheVariants.{NoMemory}
+use Rattle.dkg_infos.specs.declared.fault.Fault.TheVariants.{NoMemory}
 use Rattle.dkg_artifact.specs.Requested as requested
 use Rattle.dkg_artifact.specs.declared.artifact.Artifact as artifact
 use Rattle.dkg_artifact.specs.declared.job.Job.{Job}

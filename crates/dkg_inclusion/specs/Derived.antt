@@ -1,7 +1,7 @@
 -- The info that is derived behind an info.
 use Rattle.std.specs.Prelude.{ℕ, ◌+◌, List, Option}
-use Rattle.dkg_types.specs.NextInfos.{info_with}
-use Rattle.dkg_types.specs.declared.info.EpochInfo.{EpochInfo}
+use Rattle.dkg_infos.specs.NextInfos.{info_with}
+use Rattle.dkg_infos.specs.declared.info.EpochInfo.{EpochInfo}
 use Rattle.dkg_artifact.specs.declared.verified.Verified.{Verified}
 use Rattle.dkg_inclusion.specs.Including.{ended_by}
 

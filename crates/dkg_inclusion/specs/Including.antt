@@ -5,15 +5,15 @@ use Rattle.dkg_ceremony.specs.declared.output.Output.{Output}
 use Rattle.dkg_ceremony.specs.declared.round.RoundParts.{RoundParts as Round}
 use Rattle.dkg_ceremony.specs.Outcomes.{LogMap}
 use Rattle.dkg_types.specs.Blocks.{Block}
-use Rattle.dkg_types.specs.NextInfos.{info_by}
+use Rattle.dkg_infos.specs.NextInfos.{info_by}
 use Rattle.dkg_types.specs.PayloadCodes.{info_payload}
-use Rattle.dkg_types.specs.declared.entry.Why.TheVariants.{Short}
-use Rattle.dkg_types.specs.declared.fault.Fault.{Fault}
-use Rattle.dkg_types.specs.declared.fault.Fault.TheVariants.{HeightRange, InvalidParticipants, DirectoryMismatch}
-use Rattle.dkg_types.specs.declared.fault.ParticipantsCause.TheVariants.{ProviderEmpty, ProviderAbove}
-use Rattle.dkg_types.specs.declared.info.EpochInfo.{EpochInfo}
-use Rattle.dkg_types.specs.declared.outcome.EpochOutcome.{EpochOutcome}
-use Rattle.dkg_types.specs.declared.outcome.EpochOutcome.TheVariants.{Success, Failure}
+use Rattle.dkg_infos.specs.declared.entry.Why.TheVariants.{Short}
+use Rattle.dkg_infos.specs.declared.fault.Fault.{Fault}
+use Rattle.dkg_infos.specs.declared.fault.Fault.TheVariants.{HeightRange, InvalidParticipants, DirectoryMismatch}
+use Rattle.dkg_infos.specs.declared.fault.ParticipantsCause.TheVariants.{ProviderEmpty, ProviderAbove}
+use Rattle.dkg_infos.specs.declared.info.EpochInfo.{EpochInfo}
+use Rattle.dkg_infos.specs.declared.outcome.EpochOutcome.{EpochOutcome}
+use Rattle.dkg_infos.specs.declared.outcome.EpochOutcome.TheVariants.{Success, Failure}
 use Rattle.dkg_artifact.specs.Scans.{Check, feeds}
 use Rattle.dkg_artifact.specs.Scans as scans
 use Rattle.dkg_artifact.specs.declared.artifact.Artifact as artifact

@@ -4,7 +4,7 @@
 ghost use Rattle.std.specs.Prelude.{◌≡◌, IfErr, IfOk, IsSome, OnErr, OnOk, option_map};
 ghost use Rattle.std.specs.FinMap as maps;
 ghost use Rattle.dkg_types.specs.PayloadCodes.{info_payload, payload_spelling};
-ghost use Rattle.dkg_types.specs.declared.fault.Fault.TheVariants.{NoMemory as OutOfMemory};
+ghost use Rattle.dkg_infos.specs.declared.fault.Fault.TheVariants.{NoMemory as OutOfMemory};
 ghost use Rattle.dkg_core.specs.Fixed.{Fixed};
 ghost use Rattle.dkg_core.specs.Including as including;
 ghost use Rattle.dkg_core.specs.Live.{GaveInfo, GaveNone, Live, with_told};
@@ -18,9 +18,10 @@ ghost use Rattle.dkg_inclusion.specs.declared.told.Told.TheVariants.{Info as Tol
 use crate::told::{EpochInfoResponse, Told};
 use dkg_artifact::Artifact;
 use dkg_ceremony::encode;
+use dkg_infos::{AnswerLine, Directory, Entry, EpochInfo, Transcript, Why};
 use dkg_life::Stop;
 use dkg_secrets::NumberMap;
-use dkg_types::{AnswerLine, Directory, Entry, EpochInfo, Payload, Transcript, Why};
+use dkg_types::Payload;
 use dkg_values::{Blob, Mem, Shared, Value};
 use std::alloc::Global;
 

@@ -4,9 +4,9 @@
 ghost use Rattle.std.specs.Prelude.{◌≡◌, ◌⊎◌, ◌+◌, ◌++◌, ◌<◌, ◌≤◌, ◌^◌, IfErr, IfOk, IsSome, IsSomeAnd, IsTrue, List, OnOk, Some, false, length, option_map, true};
 ghost use Rattle.std.specs.Int.NonZero.{non_zero_u32_get};
 ghost use Rattle.dkg_values.specs.Rising.{set_of};
-ghost use Rattle.dkg_types.specs.InfoCodes.{peers_of as peers_from};
-ghost use Rattle.dkg_types.specs.declared.entry.Entry.{Entry as Line};
-ghost use Rattle.dkg_types.specs.declared.fault.Fault.TheVariants.{DirectoryMismatch, NoMemory as OutOfMemory};
+ghost use Rattle.dkg_infos.specs.InfoCodes.{peers_of as peers_from};
+ghost use Rattle.dkg_infos.specs.declared.entry.Entry.{Entry as Line};
+ghost use Rattle.dkg_infos.specs.declared.fault.Fault.TheVariants.{DirectoryMismatch, NoMemory as OutOfMemory};
 ghost use Rattle.dkg_core.specs.Courses.{Goes};
 ghost use Rattle.dkg_core.specs.Fixed.{Fixed};
 ghost use Rattle.dkg_core.specs.Including as including;
@@ -24,12 +24,11 @@ ghost use Rattle.dkg_inclusion.specs.InclusionOf.{artifact_of, cached_of, result
 
 use dkg_artifact::{Artifact, ArtifactCache, Verified, VerifiedLogs};
 use dkg_ceremony::{Ceremony, Output, Share};
+use dkg_infos::{Directory, EpochInfo, EpochOutcome, Fault, ParticipantsCause};
 use dkg_life::{Stop, Terms};
 use dkg_journal::Disk;
 use dkg_store::{Devices, SecretStore, Store};
-use dkg_types::{
-    Directory, EpochInfo, EpochOutcome, Fault, ParticipantsCause, ParticipantsProvider,
-};
+use dkg_types::ParticipantsProvider;
 use dkg_values::{Epoch, Key, Mem, NoMemory, Set, Value};
 use std::alloc::Global;
 use std::num::NonZeroU32;

@@ -9,8 +9,8 @@ ghost use Rattle.dkg_inclusion.specs.InclusionOf.{IsSeen, in_front};
 use crate::told::Told;
 use dkg_artifact::{ArtifactCache, Request, Requests, Scan, Verification};
 use dkg_ceremony::Ceremony;
+use dkg_infos::Directory;
 use dkg_secrets::NumberMap;
-use dkg_types::Directory;
 use dkg_values::{Height, Mem};
 use std::alloc::Global;
 

@@ -26,10 +26,11 @@ use crate::told::post;
 use crate::verifying::end_verifying;
 use dkg_artifact::{Fed, Path, Request, VerifiedLogs};
 use dkg_ceremony::Ceremony;
+use dkg_infos::{Directory, Transcript, Why};
 use dkg_life::{Life, Stage, Stop, Terms};
 use dkg_journal::Disk;
 use dkg_store::{Devices, SecretStore};
-use dkg_types::{Block, Directory, ParticipantsProvider, Transcript, Why};
+use dkg_types::{Block, ParticipantsProvider};
 use dkg_values::Mem;
 use std::alloc::Global;
 

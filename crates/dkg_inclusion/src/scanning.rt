@@ -30,10 +30,11 @@ use crate::verifying::{answer_by, canonical, start_verifying};
 use dkg_artifact as artifact;
 use dkg_artifact::{Fed, Request, Scan};
 use dkg_ceremony::{Bounds, Ceremony, DealerLog, Epocher, Round};
+use dkg_infos::{Directory, Transcript};
 use dkg_life::{Life, Stage, Stop, Terms, Tip, awaited};
 use dkg_journal::Disk;
 use dkg_store::{Devices, SecretStore};
-use dkg_types::{Directory, ParticipantsProvider, Transcript};
+use dkg_types::ParticipantsProvider;
 use dkg_values::{Map, Mem, NoMemory, Value};
 use std::alloc::Global;
 

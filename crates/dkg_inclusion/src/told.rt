@@ -2,8 +2,9 @@
 ghost use Rattle.std.specs.Prelude.{◌≡◌, ◌↔◌, IfOk, IsTrue, OnErr, OnOk};
 ghost use Rattle.dkg_inclusion.specs.InclusionOf.{posted_in};
 
+use dkg_infos::{Directory, Why};
 use dkg_secrets::NumberMap;
-use dkg_types::{Directory, Payload, Why};
+use dkg_types::Payload;
 use dkg_values::{Mem, Shared, Value};
 use std::alloc::Global;
 

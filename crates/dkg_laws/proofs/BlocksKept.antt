@@ -2,8 +2,8 @@
 use Rattle.std.proofs.Common.{◌≡◌, ℕ, List, [], ◌∷◌, ◌++◌, None, refl, sym, ◌∙◌, ap, subst, append_assoc, append-nil}
 use Rattle.std.specs.List.{AllByRecursion}
 use Rattle.std.specs.FinMap.{get}
-use Rattle.dkg_types.specs.declared.entry.Entry.{Entry as Line}
-use Rattle.dkg_types.specs.declared.entry.Entry.TheVariants.{Recorded, Ack, Offer}
+use Rattle.dkg_infos.specs.declared.entry.Entry.{Entry as Line}
+use Rattle.dkg_infos.specs.declared.entry.Entry.TheVariants.{Recorded, Ack, Offer}
 use Rattle.dkg_store.specs.Acts.{Held, Operation, OnDisk, World, notes, plan}
 use Rattle.dkg_store.specs.Noted.{noted_ack, noted_log, acks_in, logs_in}
 use Rattle.dkg_store.specs.Pairs.{IsWhole}

@@ -13,9 +13,9 @@ use Rattle.dkg_ceremony.specs.declared.round.RoundParts.{RoundParts as Round}
 use Rattle.dkg_ceremony.specs.declared.signed_log.SignedDealerLog.{SignedDealerLog}
 use Rattle.dkg_ceremony.specs.Schedule.{epoch_of}
 use Rattle.dkg_types.specs.Blocks.{Block}
-use Rattle.dkg_types.specs.declared.fault.Fault.TheVariants.{LocalState}
-use Rattle.dkg_types.specs.declared.fault.LocalCause.TheVariants.{OwnDealing}
-use Rattle.dkg_types.specs.declared.info.EpochInfo.{EpochInfo}
+use Rattle.dkg_infos.specs.declared.fault.Fault.TheVariants.{LocalState}
+use Rattle.dkg_infos.specs.declared.fault.LocalCause.TheVariants.{OwnDealing}
+use Rattle.dkg_infos.specs.declared.info.EpochInfo.{EpochInfo}
 use Rattle.dkg_types.specs.declared.message.Message.{Message as Channel}
 use Rattle.dkg_types.specs.declared.message.Message.TheVariants.{Dealer as ADealing, Ack as AnAck}
 use Rattle.dkg_types.specs.MessageCodes.{message_at}
@@ -35,8 +35,8 @@ use Rattle.dkg_core.specs.Core.{step}
 use Rattle.dkg_core.specs.Behind.{IsAside}
 use Rattle.dkg_core.specs.Heard.{recovered_in, Fits}
 use Rattle.dkg_core.specs.Agreeing.{AreAgreed, CanRecord, BringsRecords}
-use Rattle.dkg_types.specs.declared.entry.Entry.{Entry as Line}
-use Rattle.dkg_types.specs.declared.entry.Entry.TheVariants.{Ack, Offer}
+use Rattle.dkg_infos.specs.declared.entry.Entry.{Entry as Line}
+use Rattle.dkg_infos.specs.declared.entry.Entry.TheVariants.{Ack, Offer}
 use Rattle.dkg_core.specs.Laws.{reach_of}
 use Rattle.dkg_core.specs.Enduring.{AckOf, IsSaidFrom, IsKeptFrom, StepsKeep}
 use Rattle.dkg_core.proofs.Agreeing as ag

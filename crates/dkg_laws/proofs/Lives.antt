@@ -2,7 +2,7 @@
 use Rattle.std.proofs.Common.{List, [], ◌∷◌, Option}
 use Rattle.std.specs.Prelude.{◌++◌, fold}
 use Rattle.dkg_types.specs.Blocks.{Block}
-use Rattle.dkg_types.specs.declared.fault.Fault.TheVariants.{HeightRange}
+use Rattle.dkg_infos.specs.declared.fault.Fault.TheVariants.{HeightRange}
 use Rattle.dkg_types.specs.declared.finalization.Finalization.{Finalization}
 use Rattle.dkg_store.specs.Acts.{Held}
 use Rattle.dkg_core.specs.Sources.{Anchor, source_of}

@@ -7,19 +7,19 @@ use Rattle.dkg_values.specs.Codec.{many_at}
 use Rattle.dkg_values.specs.Uint.{groups, groups_at}
 use Rattle.dkg_ceremony.specs.Marks.{mark_of}
 use Rattle.dkg_ceremony.specs.Rounds.{round_of}
-use Rattle.dkg_types.specs.declared.entry.BlockedWhy.TheVariants as why
-use Rattle.dkg_types.specs.declared.entry.AnswerLine.TheVariants.{Unavailable}
-use Rattle.dkg_types.specs.declared.entry.Entry.{Entry as Line}
-use Rattle.dkg_types.specs.declared.entry.Entry.TheVariants.{Answer, Prepared, Proposed, Verdict, Blocked, Sent, Artifact}
-use Rattle.dkg_types.specs.declared.entry.PreparedLine.TheVariants.{Wait}
-use Rattle.dkg_types.specs.declared.entry.Verdict.TheVariants.{Reject, Unresolved}
-use Rattle.dkg_types.specs.declared.entry.Why.TheVariants as causes
+use Rattle.dkg_infos.specs.declared.entry.BlockedWhy.TheVariants as why
+use Rattle.dkg_infos.specs.declared.entry.AnswerLine.TheVariants.{Unavailable}
+use Rattle.dkg_infos.specs.declared.entry.Entry.{Entry as Line}
+use Rattle.dkg_infos.specs.declared.entry.Entry.TheVariants.{Answer, Prepared, Proposed, Verdict, Blocked, Sent, Artifact}
+use Rattle.dkg_infos.specs.declared.entry.PreparedLine.TheVariants.{Wait}
+use Rattle.dkg_infos.specs.declared.entry.Verdict.TheVariants.{Reject, Unresolved}
+use Rattle.dkg_infos.specs.declared.entry.Why.TheVariants as causes
 use Rattle.dkg_types.specs.declared.finalization.Finalization.{Finalization}
 use Rattle.dkg_types.specs.declared.payload.Payload.TheVariants as payloads
 use Rattle.dkg_types.specs.FinalizationCodes.{certificate_of, is_certified, finalization_spelling}
 use Rattle.dkg_types.specs.PayloadCodes.{payload_spelling, info_payload}
-use Rattle.dkg_types.specs.Units.{unit_spelling}
-use Rattle.dkg_types.specs.Validation.{validation}
+use Rattle.dkg_infos.specs.Units.{unit_spelling}
+use Rattle.dkg_infos.specs.Validation.{validation}
 use Rattle.dkg_probe.specs.Wire.{tag_after}
 use Rattle.dkg_core.specs.Live.{Event, Prepare, Propose, Verify, Subscribe, Retry, ProbeReply}
 use Rattle.dkg_core.specs.Desk.{spelled}

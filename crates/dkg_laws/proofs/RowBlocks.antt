@@ -12,15 +12,15 @@ use Rattle.dkg_ceremony.specs.Modes.{mode_at}
 use Rattle.dkg_ceremony.specs.Outcomes.{selected_of, outcome_of}
 use Rattle.dkg_ceremony.specs.Rounds.{round_of}
 use Rattle.dkg_types.specs.Blocks.{Block}
-use Rattle.dkg_types.specs.declared.entry.AnswerLine.TheVariants.{Unavailable}
-use Rattle.dkg_types.specs.declared.entry.Entry.TheVariants.{Opened, Committed, Registered, Setup, Entered, Halted, Acked, Answer, Completed}
-use Rattle.dkg_types.specs.declared.entry.Part.TheVariants.{Player, Follow}
-use Rattle.dkg_types.specs.declared.entry.Role.TheVariants.{Member}
-use Rattle.dkg_types.specs.declared.entry.Why.TheVariants.{Following}
-use Rattle.dkg_types.specs.declared.fault.Fault.TheVariants.{ConflictingBlock, DetachedBlock, SkippedHeight, FloorBlockMissing, StateSyncMaterial}
-use Rattle.dkg_types.specs.InfoCodes.{held_at, parts_at}
-use Rattle.dkg_types.specs.OutcomeCodes.{outcome_after}
-use Rattle.dkg_types.specs.Validation.{validation}
+use Rattle.dkg_infos.specs.declared.entry.AnswerLine.TheVariants.{Unavailable}
+use Rattle.dkg_infos.specs.declared.entry.Entry.TheVariants.{Opened, Committed, Registered, Setup, Entered, Halted, Acked, Answer, Completed}
+use Rattle.dkg_infos.specs.declared.entry.Part.TheVariants.{Player, Follow}
+use Rattle.dkg_infos.specs.declared.entry.Role.TheVariants.{Member}
+use Rattle.dkg_infos.specs.declared.entry.Why.TheVariants.{Following}
+use Rattle.dkg_infos.specs.declared.fault.Fault.TheVariants.{ConflictingBlock, DetachedBlock, SkippedHeight, FloorBlockMissing, StateSyncMaterial}
+use Rattle.dkg_infos.specs.InfoCodes.{held_at, parts_at}
+use Rattle.dkg_infos.specs.OutcomeCodes.{outcome_after}
+use Rattle.dkg_infos.specs.Validation.{validation}
 use Rattle.dkg_store.specs.Acts.{OnDisk, Changes}
 use Rattle.dkg_journal.specs.Operations.{Bars, Opens, PutsPlan, ClearsPlan}
 use Rattle.dkg_secrets.specs.declared.secrets.SecretOp.TheVariants.{PutSeed}

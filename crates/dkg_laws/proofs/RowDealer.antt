@@ -15,13 +15,13 @@ use Rattle.dkg_ceremony.specs.Marks.{mark_of}
 use Rattle.dkg_ceremony.specs.Polynomials.{value_at}
 use Rattle.dkg_ceremony.specs.Rounds.{round_of, round_bytes}
 use Rattle.dkg_ceremony.specs.ValidLogs.{check_log_of, log_content, sign_log_of}
-use Rattle.dkg_types.specs.declared.entry.Entry.TheVariants.{Opened, Committed, Registered, Setup, Entered, Recorded, Offer, Acked, Log}
-use Rattle.dkg_types.specs.declared.entry.Part.TheVariants.{Both}
-use Rattle.dkg_types.specs.declared.entry.Role.TheVariants.{Signer}
+use Rattle.dkg_infos.specs.declared.entry.Entry.TheVariants.{Opened, Committed, Registered, Setup, Entered, Recorded, Offer, Acked, Log}
+use Rattle.dkg_infos.specs.declared.entry.Part.TheVariants.{Both}
+use Rattle.dkg_infos.specs.declared.entry.Role.TheVariants.{Signer}
 use Rattle.dkg_types.specs.declared.payload.Payload.TheVariants as payloads
 use Rattle.dkg_types.specs.PayloadCodes.{payload_spelling}
-use Rattle.dkg_types.specs.Units.{unit_spelling}
-use Rattle.dkg_types.specs.Validation.{validation}
+use Rattle.dkg_infos.specs.Units.{unit_spelling}
+use Rattle.dkg_infos.specs.Validation.{validation}
 use Rattle.dkg_store.specs.Acts.{Held, OnDisk, Changes}
 use Rattle.dkg_journal.specs.Operations.{Bars, Opens, Appends}
 use Rattle.dkg_store.specs.Events.{event_spelling}

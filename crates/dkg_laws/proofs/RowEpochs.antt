@@ -11,12 +11,12 @@ use Rattle.dkg_ceremony.specs.Deals.{deal_of, coefficient_of}
 use Rattle.dkg_ceremony.specs.PartialPublics.{partial_public_of}
 use Rattle.dkg_ceremony.specs.Polynomials.{value_at}
 use Rattle.dkg_ceremony.specs.Rounds.{round_of}
-use Rattle.dkg_types.specs.declared.entry.Entry.TheVariants.{Opened, Committed, Registered, Setup, Entered, Halted}
-use Rattle.dkg_types.specs.declared.entry.Part.TheVariants.{Both, Follow}
-use Rattle.dkg_types.specs.declared.entry.Role.TheVariants.{Signer}
-use Rattle.dkg_types.specs.declared.fault.Fault.TheVariants.{LocalState}
-use Rattle.dkg_types.specs.declared.fault.LocalCause.TheVariants.{ShareRefused}
-use Rattle.dkg_types.specs.Validation.{validation}
+use Rattle.dkg_infos.specs.declared.entry.Entry.TheVariants.{Opened, Committed, Registered, Setup, Entered, Halted}
+use Rattle.dkg_infos.specs.declared.entry.Part.TheVariants.{Both, Follow}
+use Rattle.dkg_infos.specs.declared.entry.Role.TheVariants.{Signer}
+use Rattle.dkg_infos.specs.declared.fault.Fault.TheVariants.{LocalState}
+use Rattle.dkg_infos.specs.declared.fault.LocalCause.TheVariants.{ShareRefused}
+use Rattle.dkg_infos.specs.Validation.{validation}
 use Rattle.dkg_journal.specs.Operations.{Bars, Opens, Prunes}
 use Rattle.dkg_secrets.specs.declared.secrets.SecretOp.TheVariants.{PutShare, PutSeed, Prune}
 use Rattle.dkg_store.specs.Acts.{Held, OnDisk, Changes}

@@ -17,12 +17,12 @@ use Rattle.dkg_ceremony.specs.ValidLogs.{bears_ack_of}
 use Rattle.dkg_fence.specs.declared.fence.Waited.TheVariants.{Ready, Pending, Closed}
 use Rattle.dkg_fence.specs.Fence.{marked, closed}
 use Rattle.dkg_fence.specs.Readiness.{Readiness}
-use Rattle.dkg_types.specs.declared.entry.Entry.TheVariants.{Opened, Committed, Registered, Setup, Entered}
-use Rattle.dkg_types.specs.declared.entry.Part.{Part}
-use Rattle.dkg_types.specs.declared.entry.Part.TheVariants.{Player, Observer}
-use Rattle.dkg_types.specs.declared.entry.Restored.{Restored}
-use Rattle.dkg_types.specs.declared.entry.Role.TheVariants.{Member}
-use Rattle.dkg_types.specs.Validation.{validation}
+use Rattle.dkg_infos.specs.declared.entry.Entry.TheVariants.{Opened, Committed, Registered, Setup, Entered}
+use Rattle.dkg_infos.specs.declared.entry.Part.{Part}
+use Rattle.dkg_infos.specs.declared.entry.Part.TheVariants.{Player, Observer}
+use Rattle.dkg_infos.specs.declared.entry.Restored.{Restored}
+use Rattle.dkg_infos.specs.declared.entry.Role.TheVariants.{Member}
+use Rattle.dkg_infos.specs.Validation.{validation}
 use Rattle.dkg_journal.specs.Records.{SectionEntry}
 use Rattle.dkg_values.specs.declared.name.Name.TheVariants.{Segment}
 use Rattle.dkg_store.specs.Acts.{OnDisk}

@@ -10,14 +10,14 @@ use Rattle.dkg_ceremony.specs.Marks.{mark_of}
 use Rattle.dkg_ceremony.specs.Polynomials.{value_at}
 use Rattle.dkg_ceremony.specs.Rounds.{round_of, round_bytes}
 use Rattle.dkg_types.specs.MessageCodes.{message_after}
-use Rattle.dkg_types.specs.Validation.{validation}
+use Rattle.dkg_infos.specs.Validation.{validation}
 use Rattle.dkg_ceremony.specs.declared.phase.Phase.TheVariants.{Early}
-use Rattle.dkg_types.specs.declared.entry.BlockedWhy.TheVariants as why
-use Rattle.dkg_types.specs.declared.entry.Entry.TheVariants.{Opened, Setup, Ack, Blocked, Halted, Hint, Acked, Log, Answer}
-use Rattle.dkg_types.specs.declared.entry.AnswerLine.TheVariants.{Unavailable}
-use Rattle.dkg_types.specs.declared.entry.Why.TheVariants.{Following}
-use Rattle.dkg_types.specs.declared.entry.Part.TheVariants.{Follow}
-use Rattle.dkg_types.specs.declared.fault.Fault.TheVariants.{OutOfWindow}
+use Rattle.dkg_infos.specs.declared.entry.BlockedWhy.TheVariants as why
+use Rattle.dkg_infos.specs.declared.entry.Entry.TheVariants.{Opened, Setup, Ack, Blocked, Halted, Hint, Acked, Log, Answer}
+use Rattle.dkg_infos.specs.declared.entry.AnswerLine.TheVariants.{Unavailable}
+use Rattle.dkg_infos.specs.declared.entry.Why.TheVariants.{Following}
+use Rattle.dkg_infos.specs.declared.entry.Part.TheVariants.{Follow}
+use Rattle.dkg_infos.specs.declared.fault.Fault.TheVariants.{OutOfWindow}
 use Rattle.dkg_store.specs.Acts.{OnDisk}
 use Rattle.dkg_journal.specs.Operations.{Bars, Opens}
 use Rattle.dkg_core.specs.Live.{Peer, Event, Reshare, Later, Delivers, NextLog, EpochInfoOf}

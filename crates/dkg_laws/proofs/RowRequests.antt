@@ -12,16 +12,16 @@ use Rattle.dkg_ceremony.specs.declared.signed_log.SignedDealerLog.{SignedDealerL
 use Rattle.dkg_ceremony.specs.Finishes.{finish_of}
 use Rattle.dkg_ceremony.specs.Outcomes.{selected_of, outcome_of}
 use Rattle.dkg_types.specs.PayloadCodes.{payload_spelling}
-use Rattle.dkg_types.specs.Units.{unit_spelling}
+use Rattle.dkg_infos.specs.Units.{unit_spelling}
 use Rattle.dkg_ceremony.specs.Marks.{mark_of}
 use Rattle.dkg_ceremony.specs.Rounds.{round_of, round_bytes}
 use Rattle.dkg_ceremony.specs.ValidLogs.{check_log_of, log_content}
 use Rattle.dkg_types.specs.Blocks.{Block}
-use Rattle.dkg_types.specs.declared.entry.AnswerLine.TheVariants.{Available, Unavailable}
-use Rattle.dkg_types.specs.declared.entry.Entry.TheVariants.{Answer}
-use Rattle.dkg_types.specs.declared.entry.Why.TheVariants as causes
+use Rattle.dkg_infos.specs.declared.entry.AnswerLine.TheVariants.{Available, Unavailable}
+use Rattle.dkg_infos.specs.declared.entry.Entry.TheVariants.{Answer}
+use Rattle.dkg_infos.specs.declared.entry.Why.TheVariants as causes
 use Rattle.dkg_types.specs.declared.payload.Payload.TheVariants as payloads
-use Rattle.dkg_types.specs.Validation.{validation}
+use Rattle.dkg_infos.specs.Validation.{validation}
 use Rattle.dkg_store.specs.Acts.{Held}
 use Rattle.dkg_core.specs.Live.{Live, Event, Reshare, EpochInfoOf, Feed, Over, Cancel, Work, NodeStop}
 use Rattle.dkg_core.specs.Including.{Fed, Need, Found, scan}

@@ -12,12 +12,12 @@ use Rattle.dkg_ceremony.specs.Deals.{deal_of, coefficient_of}
 use Rattle.dkg_ceremony.specs.Polynomials.{value_at}
 use Rattle.dkg_ceremony.specs.Rounds.{round_of}
 use Rattle.dkg_types.specs.Blocks.{Block}
-use Rattle.dkg_types.specs.declared.entry.Entry.TheVariants.{Committed, Registered, Setup, Entered, Acked}
-use Rattle.dkg_types.specs.declared.entry.Part.TheVariants.{Both, Player}
-use Rattle.dkg_types.specs.declared.entry.Role.TheVariants.{Signer, Member}
+use Rattle.dkg_infos.specs.declared.entry.Entry.TheVariants.{Committed, Registered, Setup, Entered, Acked}
+use Rattle.dkg_infos.specs.declared.entry.Part.TheVariants.{Both, Player}
+use Rattle.dkg_infos.specs.declared.entry.Role.TheVariants.{Signer, Member}
 use Rattle.dkg_types.specs.declared.payload.Payload.TheVariants as payloads
-use Rattle.dkg_types.specs.NextInfos.{info_by}
-use Rattle.dkg_types.specs.Validation.{validation}
+use Rattle.dkg_infos.specs.NextInfos.{info_by}
+use Rattle.dkg_infos.specs.Validation.{validation}
 use Rattle.dkg_store.specs.Acts.{OnDisk, Changes}
 use Rattle.dkg_journal.specs.Operations.{Prunes}
 use Rattle.dkg_secrets.specs.declared.secrets.SecretOp.TheVariants.{PutShare, PutSeed, Prune}

@@ -13,12 +13,12 @@ use Rattle.dkg_ceremony.specs.Polynomials.{value_at}
 use Rattle.dkg_ceremony.specs.Rounds.{round_of, round_bytes}
 use Rattle.dkg_store.specs.Events.{event_after}
 use Rattle.dkg_types.specs.MessageCodes.{message_after}
-use Rattle.dkg_types.specs.Validation.{validation}
+use Rattle.dkg_infos.specs.Validation.{validation}
 use Rattle.dkg_ceremony.specs.declared.phase.Phase.TheVariants.{Midpoint}
-use Rattle.dkg_types.specs.declared.entry.Entry.TheVariants.{Opened, Committed, Registered, Setup, Entered, Acked}
-use Rattle.dkg_types.specs.declared.entry.Part.TheVariants.{Player}
-use Rattle.dkg_types.specs.declared.entry.Restored.{Restored}
-use Rattle.dkg_types.specs.declared.entry.Role.TheVariants.{Member}
+use Rattle.dkg_infos.specs.declared.entry.Entry.TheVariants.{Opened, Committed, Registered, Setup, Entered, Acked}
+use Rattle.dkg_infos.specs.declared.entry.Part.TheVariants.{Player}
+use Rattle.dkg_infos.specs.declared.entry.Restored.{Restored}
+use Rattle.dkg_infos.specs.declared.entry.Role.TheVariants.{Member}
 use Rattle.dkg_types.specs.Blocks.{Block}
 use Rattle.dkg_store.specs.Acts.{OnDisk, Changes, Held}
 use Rattle.dkg_journal.specs.Operations.{Bars, Opens, Prunes}

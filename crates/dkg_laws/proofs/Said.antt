@@ -1,6 +1,6 @@
 -- A run says the lines of its acts.
 use Rattle.std.proofs.Common.{◌≡◌, inl, inr, List, [], ◌∷◌, ◌++◌, refl, sym, ◌∙◌, ap, append_assoc, append-nil}
-use Rattle.dkg_types.specs.declared.entry.Entry.{Entry as Line}
+use Rattle.dkg_infos.specs.declared.entry.Entry.{Entry as Line}
 use Rattle.dkg_store.specs.Acts.{Acts, Say, Do, Ask, Goes, Stops, World, says, does, Completes, Faults, Breaks, Cause, went, stopped, broken}
 use Rattle.dkg_core.specs.Said.{SaysAll, SaysUpTo, SaysFirst, RunsSay}
 

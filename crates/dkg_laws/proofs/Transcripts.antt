@@ -1,6 +1,6 @@
 -- Runs and what they add to a transcript.
 use Rattle.std.proofs.Common.{◌≡◌, inl, inr, List, [], ◌∷◌, ◌++◌, refl, sym, ◌∙◌, ap, subst, append_assoc, append-nil}
-use Rattle.dkg_types.specs.declared.entry.Entry.{Entry as Line}
+use Rattle.dkg_infos.specs.declared.entry.Entry.{Entry as Line}
 use Rattle.dkg_store.specs.Acts.{Acts, Say, Do, Ask, Goes, Stops, Operation, World, says, does, Cause, Tears, went, stopped, broken, Completes, Faults, Breaks}
 use Rattle.dkg_core.specs.Transcripts.{with_out, TranscriptsMove}
 

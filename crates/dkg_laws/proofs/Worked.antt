@@ -8,18 +8,18 @@ use Rattle.dkg_ceremony.specs.declared.mode.Reveal.TheVariants.{V1}
 use Rattle.dkg_ceremony.specs.declared.output.Output.{Output}
 use Rattle.dkg_ceremony.specs.declared.phase.Phase.TheVariants.{Early}
 use Rattle.dkg_types.specs.Blocks.{Block}
-use Rattle.dkg_types.specs.declared.directory.Unit as directory
-use Rattle.dkg_types.specs.declared.entry.Entry.{Entry as Line}
-use Rattle.dkg_types.specs.declared.entry.Entry.TheVariants.{Opened, Committed, Registered, Setup, Recorded, Ack, Entered}
-use Rattle.dkg_types.specs.declared.entry.Part.TheVariants.{Player}
-use Rattle.dkg_types.specs.declared.entry.Role.TheVariants.{Member}
-use Rattle.dkg_types.specs.declared.fault.Fault.{Fault}
+use Rattle.dkg_infos.specs.declared.directory.Unit as directory
+use Rattle.dkg_infos.specs.declared.entry.Entry.{Entry as Line}
+use Rattle.dkg_infos.specs.declared.entry.Entry.TheVariants.{Opened, Committed, Registered, Setup, Recorded, Ack, Entered}
+use Rattle.dkg_infos.specs.declared.entry.Part.TheVariants.{Player}
+use Rattle.dkg_infos.specs.declared.entry.Role.TheVariants.{Member}
+use Rattle.dkg_infos.specs.declared.fault.Fault.{Fault}
 use Rattle.dkg_types.specs.declared.finalization.Finalization.{Finalization}
-use Rattle.dkg_types.specs.declared.info.EpochInfo.{EpochInfo}
-use Rattle.dkg_types.specs.declared.outcome.EpochOutcome.TheVariants.{Success, Failure}
+use Rattle.dkg_infos.specs.declared.info.EpochInfo.{EpochInfo}
+use Rattle.dkg_infos.specs.declared.outcome.EpochOutcome.TheVariants.{Success, Failure}
 use Rattle.dkg_types.specs.declared.payload.Payload.{Payload}
 use Rattle.dkg_types.specs.declared.payload.Payload.TheVariants as payloads
-use Rattle.dkg_types.specs.Units.{unit_at, unit_spelling}
+use Rattle.dkg_infos.specs.Units.{unit_at, unit_spelling}
 use Rattle.dkg_store.specs.Acts.{Operation, OnDisk, Changes}
 use Rattle.dkg_journal.specs.Operations.{Bars, Opens, Appends, Prunes}
 use Rattle.dkg_secrets.specs.declared.secrets.SecretOp.TheVariants.{PutSeed, PutDealing, Prune}

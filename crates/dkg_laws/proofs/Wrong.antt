@@ -10,8 +10,8 @@ use Rattle.dkg_ceremony.specs.Marks.{mark_of}
 use Rattle.dkg_ceremony.specs.Polynomials.{value_at}
 use Rattle.dkg_ceremony.specs.Rounds.{round_of, round_bytes}
 use Rattle.dkg_types.specs.MessageCodes.{message_after}
-use Rattle.dkg_types.specs.Validation.{validation}
-use Rattle.dkg_types.specs.declared.entry.Entry.TheVariants.{Recorded, Ack, Offer}
+use Rattle.dkg_infos.specs.Validation.{validation}
+use Rattle.dkg_infos.specs.declared.entry.Entry.TheVariants.{Recorded, Ack, Offer}
 use Rattle.dkg_store.specs.Acts.{Held, OnDisk, Changes}
 use Rattle.dkg_core.specs.Courses.{Deed, Said, Did, deeds_of}
 use Rattle.dkg_journal.specs.Operations.{Appends}

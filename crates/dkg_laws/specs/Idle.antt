@@ -1,8 +1,8 @@
 -- What an event of a request, or of the own log, leaves of a world: it touches no device.
 use Rattle.std.specs.Prelude.{◌≡◌, ◌++◌, List, None}
 use Rattle.std.specs.List.{AllByRecursion}
-use Rattle.dkg_types.specs.declared.entry.Entry.{Entry as Line}
-use Rattle.dkg_types.specs.declared.entry.Entry.TheVariants.{Answer, Log}
+use Rattle.dkg_infos.specs.declared.entry.Entry.{Entry as Line}
+use Rattle.dkg_infos.specs.declared.entry.Entry.TheVariants.{Answer, Log}
 use Rattle.dkg_store.specs.Acts.{World, Ended}
 use Rattle.dkg_core.specs.Courses.{EndsSo}
 use Rattle.dkg_core.specs.Fixed.{Fixed}

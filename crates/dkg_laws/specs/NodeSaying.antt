@@ -1,8 +1,8 @@
 -- What a node's step says, whose life passes through whole epochs.
 use Rattle.std.specs.Prelude.{◌≡◌, ◌⊎◌, ◌++◌, List, None}
 use Rattle.std.specs.List.{AllByRecursion}
-use Rattle.dkg_types.specs.declared.entry.Entry.{Entry as Line}
-use Rattle.dkg_types.specs.declared.entry.Entry.TheVariants.{Entered, Halted, Acked}
+use Rattle.dkg_infos.specs.declared.entry.Entry.{Entry as Line}
+use Rattle.dkg_infos.specs.declared.entry.Entry.TheVariants.{Entered, Halted, Acked}
 use Rattle.dkg_store.specs.Acts.{Ended}
 use Rattle.dkg_core.specs.Courses.{on_devices}
 use Rattle.dkg_core.specs.Said.{Said}

@@ -16,7 +16,7 @@ use Rattle.dkg_core.specs.Stepping.{next_epoch}
 use Rattle.dkg_core.specs.Storing.{ReadsSecrets, KeepsShares}
 use Rattle.dkg_core.specs.Asked.{OfShares, ReadsShare, IsArtifactIn, InEpoch}
 use Rattle.dkg_core.specs.Through.{IsFormThrough, IsLiveThrough, PassesNothingOn}
-use Rattle.dkg_types.specs.declared.info.EpochInfo.{EpochInfo}
+use Rattle.dkg_infos.specs.declared.info.EpochInfo.{EpochInfo}
 
 -- The block is its epoch's last; the share is that of the artifact of the canonical logs, and the carried info, of this epoch, which is the next, is the artifact's.
 abbrev pub IsSuchShare : {Dir : Type 0} → Fixed Dir → OfShares → Block Dir → Live Dir → (epoch share : ℕ) → Type 0

@@ -2,7 +2,7 @@
 use Rattle.std.proofs.Common.{◌≡◌, ℕ, Bool, List, [], ◌∷◌, ◌++◌, Option, None, Result, Ok, Err, refl, sym, ◌∙◌, ap, subst, append_assoc, append-nil}
 use Rattle.std.specs.Prelude.{IsTrue, OnOk, reverse}
 use Rattle.std.proofs.lemmas.List.{reverse-append}
-use Rattle.dkg_types.specs.declared.info.EpochInfo.{EpochInfo}
+use Rattle.dkg_infos.specs.declared.info.EpochInfo.{EpochInfo}
 use Rattle.dkg_types.specs.declared.scheme.SchemeInfo.{SchemeInfo}
 use Rattle.dkg_core.specs.Live.{Inclusion, Orchestrator}
 use Rattle.dkg_life.specs.LiveOf.{Beside, EndsBeside, EndsWith, IsFresh, TookSchemes, nothing_beside, scheme_by, with_scheme_of}

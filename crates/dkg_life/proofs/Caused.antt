@@ -9,7 +9,7 @@ use Rattle.dkg_store.specs.declared.call.StoreError.{StoreError}
 use Rattle.dkg_store.specs.declared.call.StoreError.TheVariants.{Disk, Secrets as SecretsFailed, Corrupt, LocalState, StateSyncEpochs, StateSyncMaterial, Cut as StoreCut, NoMemory}
 use Rattle.std.proofs.lemmas.Bool.Decides.{nat_tests}
 use Rattle.dkg_journal.specs.Disk.{Rose}
-use Rattle.dkg_types.specs.declared.fault.Fault.TheVariants as fault
+use Rattle.dkg_infos.specs.declared.fault.Fault.TheVariants as fault
 use Rattle.dkg_life.specs.declared.stop.Stop.{Stop}
 use Rattle.dkg_life.specs.declared.stop.Stop.TheVariants.{Fault as Faulted, Cut, Failed}
 use Rattle.dkg_life.specs.Ends.{IsCaused, IsCausedBy, IsOutside, stop_of}

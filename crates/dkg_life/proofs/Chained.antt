@@ -1,8 +1,8 @@
 -- One course behind another, over the devices and in what is said.
 use Rattle.std.proofs.Common.{List, sym, subst}
 use Rattle.dkg_journal.specs.Names.{Files}
-use Rattle.dkg_types.specs.declared.entry.Entry.{Entry as Line}
-use Rattle.dkg_types.specs.declared.fault.Fault.{Fault}
+use Rattle.dkg_infos.specs.declared.entry.Entry.{Entry as Line}
+use Rattle.dkg_infos.specs.declared.fault.Fault.{Fault}
 use Rattle.dkg_store.specs.Acts.{Acts, Ended, Moment, went}
 use Rattle.dkg_core.specs.Courses.{Course, bind, on_devices}
 use Rattle.dkg_life.specs.declared.stop.Stop.{Stop}

@@ -1,9 +1,9 @@
 -- A commit and a registration: what they leave known.
 use Rattle.std.proofs.Common.{◌≡◌, List, [], Result, Ok, Err, refl, sym, subst, append-nil}
 use Rattle.std.specs.Prelude.{IfErr, OnOk}
-use Rattle.dkg_types.specs.declared.entry.Entry.{Entry as Line}
-use Rattle.dkg_types.specs.declared.fault.Fault.{Fault}
-use Rattle.dkg_types.specs.declared.fault.Fault.TheVariants.{NoMemory}
+use Rattle.dkg_infos.specs.declared.entry.Entry.{Entry as Line}
+use Rattle.dkg_infos.specs.declared.fault.Fault.{Fault}
+use Rattle.dkg_infos.specs.declared.fault.Fault.TheVariants.{NoMemory}
 use Rattle.dkg_journal.specs.Names.{Files}
 use Rattle.dkg_store.specs.Acts.{Ended, Moment, went}
 use Rattle.dkg_core.specs.Courses.{Course, Goes, on_devices}

@@ -11,8 +11,8 @@ use Rattle.dkg_ceremony.specs.declared.phase.Phase.TheVariants.{Early, Midpoint,
 use Rattle.dkg_ceremony.specs.declared.round.RoundParts.{RoundParts as Round}
 use Rattle.dkg_ceremony.specs.declared.signed_log.SignedDealerLog.{SignedDealerLog}
 use Rattle.dkg_fence.specs.Readiness.{Readiness}
-use Rattle.dkg_types.specs.declared.fault.Fault.{Fault}
-use Rattle.dkg_types.specs.declared.fault.LocalCause.TheVariants.{ShareRefused}
+use Rattle.dkg_infos.specs.declared.fault.Fault.{Fault}
+use Rattle.dkg_infos.specs.declared.fault.LocalCause.TheVariants.{ShareRefused}
 use Rattle.dkg_store.specs.Dealer.{AckMap, IsDealerOf, held_acks, passing_acks, unsent, with_held, with_unsent}
 use Rattle.dkg_store.specs.Errors.{IsOfDealing}
 use Rattle.dkg_store.specs.Noted.{Notes}

@@ -2,9 +2,9 @@
 use Rattle.std.proofs.Common.{◌≡◌, inl, inr, ℕ, List, [], ◌∷◌, ◌++◌, Option, Some, None, refl, sym, ◌∙◌, ap, subst, append_assoc, append-nil}
 use Rattle.std.specs.FinMap.{empty}
 use Rattle.dkg_journal.specs.Burn.{Burn}
-use Rattle.dkg_types.specs.declared.entry.Entry.{Entry as Line}
+use Rattle.dkg_infos.specs.declared.entry.Entry.{Entry as Line}
 use Rattle.dkg_store.specs.Acts as acts_of
-use Rattle.dkg_types.specs.declared.fault.Fault.{Fault}
+use Rattle.dkg_infos.specs.declared.fault.Fault.{Fault}
 use Rattle.dkg_store.specs.Acts.{Acts, Held, held_in, World, says, does, Completes, Faults, Breaks, Runs, Cause, Ended, went, stopped, broken, bind}
 use Rattle.dkg_core.specs.Courses.{Course, on_devices}
 use Rattle.dkg_store.specs.Acts.{by_cut, by_want}

@@ -1,9 +1,9 @@
 -- Courses that touch no device.
 use Rattle.std.proofs.Common.{◌≡◌, List, [], ◌∷◌, ◌++◌, Option, None, refl, sym, ap, subst}
 use Rattle.dkg_journal.specs.Burn.{Burn}
-use Rattle.dkg_types.specs.declared.entry.Entry.{Entry as Line}
-use Rattle.dkg_types.specs.declared.fault.Fault.{Fault}
-use Rattle.dkg_types.specs.declared.fault.Fault.TheVariants.{NoMemory}
+use Rattle.dkg_infos.specs.declared.entry.Entry.{Entry as Line}
+use Rattle.dkg_infos.specs.declared.fault.Fault.{Fault}
+use Rattle.dkg_infos.specs.declared.fault.Fault.TheVariants.{NoMemory}
 use Rattle.dkg_store.specs.Acts.{Cause, Ended, Held, Runs, World, went, broken, by_want}
 use Rattle.dkg_store.proofs.Acts.{breaks_none}
 use Rattle.dkg_core.specs.Courses.{Course, Say, Goes, Stops, on_devices}

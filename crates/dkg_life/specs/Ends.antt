@@ -2,8 +2,8 @@
 use Rattle.std.specs.Prelude.{ℕ, ⊤, Bool, IfErr, IsSome, IsTrue, Option, Some, None, Result, Ok, Err}
 use Rattle.dkg_journal.specs.Disk.{Rose}
 use Rattle.dkg_journal.specs.Fuse.{Reached}
-use Rattle.dkg_types.specs.declared.fault.Fault.{Fault}
-use Rattle.dkg_types.specs.declared.fault.Fault.TheVariants as fault
+use Rattle.dkg_infos.specs.declared.fault.Fault.{Fault}
+use Rattle.dkg_infos.specs.declared.fault.Fault.TheVariants as fault
 use Rattle.dkg_store.specs.Acts.{Cause, Ended, went, stopped, broken, by_cut, by_disk, by_secrets, by_want}
 use Rattle.dkg_store.specs.declared.call.StoreError.{StoreError}
 use Rattle.dkg_store.specs.declared.call.StoreError.TheVariants as store

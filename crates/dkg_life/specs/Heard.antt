@@ -3,7 +3,7 @@ use Rattle.std.specs.Prelude.{◌≡◌, ℕ, List, Option, Some, None, option_m
 use Rattle.std.specs.FinMap.{get, insert}
 use Rattle.dkg_ceremony.specs.declared.ceremony.DealingError.{DealingError}
 use Rattle.dkg_ceremony.specs.declared.round.RoundParts.{RoundParts as Round}
-use Rattle.dkg_types.specs.declared.fault.Fault.{Fault}
+use Rattle.dkg_infos.specs.declared.fault.Fault.{Fault}
 use Rattle.dkg_store.specs.Acts.{Acts, under}
 use Rattle.dkg_store.specs.Calls.{answering}
 use Rattle.dkg_store.specs.Pairs.{Pairs}

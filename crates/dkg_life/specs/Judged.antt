@@ -1,8 +1,8 @@
 -- What a delivered block is to a node that has a position, or none.
 use Rattle.std.specs.Prelude.{ℕ, List, ◌+◌, ◌==◌, ◌&&◌, not, nat_le, nat_lt, Option, Some, None, Result, Ok, Err, if◌then◌else◌}
 use Rattle.std.specs.Str.{bytes_eq}
-use Rattle.dkg_types.specs.declared.fault.Fault.{Fault}
-use Rattle.dkg_types.specs.declared.fault.Fault.TheVariants.{ConflictingBlock, SkippedHeight, DetachedBlock}
+use Rattle.dkg_infos.specs.declared.fault.Fault.{Fault}
+use Rattle.dkg_infos.specs.declared.fault.Fault.TheVariants.{ConflictingBlock, SkippedHeight, DetachedBlock}
 use Rattle.dkg_life.specs.declared.tip.Judged.{Judged}
 use Rattle.dkg_life.specs.declared.tip.Judged.TheVariants.{New, Again}
 use Rattle.dkg_core.specs.Sources.{Tip}

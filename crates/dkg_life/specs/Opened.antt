@@ -13,9 +13,9 @@ use Rattle.dkg_core.specs.Seen.{Seen}
 use Rattle.dkg_store.specs.Corrupt.{IsAlien}
 use Rattle.dkg_store.specs.Recorded.{restored_of}
 use Rattle.dkg_secrets.specs.Secrets.{Secrets}
-use Rattle.dkg_types.specs.declared.entry.Entry.{Entry as Line}
-use Rattle.dkg_types.specs.declared.entry.Entry.TheVariants.{Opened}
-use Rattle.dkg_types.specs.declared.fault.Fault.{Fault}
+use Rattle.dkg_infos.specs.declared.entry.Entry.{Entry as Line}
+use Rattle.dkg_infos.specs.declared.entry.Entry.TheVariants.{Opened}
+use Rattle.dkg_infos.specs.declared.fault.Fault.{Fault}
 use Rattle.dkg_core.specs.Courses.{Course, Say, Do, Ask, Goes}
 use Rattle.dkg_core.specs.Fixed.{Fixed}
 use Rattle.dkg_core.specs.Live.{Records}

@@ -9,7 +9,7 @@ use Rattle.dkg_store.specs.Acts.{Stands}
 use Rattle.dkg_store.specs.Corrupt.{IsCorruptAt}
 use Rattle.dkg_store.specs.Pairs.{IsWhole}
 use Rattle.dkg_store.specs.declared.devices.Devices.{Devices}
-use Rattle.dkg_types.specs.declared.fault.Fault.TheVariants.{Corrupt}
+use Rattle.dkg_infos.specs.declared.fault.Fault.TheVariants.{Corrupt}
 use Rattle.dkg_life.specs.declared.config.Terms.{Terms}
 use Rattle.dkg_life.specs.declared.life.Life.{Life}
 use Rattle.dkg_life.specs.declared.stop.Stop.{Stop}

@@ -10,16 +10,16 @@ use Rattle.dkg_ceremony.specs.Thresholds.{max_faults_of}
 use Rattle.std.specs.Option.{option_map_or}
 use Rattle.dkg_types.specs.Blocks.{Block}
 use Rattle.dkg_types.specs.BlockCodes.{info_of}
-use Rattle.dkg_types.specs.declared.fault.Fault.{Fault}
-use Rattle.dkg_types.specs.declared.fault.Fault.TheVariants.{NoMemory, InvalidParticipants, MissingEpochInfo, WrongEpoch, LocalState}
-use Rattle.dkg_types.specs.declared.fault.LocalCause.TheVariants.{ShareRefused, StoredDealing}
-use Rattle.dkg_types.specs.declared.fault.ParticipantsCause.TheVariants.{Refused, Round as NoRound}
-use Rattle.dkg_types.specs.declared.info.EpochInfo.{EpochInfo}
-use Rattle.dkg_types.specs.declared.participants.ParticipantsError.{ParticipantsError}
+use Rattle.dkg_infos.specs.declared.fault.Fault.{Fault}
+use Rattle.dkg_infos.specs.declared.fault.Fault.TheVariants.{NoMemory, InvalidParticipants, MissingEpochInfo, WrongEpoch, LocalState}
+use Rattle.dkg_infos.specs.declared.fault.LocalCause.TheVariants.{ShareRefused, StoredDealing}
+use Rattle.dkg_infos.specs.declared.fault.ParticipantsCause.TheVariants.{Refused, Round as NoRound}
+use Rattle.dkg_infos.specs.declared.info.EpochInfo.{EpochInfo}
+use Rattle.dkg_infos.specs.declared.participants.ParticipantsError.{ParticipantsError}
 use Rattle.dkg_ceremony.specs.declared.ceremony.DealingError.{DealingError}
-use Rattle.dkg_types.specs.Validation.{validation}
-use Rattle.dkg_types.specs.declared.entry.Entry.{Entry as Line}
-use Rattle.dkg_types.specs.declared.entry.Entry.TheVariants.{Ack, Blocked}
+use Rattle.dkg_infos.specs.Validation.{validation}
+use Rattle.dkg_infos.specs.declared.entry.Entry.{Entry as Line}
+use Rattle.dkg_infos.specs.declared.entry.Entry.TheVariants.{Ack, Blocked}
 use Rattle.dkg_values.specs.Rising.{lookup}
 use Rattle.dkg_core.specs.Courses.{Course, Goes, Stops}
 use Rattle.dkg_core.specs.Fixed.{Fixed}

@@ -4,7 +4,7 @@ ghost use Rattle.std.specs.Int.NonZero.{non_zero_u32_get, non_zero_u64_get};
 ghost use Rattle.dkg_life.specs.Configured.{config_fault};
 
 use dkg_ceremony::{Blob, Ceremony, Mode, ModeVersion, Reveal};
-use dkg_types::{ConfigCause, Fault};
+use dkg_infos::{ConfigCause, Fault};
 use dkg_values::Key;
 use std::num::{NonZeroU32, NonZeroU64};
 

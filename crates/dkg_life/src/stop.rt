@@ -1,11 +1,11 @@
 //! Why a call of the actor did not end.
 ghost use Rattle.std.specs.Prelude.{◌≡◌};
-ghost use Rattle.dkg_types.specs.declared.fault.Fault.TheVariants.{NoMemory as OutOfMemory};
+ghost use Rattle.dkg_infos.specs.declared.fault.Fault.TheVariants.{NoMemory as OutOfMemory};
 ghost use Rattle.dkg_life.specs.Ends.{stop_of};
 ghost use Rattle.dkg_life.specs.declared.stop.Stop.TheVariants.{Fault as Faulted};
 
+use dkg_infos::Fault;
 use dkg_store::StoreError;
-use dkg_types::Fault;
 use dkg_values::NoMemory;
 
 /// Why a call did not end.

@@ -3,7 +3,8 @@ ghost use Rattle.std.specs.Prelude.{◌≡◌, ◌+◌, ◌^◌, IfSome, IfNone}
 ghost use Rattle.std.specs.Option.{option_map_or};
 ghost use Rattle.dkg_life.specs.Judged.{judged, judged_over};
 
-use dkg_types::{Block, Directory, Fault};
+use dkg_infos::{Directory, Fault};
+use dkg_types::Block;
 use dkg_values::{Digest, Height};
 use std::marker::Model;
 

@@ -10,20 +10,20 @@ use Rattle.dkg_ceremony.specs.Schedule.{midpoint}
 use Rattle.dkg_ceremony.specs.declared.round.RoundParts.{RoundParts as Round}
 use Rattle.dkg_ceremony.specs.declared.signed_log.SignedDealerLog.{SignedDealerLog}
 use Rattle.dkg_types.specs.Blocks.{Block}
-use Rattle.dkg_types.specs.NextInfos.{info_by}
+use Rattle.dkg_infos.specs.NextInfos.{info_by}
 use Rattle.dkg_types.specs.PayloadCodes.{its_log}
-use Rattle.dkg_types.specs.declared.directory.Unit as directory
+use Rattle.dkg_infos.specs.declared.directory.Unit as directory
 use Rattle.dkg_types.specs.BlockCodes.{info_of}
-use Rattle.dkg_types.specs.declared.entry.AnswerLine.{AnswerLine}
-use Rattle.dkg_types.specs.declared.entry.AnswerLine.TheVariants.{Unavailable}
-use Rattle.dkg_types.specs.declared.entry.Entry.{Entry}
-use Rattle.dkg_types.specs.declared.entry.Entry.TheVariants.{Acked, Answer, Committed, Log, Registered}
-use Rattle.dkg_types.specs.declared.entry.Why.TheVariants.{Finished}
-use Rattle.dkg_types.specs.declared.fault.Fault.{Fault}
-use Rattle.dkg_types.specs.declared.fault.Fault.TheVariants.{DirectoryMismatch, HeightRange, InvalidParticipants, LocalState, MissingEpochInfo, WrongEpoch}
-use Rattle.dkg_types.specs.declared.fault.LocalCause.TheVariants.{OutcomeOmitted}
-use Rattle.dkg_types.specs.declared.fault.ParticipantsCause.TheVariants.{ProviderEmpty, ProviderAbove}
-use Rattle.dkg_types.specs.declared.info.EpochInfo.{EpochInfo}
+use Rattle.dkg_infos.specs.declared.entry.AnswerLine.{AnswerLine}
+use Rattle.dkg_infos.specs.declared.entry.AnswerLine.TheVariants.{Unavailable}
+use Rattle.dkg_infos.specs.declared.entry.Entry.{Entry}
+use Rattle.dkg_infos.specs.declared.entry.Entry.TheVariants.{Acked, Answer, Committed, Log, Registered}
+use Rattle.dkg_infos.specs.declared.entry.Why.TheVariants.{Finished}
+use Rattle.dkg_infos.specs.declared.fault.Fault.{Fault}
+use Rattle.dkg_infos.specs.declared.fault.Fault.TheVariants.{DirectoryMismatch, HeightRange, InvalidParticipants, LocalState, MissingEpochInfo, WrongEpoch}
+use Rattle.dkg_infos.specs.declared.fault.LocalCause.TheVariants.{OutcomeOmitted}
+use Rattle.dkg_infos.specs.declared.fault.ParticipantsCause.TheVariants.{ProviderEmpty, ProviderAbove}
+use Rattle.dkg_infos.specs.declared.info.EpochInfo.{EpochInfo}
 use Rattle.dkg_core.specs.Behind.{event_of}
 use Rattle.dkg_core.specs.Blocks as b
 use Rattle.dkg_core.specs.Core.{step}

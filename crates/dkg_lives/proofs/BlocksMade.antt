@@ -13,8 +13,8 @@ use Rattle.dkg_values.specs.declared.codec.CodecError.{CodecError}
 use Rattle.dkg_types.specs.BlockCodes.{block_bytes, context_bytes, flagged_bytes}
 use Rattle.dkg_types.specs.Blocks as made
 use Rattle.dkg_types.specs.PayloadCodes.{PayloadFits, payload_at, payload_grammar, payload_spelling}
-use Rattle.dkg_types.specs.Units.{unit_at, unit_grammar, unit_spelling}
-use Rattle.dkg_types.specs.declared.directory.Unit as directory
+use Rattle.dkg_infos.specs.Units.{unit_at, unit_grammar, unit_spelling}
+use Rattle.dkg_infos.specs.declared.directory.Unit as directory
 use Rattle.dkg_types.specs.declared.payload.Payload.{Payload}
 use Rattle.dkg_text.specs.declared.script.BlockLine.{BlockLine}
 use Rattle.dkg_script.specs.Blocks.{Block, block_at, block_of, blocks, digest_of, flagged, zeros}

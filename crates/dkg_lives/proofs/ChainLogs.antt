@@ -19,8 +19,8 @@ use Rattle.dkg_store.proofs.Epochs.{rising}
 use Rattle.dkg_store.proofs.Own.{lookup_at}
 use Rattle.dkg_types.specs.Blocks as made
 use Rattle.dkg_types.specs.Paths.{log_counts, logs_of_path}
-use Rattle.dkg_types.specs.Units.{unit_spelling}
-use Rattle.dkg_types.specs.declared.directory.Unit as directory
+use Rattle.dkg_infos.specs.Units.{unit_spelling}
+use Rattle.dkg_infos.specs.declared.directory.Unit as directory
 use Rattle.dkg_script.specs.Blocks.{Block, chain}
 use Rattle.dkg_script.specs.Setting.{Setting, blocks_per_epoch}
 use Rattle.dkg_script.specs.Views.{seen_block}

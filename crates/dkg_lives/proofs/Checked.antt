@@ -7,10 +7,10 @@ use Rattle.std.proofs.lemmas.Bool.Decides.{nat_tests}
 use Rattle.dkg_ceremony.specs.Modes.{supports_of}
 use Rattle.dkg_ceremony.specs.declared.mode.Mode.{Mode}
 use Rattle.dkg_journal.specs.Names.{Files}
-use Rattle.dkg_types.specs.declared.fault.Fault.{Fault}
-use Rattle.dkg_types.specs.declared.fault.Fault.TheVariants.{InvalidConfig}
-use Rattle.dkg_types.specs.declared.fault.ConfigCause.{ConfigCause}
-use Rattle.dkg_types.specs.declared.fault.ConfigCause.TheVariants.{Mode as ModeCause, OneBlock}
+use Rattle.dkg_infos.specs.declared.fault.Fault.{Fault}
+use Rattle.dkg_infos.specs.declared.fault.Fault.TheVariants.{InvalidConfig}
+use Rattle.dkg_infos.specs.declared.fault.ConfigCause.{ConfigCause}
+use Rattle.dkg_infos.specs.declared.fault.ConfigCause.TheVariants.{Mode as ModeCause, OneBlock}
 use Rattle.dkg_text.specs.declared.script.Anchor.{Anchor}
 use Rattle.dkg_text.specs.declared.script.Anchor.TheVariants.{Absent, Processed}
 use Rattle.dkg_text.specs.declared.script.BlockLine.{BlockLine}

@@ -1,7 +1,7 @@
 -- What is asked of a node beside its peers' messages and blocks touches no device, and brings nothing that is recorded.
 use Rattle.std.proofs.Common.{◌≡◌}
-use Rattle.dkg_types.specs.declared.fault.Fault.{Fault}
-use Rattle.dkg_types.specs.declared.directory.Unit as directory
+use Rattle.dkg_infos.specs.declared.fault.Fault.{Fault}
+use Rattle.dkg_infos.specs.declared.directory.Unit as directory
 use Rattle.dkg_store.specs.Acts.{Ended, World, broken, stopped, went}
 use Rattle.dkg_core.specs.Agreeing.{BringsRecords}
 use Rattle.dkg_core.specs.Behind.{event_of}

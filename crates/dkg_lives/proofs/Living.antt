@@ -5,7 +5,7 @@ use Rattle.std.proofs.lemmas.Bool.Decides.{nat_tests}
 use Rattle.std.specs.List.{AllByRecursion}
 use Rattle.std.proofs.lemmas.Option.{slice_get-get_or}
 use Rattle.dkg_journal.specs.Disk.{Rose}
-use Rattle.dkg_types.specs.declared.fault.Fault.TheVariants as fault
+use Rattle.dkg_infos.specs.declared.fault.Fault.TheVariants as fault
 use Rattle.dkg_store.specs.declared.devices.Devices.{Devices}
 use Rattle.dkg_life.specs.Ends.{IsCausedBy}
 use Rattle.dkg_life.specs.declared.stop.Stop.{Stop}

@@ -10,8 +10,8 @@ use Rattle.dkg_ceremony.specs.declared.phase.Phase.TheVariants.{Early, Midpoint,
 use Rattle.dkg_ceremony.specs.declared.round.RoundParts.{RoundParts as Round}
 use Rattle.dkg_ceremony.specs.Schedule.{epoch_of, midpoint, last as last_height}
 use Rattle.dkg_types.specs.Blocks.{Block}
-use Rattle.dkg_types.specs.declared.fault.Fault.{Fault}
-use Rattle.dkg_types.specs.declared.fault.Fault.TheVariants.{HeightRange, ConflictingBlock, DetachedBlock, SkippedHeight, OutOfWindow}
+use Rattle.dkg_infos.specs.declared.fault.Fault.{Fault}
+use Rattle.dkg_infos.specs.declared.fault.Fault.TheVariants.{HeightRange, ConflictingBlock, DetachedBlock, SkippedHeight, OutOfWindow}
 use Rattle.dkg_store.specs.Acts.{Held}
 use Rattle.dkg_core.specs.Sources.{Tip}
 use Rattle.dkg_core.specs.Fixed.{Fixed}

@@ -11,11 +11,11 @@ use Rattle.std.specs.Cmp.{nat_cmp_total}
 use Rattle.dkg_values.specs.Rising.{lookup}
 use Rattle.dkg_journal.specs.Operations as of_journal
 use Rattle.dkg_journal.specs.Operations.{Bars, Opens}
-use Rattle.dkg_types.specs.declared.entry.Entry.{Entry as Line}
-use Rattle.dkg_types.specs.declared.entry.Entry.TheVariants.{Offer, Opened}
-use Rattle.dkg_types.specs.declared.fault.Fault.{Fault}
-use Rattle.dkg_types.specs.declared.fault.Fault.TheVariants.{HeightRange}
-use Rattle.dkg_types.specs.declared.info.EpochInfo.{EpochInfo}
+use Rattle.dkg_infos.specs.declared.entry.Entry.{Entry as Line}
+use Rattle.dkg_infos.specs.declared.entry.Entry.TheVariants.{Offer, Opened}
+use Rattle.dkg_infos.specs.declared.fault.Fault.{Fault}
+use Rattle.dkg_infos.specs.declared.fault.Fault.TheVariants.{HeightRange}
+use Rattle.dkg_infos.specs.declared.info.EpochInfo.{EpochInfo}
 use Rattle.dkg_secrets.specs.Keys.{StaysOrGoes}
 use Rattle.dkg_secrets.specs.Secrets.{Secrets, Tries, after}
 use Rattle.dkg_secrets.specs.declared.secrets.SecretOp.TheVariants.{PutShare, PutSeed, Prune}

@@ -1,11 +1,11 @@
 -- Where a run stands in its lives and steps, and what entries that are added make of that.
 use Rattle.std.specs.Prelude.{ℕ, ◌+◌, ◌<◌, ◌≤◌, Bool, List, [], ◌∷◌, ◌++◌, ◌≡◌, ◌≢◌, ◌⊎◌, Option, Some, IfSome, IsSomeAnd, length, fold}
 use Rattle.std.specs.List.{AllByRecursion, list_any}
-use Rattle.dkg_types.specs.declared.entry.Entry.{Entry}
-use Rattle.dkg_types.specs.declared.entry.Entry.TheVariants.{Opened, Fault}
-use Rattle.dkg_types.specs.declared.entry.Restored.{Restored}
-use Rattle.dkg_types.specs.declared.fault.Fault as fault
-use Rattle.dkg_types.specs.declared.fault.Fault.TheVariants.{NoMemory}
+use Rattle.dkg_infos.specs.declared.entry.Entry.{Entry}
+use Rattle.dkg_infos.specs.declared.entry.Entry.TheVariants.{Opened, Fault}
+use Rattle.dkg_infos.specs.declared.entry.Restored.{Restored}
+use Rattle.dkg_infos.specs.declared.fault.Fault as fault
+use Rattle.dkg_infos.specs.declared.fault.Fault.TheVariants.{NoMemory}
 use Rattle.dkg_text.specs.declared.script.Cut as cut
 use Rattle.dkg_text.specs.declared.script.Life.{Life}
 use Rattle.dkg_text.specs.declared.script.Script.{Script}

@@ -9,11 +9,11 @@ use Rattle.dkg_fence.specs.declared.fence.Waited.{Waited}
 use Rattle.dkg_fence.specs.declared.fence.Waited.TheVariants as waits
 use Rattle.dkg_types.specs.BlockCodes.{info_of}
 use Rattle.dkg_types.specs.Blocks.{Block}
-use Rattle.dkg_types.specs.declared.entry.Entry.TheVariants.{Acked}
-use Rattle.dkg_types.specs.declared.fault.Fault.{Fault}
-use Rattle.dkg_types.specs.declared.fault.Fault.TheVariants.{LocalState, MissingEpochInfo, SkippedHeight, WrongEpoch}
-use Rattle.dkg_types.specs.declared.fault.LocalCause.{LocalCause}
-use Rattle.dkg_types.specs.declared.info.EpochInfo.{EpochInfo}
+use Rattle.dkg_infos.specs.declared.entry.Entry.TheVariants.{Acked}
+use Rattle.dkg_infos.specs.declared.fault.Fault.{Fault}
+use Rattle.dkg_infos.specs.declared.fault.Fault.TheVariants.{LocalState, MissingEpochInfo, SkippedHeight, WrongEpoch}
+use Rattle.dkg_infos.specs.declared.fault.LocalCause.{LocalCause}
+use Rattle.dkg_infos.specs.declared.info.EpochInfo.{EpochInfo}
 use Rattle.dkg_types.specs.declared.scheme.SchemeInfo.{SchemeInfo}
 use Rattle.dkg_core.specs.Courses.{Ask, Call, Course, Do, EndsSo, Genesis, Goes, Say, Stops, bind, under}
 use Rattle.dkg_core.specs.Core.{step}

@@ -6,13 +6,13 @@ use Rattle.dkg_ceremony.specs.Outcomes.{LogMap, outcome_of}
 use Rattle.dkg_ceremony.specs.Schedule.{bounds_at, first, last, midpoint}
 use Rattle.dkg_ceremony.specs.ValidLogs.{check_log_of}
 use Rattle.dkg_types.specs.Blocks.{Block}
-use Rattle.dkg_types.specs.NextInfos.{next_info}
+use Rattle.dkg_infos.specs.NextInfos.{next_info}
 use Rattle.dkg_types.specs.Paths.{logs_of_path}
 use Rattle.dkg_types.specs.PayloadCodes.{info_payload, payload_spelling}
-use Rattle.dkg_types.specs.Units.{unit_spelling}
-use Rattle.dkg_types.specs.declared.directory.Unit as directory
-use Rattle.dkg_types.specs.declared.entry.Why.{Why}
-use Rattle.dkg_types.specs.declared.info.EpochInfo.{EpochInfo}
+use Rattle.dkg_infos.specs.Units.{unit_spelling}
+use Rattle.dkg_infos.specs.declared.directory.Unit as directory
+use Rattle.dkg_infos.specs.declared.entry.Why.{Why}
+use Rattle.dkg_infos.specs.declared.info.EpochInfo.{EpochInfo}
 use Rattle.dkg_artifact.specs.Ancestries.{CompletesPath, IsLinked, IsUnderWay, Refuses}
 use Rattle.dkg_artifact.specs.Scans.{above}
 use Rattle.dkg_artifact.specs.declared.scan.Tip as scan

@@ -16,16 +16,16 @@ use Rattle.dkg_journal.specs.Names.{Files}
 use Rattle.dkg_secrets.specs.Secrets.{Secrets as Kept}
 use Rattle.dkg_types.specs.BlockCodes.{info_of}
 use Rattle.dkg_types.specs.Blocks.{Block}
-use Rattle.dkg_types.specs.Validation.{validation}
-use Rattle.dkg_types.specs.declared.directory.Unit as directory
-use Rattle.dkg_types.specs.declared.entry.Entry.{Entry}
-use Rattle.dkg_types.specs.declared.entry.Entry.TheVariants as entry
-use Rattle.dkg_types.specs.declared.fault.Fault.{Fault}
-use Rattle.dkg_types.specs.declared.fault.Fault.TheVariants.{NoMemory, Disk, Secrets, Corrupt, HeightRange, MissingEpochInfo, WrongEpoch, InvalidParticipants, LocalState, ConflictingBlock, DetachedBlock, SkippedHeight, OutOfWindow}
-use Rattle.dkg_types.specs.declared.fault.LocalCause.TheVariants.{StoredDealing, ShareRefused, OwnDealing}
-use Rattle.dkg_types.specs.declared.fault.ParticipantsCause.TheVariants.{Refused, Round as NoRound, ProviderEmpty, ProviderAbove}
-use Rattle.dkg_types.specs.declared.info.EpochInfo.{EpochInfo}
-use Rattle.dkg_types.specs.declared.participants.ParticipantsError.{ParticipantsError}
+use Rattle.dkg_infos.specs.Validation.{validation}
+use Rattle.dkg_infos.specs.declared.directory.Unit as directory
+use Rattle.dkg_infos.specs.declared.entry.Entry.{Entry}
+use Rattle.dkg_infos.specs.declared.entry.Entry.TheVariants as entry
+use Rattle.dkg_infos.specs.declared.fault.Fault.{Fault}
+use Rattle.dkg_infos.specs.declared.fault.Fault.TheVariants.{NoMemory, Disk, Secrets, Corrupt, HeightRange, MissingEpochInfo, WrongEpoch, InvalidParticipants, LocalState, ConflictingBlock, DetachedBlock, SkippedHeight, OutOfWindow}
+use Rattle.dkg_infos.specs.declared.fault.LocalCause.TheVariants.{StoredDealing, ShareRefused, OwnDealing}
+use Rattle.dkg_infos.specs.declared.fault.ParticipantsCause.TheVariants.{Refused, Round as NoRound, ProviderEmpty, ProviderAbove}
+use Rattle.dkg_infos.specs.declared.info.EpochInfo.{EpochInfo}
+use Rattle.dkg_infos.specs.declared.participants.ParticipantsError.{ParticipantsError}
 use Rattle.dkg_text.specs.declared.script.Event.{Event}
 use Rattle.dkg_text.specs.declared.script.Event.TheVariants.{Final, Info, Feed, Over, Cancel, Work}
 use Rattle.dkg_text.specs.declared.script.Life.{Life}

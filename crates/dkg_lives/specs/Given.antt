@@ -12,10 +12,10 @@ use Rattle.dkg_journal.specs.Names.{Files}
 use Rattle.dkg_journal.specs.Opening.{open_calls}
 use Rattle.dkg_types.specs.BlockCodes.{block_bytes}
 use Rattle.dkg_types.specs.Blocks.{Block}
-use Rattle.dkg_types.specs.NextInfos.{Provided}
-use Rattle.dkg_types.specs.Units.{unit_at, unit_spelling}
+use Rattle.dkg_infos.specs.NextInfos.{Provided}
+use Rattle.dkg_infos.specs.Units.{unit_at, unit_spelling}
 use Rattle.dkg_types.specs.declared.block.Context.{Context}
-use Rattle.dkg_types.specs.declared.directory.Unit as directory
+use Rattle.dkg_infos.specs.declared.directory.Unit as directory
 use Rattle.dkg_types.specs.declared.payload.Payload.{Payload}
 use Rattle.dkg_types.specs.declared.finalization.Finalization.{Finalization}
 use Rattle.dkg_store.specs.Acts.{Held}

@@ -2,10 +2,10 @@
 use Rattle.std.proofs.Common.{◌≡◌, inr, ℕ, ◌+◌, ◌<◌, List, [], ◌∷◌, ◌++◌, map, length, take, true, false, Option, None, Result, Ok, Err, OnOk, OnErr, refl, sym, ap, subst, ◌∙◌, arith}
 use Rattle.std.proofs.lemmas.List.{take-map, length-map}
 use Rattle.dkg_values.specs.declared.memory.NoMemory.{NoMemory as Want}
-use Rattle.dkg_types.specs.declared.entry.Entry.{Entry as Line}
+use Rattle.dkg_infos.specs.declared.entry.Entry.{Entry as Line}
 use Rattle.dkg_types.specs.declared.manager.TrackError.{TrackError}
 use Rattle.dkg_types.specs.declared.manager.TrackError.TheVariants.{Missing, NoMemory}
-use Rattle.dkg_types.specs.declared.participants.TrackedPeers.{TrackedPeers}
+use Rattle.dkg_infos.specs.declared.participants.TrackedPeers.{TrackedPeers}
 use Rattle.dkg_types.specs.Tracking.{AnswersTracking, with_set}
 use Rattle.dkg_probe.specs.declared.event.ProbeStop.{ProbeStop}
 use Rattle.dkg_probe.specs.declared.state.State.{State}

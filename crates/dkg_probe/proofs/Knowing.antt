@@ -1,8 +1,8 @@
 -- An artifact that is told is the one that is known: it is the last line of its step, which ends by knowing it.
 use Rattle.std.proofs.Common.{◌≡◌, inl, inr, ℕ, List, [], ◌∷◌, ◌++◌, Option, Some, None, Err, refl, sym, subst}
-use Rattle.dkg_types.specs.declared.entry.BlockedWhy.{BlockedWhy}
-use Rattle.dkg_types.specs.declared.entry.Entry.{Entry as Line}
-use Rattle.dkg_types.specs.declared.entry.Entry.TheVariants.{Blocked, Sent}
+use Rattle.dkg_infos.specs.declared.entry.BlockedWhy.{BlockedWhy}
+use Rattle.dkg_infos.specs.declared.entry.Entry.{Entry as Line}
+use Rattle.dkg_infos.specs.declared.entry.Entry.TheVariants.{Blocked, Sent}
 use Rattle.dkg_probe.specs.declared.artifact.Artifact.{Artifact as Known}
 use Rattle.dkg_probe.specs.declared.event.Event.{Event}
 use Rattle.dkg_probe.specs.declared.event.ProbeStop.{ProbeStop}

@@ -4,14 +4,14 @@ use Rattle.dkg_values.specs.Codec.{whole}
 use Rattle.dkg_values.specs.declared.codec.CodecError.{CodecError}
 use Rattle.dkg_types.specs.BlockCodes.{info_of}
 use Rattle.dkg_types.specs.Blocks.{Block}
-use Rattle.dkg_types.specs.declared.entry.BlockedWhy.TheVariants as why
-use Rattle.dkg_types.specs.declared.entry.BlockedWhy.{BlockedWhy}
-use Rattle.dkg_types.specs.declared.entry.Entry.{Entry as Line}
-use Rattle.dkg_types.specs.declared.entry.Entry.TheVariants.{Blocked, Sent}
-use Rattle.dkg_types.specs.declared.participants.TrackedPeers.{TrackedPeers}
+use Rattle.dkg_infos.specs.declared.entry.BlockedWhy.TheVariants as why
+use Rattle.dkg_infos.specs.declared.entry.BlockedWhy.{BlockedWhy}
+use Rattle.dkg_infos.specs.declared.entry.Entry.{Entry as Line}
+use Rattle.dkg_infos.specs.declared.entry.Entry.TheVariants.{Blocked, Sent}
+use Rattle.dkg_infos.specs.declared.participants.TrackedPeers.{TrackedPeers}
 use Rattle.dkg_values.specs.Uint.{uint}
 use Rattle.dkg_types.specs.declared.finalization.Finalization.{Finalization}
-use Rattle.dkg_types.specs.declared.info.EpochInfo.{EpochInfo}
+use Rattle.dkg_infos.specs.declared.info.EpochInfo.{EpochInfo}
 use Rattle.dkg_probe.specs.declared.artifact.Artifact.{Artifact as Known}
 use Rattle.dkg_probe.specs.declared.event.Event.{Event}
 use Rattle.dkg_probe.specs.declared.event.Event.TheVariants.{Subscribe, Unsubscribe, Attach, Peer, Retry}

@@ -1,8 +1,8 @@
 -- What a step does, as acts in their order: lines that it says, peers that it has tracked, and how it ends. A probe has no devices, so there are no
 -- acts on them; and it has a manager, so there is one for that.
 use Rattle.std.specs.Prelude.{◌≡◌, ◌⊎◌, ℕ, ◌<◌, [], ◌∷◌, ◌++◌, length, take, List, Option, Result, Ok, Err}
-use Rattle.dkg_types.specs.declared.entry.Entry.{Entry as Line}
-use Rattle.dkg_types.specs.declared.participants.TrackedPeers.{TrackedPeers}
+use Rattle.dkg_infos.specs.declared.entry.Entry.{Entry as Line}
+use Rattle.dkg_infos.specs.declared.participants.TrackedPeers.{TrackedPeers}
 use Rattle.dkg_types.specs.Tracking.{with_set}
 
 pub data ProbeActs (F S : Type 0) : Type 0 where

@@ -10,14 +10,14 @@ use Rattle.dkg_types.specs.BlockCodes.{block_spelling, info_of}
 use Rattle.dkg_types.specs.FinalizationCodes.{finalization_spelling}
 use Rattle.dkg_types.specs.PayloadCodes.{payload_spelling, info_payload}
 use Rattle.dkg_types.specs.Blocks.{Block}
-use Rattle.dkg_types.specs.declared.entry.BlockedWhy.{BlockedWhy}
-use Rattle.dkg_types.specs.declared.entry.BlockedWhy.TheVariants as why
-use Rattle.dkg_types.specs.declared.entry.Entry.{Entry as Line}
-use Rattle.dkg_types.specs.declared.entry.Entry.TheVariants.{Blocked, Sent, Artifact}
+use Rattle.dkg_infos.specs.declared.entry.BlockedWhy.{BlockedWhy}
+use Rattle.dkg_infos.specs.declared.entry.BlockedWhy.TheVariants as why
+use Rattle.dkg_infos.specs.declared.entry.Entry.{Entry as Line}
+use Rattle.dkg_infos.specs.declared.entry.Entry.TheVariants.{Blocked, Sent, Artifact}
 use Rattle.dkg_types.specs.declared.finalization.Finalization.{Finalization}
-use Rattle.dkg_types.specs.declared.info.EpochInfo.{EpochInfo}
-use Rattle.dkg_types.specs.declared.participants.Participants.{Participants}
-use Rattle.dkg_types.specs.declared.participants.TrackedPeers.{TrackedPeers}
+use Rattle.dkg_infos.specs.declared.info.EpochInfo.{EpochInfo}
+use Rattle.dkg_infos.specs.declared.participants.Participants.{Participants}
+use Rattle.dkg_infos.specs.declared.participants.TrackedPeers.{TrackedPeers}
 use Rattle.dkg_probe.specs.declared.artifact.Artifact.{Artifact as Known}
 use Rattle.dkg_probe.specs.declared.artifact.Bootstrap.{Bootstrap}
 use Rattle.dkg_probe.specs.declared.event.Event.{Event}

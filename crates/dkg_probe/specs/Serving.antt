@@ -5,9 +5,9 @@ use Rattle.dkg_values.specs.declared.codec.CodecError.{CodecError}
 use Rattle.dkg_types.specs.BlockCodes.{block_spelling}
 use Rattle.dkg_types.specs.Blocks.{Block}
 use Rattle.dkg_types.specs.FinalizationCodes.{finalization_spelling}
-use Rattle.dkg_types.specs.declared.entry.BlockedWhy.TheVariants as why
-use Rattle.dkg_types.specs.declared.entry.Entry.{Entry as Line}
-use Rattle.dkg_types.specs.declared.entry.Entry.TheVariants.{Blocked, Sent}
+use Rattle.dkg_infos.specs.declared.entry.BlockedWhy.TheVariants as why
+use Rattle.dkg_infos.specs.declared.entry.Entry.{Entry as Line}
+use Rattle.dkg_infos.specs.declared.entry.Entry.TheVariants.{Blocked, Sent}
 use Rattle.dkg_types.specs.declared.finalization.Finalization.{Finalization}
 use Rattle.dkg_probe.specs.declared.event.Event.{Event}
 use Rattle.dkg_probe.specs.declared.event.Event.TheVariants.{Subscribe, Unsubscribe, Attach, Peer, Retry}

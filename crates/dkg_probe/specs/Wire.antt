@@ -11,7 +11,8 @@ use Rattle.dkg_values.specs.Joined.{seen_at}
 use Rattle.dkg_values.specs.Uint.{uint, uint_at}
 use Rattle.dkg_values.specs.UintGrammar.{uint_short}
 use Rattle.dkg_types.specs.Variants.{no_bytes, nothing_at}
-use Rattle.dkg_types.specs.Bounds.{IsBound, finalization_bound}
+use Rattle.dkg_infos.specs.InfoBounds.{IsBound}
+use Rattle.dkg_types.specs.Bounds.{finalization_bound}
 use Rattle.dkg_types.specs.BlockCodes.{block_spelling}
 use Rattle.dkg_types.specs.FinalizationCodes.{finalization_at, finalization_spelling, FinalizationFits}
 use Rattle.dkg_types.specs.Blocks.{Block}

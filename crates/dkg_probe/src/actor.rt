@@ -17,7 +17,8 @@ use crate::sample::Sample;
 use crate::service::serve;
 use crate::state::{State, Terms};
 use dkg_ceremony::{Epoch, Epocher, Key, Mem, ModeVersion, Read};
-use dkg_types::{Block, Directory, EpochInfo, Finalization, Manager, Scheme, Transcript};
+use dkg_infos::{Directory, EpochInfo, Transcript};
+use dkg_types::{Block, Finalization, Manager, Scheme};
 use std::alloc::Global;
 use std::num::{NonZeroU32, NonZeroU64};
 

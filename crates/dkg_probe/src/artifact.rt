@@ -2,7 +2,8 @@
 ghost use Rattle.std.specs.Prelude.{◌≡◌, ◌↔◌, IfOk, IsTrue};
 
 use dkg_ceremony::{Epoch, Mem, Value};
-use dkg_types::{Directory, EpochInfo, Finalization, Participants};
+use dkg_infos::{Directory, EpochInfo, Participants};
+use dkg_types::Finalization;
 use std::alloc::Global;
 
 /// The checkpoint that a joining node is configured with: an epoch's whole participants and their directory.

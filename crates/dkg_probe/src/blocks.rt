@@ -1,7 +1,8 @@
 //! What a probe serves: the blocks that a node holds.
 
 use dkg_ceremony::{Height, Mem};
-use dkg_types::{Block, Directory, Finalization};
+use dkg_infos::Directory;
+use dkg_types::{Block, Finalization};
 use std::alloc::Global;
 
 /// Who holds finalized blocks, as the upstream's marshal does.

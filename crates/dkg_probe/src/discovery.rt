@@ -19,10 +19,8 @@ use dkg_ceremony::{
     Blob, CodecError, Digest, EncodeSize, Epoch, Epocher, Height, Key, Mem, ModeVersion, NoMemory,
     Read, Value, Write, encode,
 };
-use dkg_types::{
-    Block, BlockedWhy, Directory, Entry, EpochInfo, Finalization, Manager, Scheme, TrackError,
-    Transcript,
-};
+use dkg_infos::{BlockedWhy, Directory, Entry, EpochInfo, Transcript};
+use dkg_types::{Block, Finalization, Manager, Scheme, TrackError};
 use dkg_values::Shared;
 use std::alloc::Global;
 use std::num::NonZeroU32;

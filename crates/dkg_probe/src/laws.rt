@@ -3,7 +3,7 @@
 //! Each law is a call without a body, whose contract is the law.
 ghost use Rattle.dkg_probe.specs.WireLaws.{AreReadAgain, AreReplies, AreRequests};
 
-use dkg_types::Directory;
+use dkg_infos::Directory;
 
 /// Some bytes are read as a request exactly where they spell it.
 pub fn requests_are_as_spelled()

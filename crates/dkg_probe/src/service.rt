@@ -12,7 +12,8 @@ use crate::state::{State, Terms};
 use crate::wire::{Message, Request, put_block, read_request};
 use bytes::BytesMut;
 use dkg_ceremony::{Blob, EncodeSize, Epoch, Key, Mem, NoMemory, Read, encode};
-use dkg_types::{Block, BlockedWhy, Directory, Scheme, Transcript};
+use dkg_infos::{BlockedWhy, Directory, Transcript};
+use dkg_types::{Block, Scheme};
 use std::alloc::Global;
 
 /// A block as the message that answers with it.

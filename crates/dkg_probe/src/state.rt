@@ -4,7 +4,7 @@ use crate::artifact::{Artifact, Bootstrap};
 use crate::candidates::Awaited;
 use crate::sample::Sample;
 use dkg_ceremony::{Epocher, ModeVersion};
-use dkg_types::EpochInfo;
+use dkg_infos::EpochInfo;
 use std::num::NonZeroU32;
 
 /// What a probe never changes.

@@ -3,7 +3,7 @@ ghost use Rattle.std.specs.Prelude.{◌≡◌, ℕ, ◌+◌, ◌*◌, ◌^◌, �
 ghost use Rattle.std.specs.Int.NonZero.{non_zero_u32_get};
 ghost use Rattle.dkg_values.specs.Codec.{Reads, Decodes, whole, StandsInFront};
 ghost use Rattle.dkg_values.specs.Uint.{uint};
-ghost use Rattle.dkg_types.specs.Bounds.{IsBound};
+ghost use Rattle.dkg_infos.specs.InfoBounds.{IsBound};
 ghost use Rattle.dkg_types.specs.BlockCodes.{BlockFits, block_spelling};
 ghost use Rattle.dkg_types.specs.PayloadCodes.{PayloadFits};
 ghost use Rattle.dkg_probe.specs.Wire.{tag_at, tag_byte, request_of, reply_of, number_at, committed, AnswersReply, MessageFits, message_spelling};
@@ -13,7 +13,8 @@ use dkg_ceremony::{
     CodecError, Digest, EncodeSize, Epoch, Mem, ModeVersion, Read, Reader, Spelled, What, Write,
     decode_cfg, read_byte, read_u64, uint_size,
 };
-use dkg_types::{Block, Directory, Finalization};
+use dkg_infos::Directory;
+use dkg_types::{Block, Finalization};
 use std::alloc::Global;
 use std::num::NonZeroU32;
 

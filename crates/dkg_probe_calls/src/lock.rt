@@ -6,9 +6,10 @@ ghost use Rattle.dkg_turn.specs.Passes.{IsPassOf};
 use crate::asserts::{holds, is};
 use crate::parts::{Held, Probe, chain, new_probe};
 use dkg_ceremony::{Mem, Value};
+use dkg_infos::{Directory, Transcript, Unit};
 use dkg_probe::{Actor, Artifact, Blocks, Event, HasProbe, Mailbox, ProbeStop};
 use dkg_turn::{Carries, Pass, Turn, TurnError, TurnLock, Turned};
-use dkg_types::{Directory, Manager, Scheme, Transcript, Unit};
+use dkg_types::{Manager, Scheme};
 use std::alloc::Global;
 use std::sync::Wait;
 use std::test::Fail;
@@ -65,7 +66,7 @@ impl Turn for Node {
     ghost use Rattle.std.specs.Prelude.{◌≡◌, ◌↔◌, Option, Some, None, IsNone, true, if◌then◌else◌};
     ghost use Rattle.dkg_probe.specs.Mailboxes.{Meets};
     ghost use Rattle.dkg_probe.specs.declared.artifact.Artifact.{Artifact as Found};
-    ghost use Rattle.dkg_types.specs.declared.directory.Unit.{Unit as Nothing};
+    ghost use Rattle.dkg_infos.specs.declared.directory.Unit.{Unit as Nothing};
 
     ghost turns = { λ before call reply after. ((answer : Option (Found Nothing)) → reply ≡ Some answer → Meets after.probe.state.known call answer) × (IsNone reply ↔ (after.stopped ≡ true)) × (before.stopped ≡ true → after ≡ before) };
 

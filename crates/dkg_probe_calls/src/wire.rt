@@ -6,7 +6,8 @@ use dkg_ceremony::{CodecError, Digest, Epoch, Key, What, encode};
 use dkg_probe::{
     Message, Request, Response, Sample, max_payload_size, read_block, read_request, read_response,
 };
-use dkg_types::{Finalization, Unit};
+use dkg_infos::Unit;
+use dkg_types::Finalization;
 use std::alloc::Global;
 use std::test::Fail;
 

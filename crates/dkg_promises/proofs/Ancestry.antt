@@ -8,8 +8,8 @@ use Rattle.dkg_ceremony.specs.declared.round.RoundParts.{RoundParts as Round}
 use Rattle.dkg_ceremony.specs.Outcomes.{LogMap}
 use Rattle.dkg_types.specs.Blocks.{Block}
 use Rattle.dkg_types.specs.Paths.{logs_of_path}
-use Rattle.dkg_types.specs.declared.entry.Why.{Why}
-use Rattle.dkg_types.specs.declared.entry.Why.TheVariants.{Short}
+use Rattle.dkg_infos.specs.declared.entry.Why.{Why}
+use Rattle.dkg_infos.specs.declared.entry.Why.TheVariants.{Short}
 use Rattle.dkg_artifact.specs.Ancestries.{CompletesPath, IsUnderWay, Refuses, Says, StandsAtPath}
 use Rattle.dkg_artifact.specs.Scans.{Check, above, feeds, first_answer, starts}
 use Rattle.dkg_artifact.specs.Seen.{Scan}

@@ -19,7 +19,7 @@ use Rattle.dkg_store.specs.declared.recorded_log.RecordedLog.{RecordedLog}
 use Rattle.dkg_types.specs.Blocks as made
 use Rattle.dkg_types.specs.Paths.{log_counts, log_of_block, logs_from, logs_of_path}
 use Rattle.dkg_types.specs.PayloadCodes.{its_log}
-use Rattle.dkg_types.specs.declared.directory.Unit as directory
+use Rattle.dkg_infos.specs.declared.directory.Unit as directory
 use Rattle.dkg_artifact.specs.Ancestries.{BeginsBelow, CompletesPath, IsLinked}
 use Rattle.dkg_artifact.specs.Scans.{above, is_above}
 use Rattle.dkg_artifact.specs.declared.scan.Tip as scan

@@ -13,20 +13,20 @@ use Rattle.dkg_journal.specs.Names.{Files}
 use Rattle.dkg_secrets.specs.Secrets.{Secrets}
 use Rattle.dkg_types.specs.BlockCodes.{info_of}
 use Rattle.dkg_types.specs.Blocks.{Block}
-use Rattle.dkg_types.specs.declared.directory.Unit as directory
-use Rattle.dkg_types.specs.declared.entry.Entry.TheVariants.{Acked, Answer, Committed, Log, Step}
-use Rattle.dkg_types.specs.declared.entry.AnswerLine.{AnswerLine}
-use Rattle.dkg_types.specs.declared.entry.AnswerLine.TheVariants.{Unavailable}
-use Rattle.dkg_types.specs.declared.entry.Entry.{Entry as Line}
-use Rattle.dkg_types.specs.declared.entry.Part.{Part}
-use Rattle.dkg_types.specs.declared.entry.Why.TheVariants.{Following}
-use Rattle.dkg_types.specs.declared.fault.Fault.TheVariants.{DirectoryMismatch, HeightRange, InvalidParticipants, LocalState, MissingEpochInfo, WrongEpoch}
-use Rattle.dkg_types.specs.declared.fault.Fault.{Fault}
-use Rattle.dkg_types.specs.declared.fault.LocalCause.TheVariants.{OutcomeOmitted}
-use Rattle.dkg_types.specs.declared.fault.ParticipantsCause.TheVariants.{ProviderAbove, ProviderEmpty}
-use Rattle.dkg_types.specs.NextInfos.{info_by}
-use Rattle.dkg_types.specs.declared.info.EpochInfo.{EpochInfo}
-use Rattle.dkg_types.specs.declared.participants.ParticipantsError.{ParticipantsError}
+use Rattle.dkg_infos.specs.declared.directory.Unit as directory
+use Rattle.dkg_infos.specs.declared.entry.Entry.TheVariants.{Acked, Answer, Committed, Log, Step}
+use Rattle.dkg_infos.specs.declared.entry.AnswerLine.{AnswerLine}
+use Rattle.dkg_infos.specs.declared.entry.AnswerLine.TheVariants.{Unavailable}
+use Rattle.dkg_infos.specs.declared.entry.Entry.{Entry as Line}
+use Rattle.dkg_infos.specs.declared.entry.Part.{Part}
+use Rattle.dkg_infos.specs.declared.entry.Why.TheVariants.{Following}
+use Rattle.dkg_infos.specs.declared.fault.Fault.TheVariants.{DirectoryMismatch, HeightRange, InvalidParticipants, LocalState, MissingEpochInfo, WrongEpoch}
+use Rattle.dkg_infos.specs.declared.fault.Fault.{Fault}
+use Rattle.dkg_infos.specs.declared.fault.LocalCause.TheVariants.{OutcomeOmitted}
+use Rattle.dkg_infos.specs.declared.fault.ParticipantsCause.TheVariants.{ProviderAbove, ProviderEmpty}
+use Rattle.dkg_infos.specs.NextInfos.{info_by}
+use Rattle.dkg_infos.specs.declared.info.EpochInfo.{EpochInfo}
+use Rattle.dkg_infos.specs.declared.participants.ParticipantsError.{ParticipantsError}
 use Rattle.dkg_text.specs.declared.script.BlockLine.{BlockLine}
 use Rattle.dkg_text.specs.declared.script.Event.{Event}
 use Rattle.dkg_text.specs.declared.script.Event.TheVariants as event

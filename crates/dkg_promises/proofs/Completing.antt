@@ -8,9 +8,9 @@ use Rattle.dkg_journal.specs.Records.{SectionEntry as Record, entries}
 use Rattle.dkg_journal.specs.Views.{views}
 use Rattle.dkg_journal.specs.declared.opening.JournalEntry.{JournalEntry}
 use Rattle.dkg_values.specs.declared.name.Name.{Name}
-use Rattle.dkg_types.specs.declared.entry.Entry.{Entry}
-use Rattle.dkg_types.specs.declared.fault.Fault.{Fault}
-use Rattle.dkg_types.specs.declared.fault.Fault.TheVariants.{Corrupt}
+use Rattle.dkg_infos.specs.declared.entry.Entry.{Entry}
+use Rattle.dkg_infos.specs.declared.fault.Fault.{Fault}
+use Rattle.dkg_infos.specs.declared.fault.Fault.TheVariants.{Corrupt}
 use Rattle.dkg_store.specs.Corrupt.{AreEvents, AreFit, HasNoEvent, IsCorruptAt}
 use Rattle.dkg_store.specs.Events.{no_event_at}
 use Rattle.dkg_store.proofs.OpeningActs.{no_other, no_place}

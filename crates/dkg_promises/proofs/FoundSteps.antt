@@ -18,12 +18,12 @@ use Rattle.dkg_secrets.specs.declared.secrets.SecretOp.TheVariants.{Prune, PutSe
 use Rattle.dkg_secrets.proofs.Tried.{all_done}
 use Rattle.dkg_types.specs.BlockCodes.{info_of}
 use Rattle.dkg_types.specs.Blocks.{Block}
-use Rattle.dkg_types.specs.declared.directory.Unit as directory
-use Rattle.dkg_types.specs.declared.fault.Fault.{Fault}
-use Rattle.dkg_types.specs.declared.fault.Fault.TheVariants as fault
-use Rattle.dkg_types.specs.declared.fault.LocalCause.{LocalCause}
-use Rattle.dkg_types.specs.declared.fault.LocalCause.TheVariants as local
-use Rattle.dkg_types.specs.declared.info.EpochInfo.{EpochInfo}
+use Rattle.dkg_infos.specs.declared.directory.Unit as directory
+use Rattle.dkg_infos.specs.declared.fault.Fault.{Fault}
+use Rattle.dkg_infos.specs.declared.fault.Fault.TheVariants as fault
+use Rattle.dkg_infos.specs.declared.fault.LocalCause.{LocalCause}
+use Rattle.dkg_infos.specs.declared.fault.LocalCause.TheVariants as local
+use Rattle.dkg_infos.specs.declared.info.EpochInfo.{EpochInfo}
 use Rattle.dkg_store.specs.Acts.{Cause, Changes, Ended, Held, IsLeft, OnDisk, Tears, World, broken, does, notes, stopped, went}
 use Rattle.dkg_store.specs.Pairs.{Pairs, recovered}
 use Rattle.dkg_store.specs.Recorded.{Pair, first_refused}

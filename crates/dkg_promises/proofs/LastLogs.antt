@@ -13,7 +13,7 @@ use Rattle.dkg_store.specs.Recorded.{at_epoch, bare_logs, is_reached, reached_lo
 use Rattle.dkg_store.specs.declared.recorded_log.RecordedLog.{RecordedLog}
 use Rattle.dkg_store.proofs.Epochs.{rising}
 use Rattle.dkg_types.specs.Paths.{log_counts, logs_from}
-use Rattle.dkg_types.specs.declared.directory.Unit as directory
+use Rattle.dkg_infos.specs.declared.directory.Unit as directory
 use Rattle.dkg_script.specs.Blocks.{Block, chain}
 use Rattle.dkg_script.specs.History.{chain_from, chain_logs}
 use Rattle.dkg_script.specs.Setting.{Setting, blocks_per_epoch}

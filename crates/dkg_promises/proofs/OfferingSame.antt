@@ -3,8 +3,8 @@ use Rattle.std.proofs.Common.{◌≡◌, ℕ, zero, suc, ◌++◌, List, Some, N
 use Rattle.std.proofs.lemmas.List.{append_cancel_left}
 use Rattle.dkg_journal.specs.Names.{Files}
 use Rattle.dkg_secrets.specs.Secrets.{Secrets}
-use Rattle.dkg_types.specs.declared.entry.Entry.{Entry}
-use Rattle.dkg_types.specs.declared.fault.Fault.{Fault}
+use Rattle.dkg_infos.specs.declared.entry.Entry.{Entry}
+use Rattle.dkg_infos.specs.declared.fault.Fault.{Fault}
 use Rattle.dkg_text.specs.declared.script.Life.{Life}
 use Rattle.dkg_text.specs.declared.script.Script.{Script}
 use Rattle.dkg_script.specs.AsCut.{as_cut}

@@ -18,12 +18,12 @@ use Rattle.dkg_ceremony.specs.declared.deal.DealError.{DealError}
 use Rattle.dkg_ceremony.specs.declared.mode.Reveal.TheVariants.{V1}
 use Rattle.dkg_ceremony.specs.declared.output.Output.{Output}
 use Rattle.dkg_ceremony.specs.declared.round.RoundParts.{RoundParts as Round}
-use Rattle.dkg_types.specs.declared.directory.Unit as directory
-use Rattle.dkg_types.specs.declared.fault.Fault.TheVariants.{LocalState}
-use Rattle.dkg_types.specs.declared.fault.LocalCause.TheVariants.{ShareRefused, StoredDealing}
-use Rattle.dkg_types.specs.declared.info.EpochInfo.{EpochInfo}
-use Rattle.dkg_types.specs.declared.outcome.EpochOutcome.{EpochOutcome}
-use Rattle.dkg_types.specs.declared.outcome.EpochOutcome.TheVariants.{Success, Failure}
+use Rattle.dkg_infos.specs.declared.directory.Unit as directory
+use Rattle.dkg_infos.specs.declared.fault.Fault.TheVariants.{LocalState}
+use Rattle.dkg_infos.specs.declared.fault.LocalCause.TheVariants.{ShareRefused, StoredDealing}
+use Rattle.dkg_infos.specs.declared.info.EpochInfo.{EpochInfo}
+use Rattle.dkg_infos.specs.declared.outcome.EpochOutcome.{EpochOutcome}
+use Rattle.dkg_infos.specs.declared.outcome.EpochOutcome.TheVariants.{Success, Failure}
 use Rattle.dkg_secrets.specs.Keys.{key_cmp}
 use Rattle.dkg_secrets.proofs.Map.{keys_total}
 use Rattle.dkg_store.specs.Acts.{Held}

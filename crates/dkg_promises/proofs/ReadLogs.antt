@@ -10,7 +10,7 @@ use Rattle.dkg_store.specs.Recorded.{is_reached}
 use Rattle.dkg_store.specs.declared.recorded_log.RecordedLog.{RecordedLog}
 use Rattle.dkg_types.specs.Blocks as made
 use Rattle.dkg_types.specs.Paths.{logs_of_path}
-use Rattle.dkg_types.specs.declared.directory.Unit as directory
+use Rattle.dkg_infos.specs.declared.directory.Unit as directory
 use Rattle.dkg_text.specs.declared.script.Life.{Life}
 use Rattle.dkg_script.specs.Position.{awaited_epoch, awaited_height}
 use Rattle.dkg_script.specs.Setting.{Setting, blocks_per_epoch, life_at}

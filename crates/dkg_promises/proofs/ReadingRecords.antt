@@ -16,8 +16,8 @@ use Rattle.dkg_store.specs.Recorded.{height_or, is_reached}
 use Rattle.dkg_store.specs.declared.recorded_log.RecordedLog.{RecordedLog}
 use Rattle.dkg_types.specs.Blocks as made
 use Rattle.dkg_types.specs.PayloadCodes.{its_log}
-use Rattle.dkg_types.specs.Units.{unit_spelling}
-use Rattle.dkg_types.specs.declared.directory.Unit as directory
+use Rattle.dkg_infos.specs.Units.{unit_spelling}
+use Rattle.dkg_infos.specs.declared.directory.Unit as directory
 use Rattle.dkg_text.specs.declared.script.Event as script
 use Rattle.dkg_text.specs.declared.script.Event.TheVariants as event
 use Rattle.dkg_text.specs.declared.script.Life.{Life}

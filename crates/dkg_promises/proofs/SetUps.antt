@@ -22,19 +22,19 @@ use Rattle.dkg_types.specs.BlockCodes.{info_of}
 use Rattle.dkg_types.specs.Blocks.{Block}
 use Rattle.dkg_types.specs.MessageCodes.{message_at}
 use Rattle.dkg_types.specs.PayloadCodes.{its_log}
-use Rattle.dkg_types.specs.declared.entry.Entry.TheVariants.{Acked, Answer, Committed, Log, Offer, Opened, Setup}
-use Rattle.dkg_types.specs.declared.entry.Entry.{Entry as Line}
-use Rattle.dkg_types.specs.declared.entry.Part.{Part}
-use Rattle.dkg_types.specs.declared.fault.Fault.TheVariants.{DirectoryMismatch, HeightRange, InvalidParticipants, LocalState, MissingEpochInfo, WrongEpoch}
-use Rattle.dkg_types.specs.declared.fault.Fault.{Fault}
-use Rattle.dkg_types.specs.declared.fault.LocalCause.TheVariants.{OutcomeOmitted, OwnDealing}
-use Rattle.dkg_types.specs.declared.fault.ParticipantsCause.TheVariants.{ProviderAbove, ProviderEmpty}
-use Rattle.dkg_types.specs.NextInfos.{info_by}
-use Rattle.dkg_types.specs.declared.entry.Why.TheVariants.{Finished}
-use Rattle.dkg_types.specs.declared.info.EpochInfo.{EpochInfo}
+use Rattle.dkg_infos.specs.declared.entry.Entry.TheVariants.{Acked, Answer, Committed, Log, Offer, Opened, Setup}
+use Rattle.dkg_infos.specs.declared.entry.Entry.{Entry as Line}
+use Rattle.dkg_infos.specs.declared.entry.Part.{Part}
+use Rattle.dkg_infos.specs.declared.fault.Fault.TheVariants.{DirectoryMismatch, HeightRange, InvalidParticipants, LocalState, MissingEpochInfo, WrongEpoch}
+use Rattle.dkg_infos.specs.declared.fault.Fault.{Fault}
+use Rattle.dkg_infos.specs.declared.fault.LocalCause.TheVariants.{OutcomeOmitted, OwnDealing}
+use Rattle.dkg_infos.specs.declared.fault.ParticipantsCause.TheVariants.{ProviderAbove, ProviderEmpty}
+use Rattle.dkg_infos.specs.NextInfos.{info_by}
+use Rattle.dkg_infos.specs.declared.entry.Why.TheVariants.{Finished}
+use Rattle.dkg_infos.specs.declared.info.EpochInfo.{EpochInfo}
 use Rattle.dkg_types.specs.declared.message.Message.TheVariants.{Ack as AnAck, Dealer as ADealing}
 use Rattle.dkg_types.specs.declared.message.Message.{Message as Channel}
-use Rattle.dkg_types.specs.declared.participants.ParticipantsError.{ParticipantsError}
+use Rattle.dkg_infos.specs.declared.participants.ParticipantsError.{ParticipantsError}
 use Rattle.dkg_store.specs.declared.event.Event.TheVariants as events
 use Rattle.dkg_secrets.specs.declared.secrets.SecretOp.TheVariants.{Prune, PutDealing, PutSeed, PutShare}
 use Rattle.dkg_store.specs.Acts.{Changes, Held, OnDisk, Operation}

@@ -17,9 +17,9 @@ use Rattle.dkg_ceremony.specs.declared.phase.Phase.TheVariants.{Early, Midpoint,
 use Rattle.dkg_ceremony.specs.declared.round.RoundParts.{RoundParts as Round}
 use Rattle.dkg_types.specs.BlockCodes.{info_of}
 use Rattle.dkg_types.specs.Blocks.{Block}
-use Rattle.dkg_types.specs.declared.info.EpochInfo.{EpochInfo}
-use Rattle.dkg_types.specs.declared.outcome.EpochOutcome.{EpochOutcome}
-use Rattle.dkg_types.specs.declared.outcome.EpochOutcome.TheVariants.{Success, Failure}
+use Rattle.dkg_infos.specs.declared.info.EpochInfo.{EpochInfo}
+use Rattle.dkg_infos.specs.declared.outcome.EpochOutcome.{EpochOutcome}
+use Rattle.dkg_infos.specs.declared.outcome.EpochOutcome.TheVariants.{Success, Failure}
 use Rattle.dkg_secrets.proofs.Map.{get_here}
 use Rattle.dkg_store.specs.Acts.{Held}
 use Rattle.dkg_core.specs.Fixed.{Fixed, Rules, has, stand_in}

@@ -14,9 +14,9 @@ use Rattle.dkg_secrets.specs.Secrets as of_secrets
 use Rattle.dkg_secrets.specs.Secrets.{Secrets, Tries}
 use Rattle.dkg_secrets.specs.declared.secrets.SecretOp.{SecretOp}
 use Rattle.dkg_secrets.specs.declared.secrets.SecretOp.TheVariants.{Prune, PutDealing, PutSeed, PutShare}
-use Rattle.dkg_types.specs.declared.entry.Entry.{Entry as Line}
-use Rattle.dkg_types.specs.declared.entry.Entry.TheVariants.{Committed, Opened, Setup}
-use Rattle.dkg_types.specs.declared.entry.Part.{Part}
+use Rattle.dkg_infos.specs.declared.entry.Entry.{Entry as Line}
+use Rattle.dkg_infos.specs.declared.entry.Entry.TheVariants.{Committed, Opened, Setup}
+use Rattle.dkg_infos.specs.declared.entry.Part.{Part}
 use Rattle.dkg_store.specs.Acts.{Cause, Changes, Ended, OnDisk, Operation, Tears, World, broken, does, says, stopped, went}
 use Rattle.dkg_core.specs.Courses.{Ask, Call, Course, Do, EndsSo, Goes, Say, Stops}
 use Rattle.dkg_promises.proofs.SetUps.{IsQuiet, LeadsTo, MayDo, MaySay, Telling, after_line, after_op, last_line, plain_keeps, plain_said, set_up_last, spares_keeps, spares_may}

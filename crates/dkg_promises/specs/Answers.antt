@@ -11,15 +11,15 @@ use Rattle.dkg_secrets.specs.Secrets.{Secrets}
 use Rattle.dkg_store.specs.Pairs.{IsWhole}
 use Rattle.dkg_types.specs.Blocks.{Block}
 use Rattle.dkg_types.specs.Paths.{logs_of_path}
-use Rattle.dkg_types.specs.Units.{unit_spelling}
-use Rattle.dkg_types.specs.declared.directory.Unit as directory
-use Rattle.dkg_types.specs.declared.entry.AnswerLine.{AnswerLine}
-use Rattle.dkg_types.specs.declared.entry.AnswerLine.TheVariants.{Available, Unavailable}
-use Rattle.dkg_types.specs.declared.entry.Entry.{Entry}
-use Rattle.dkg_types.specs.declared.entry.Entry.TheVariants.{Answer}
-use Rattle.dkg_types.specs.declared.entry.Why.{Why}
-use Rattle.dkg_types.specs.declared.entry.Why.TheVariants.{Short, Following, Terminal, Finished, Held}
-use Rattle.dkg_types.specs.declared.info.EpochInfo.{EpochInfo}
+use Rattle.dkg_infos.specs.Units.{unit_spelling}
+use Rattle.dkg_infos.specs.declared.directory.Unit as directory
+use Rattle.dkg_infos.specs.declared.entry.AnswerLine.{AnswerLine}
+use Rattle.dkg_infos.specs.declared.entry.AnswerLine.TheVariants.{Available, Unavailable}
+use Rattle.dkg_infos.specs.declared.entry.Entry.{Entry}
+use Rattle.dkg_infos.specs.declared.entry.Entry.TheVariants.{Answer}
+use Rattle.dkg_infos.specs.declared.entry.Why.{Why}
+use Rattle.dkg_infos.specs.declared.entry.Why.TheVariants.{Short, Following, Terminal, Finished, Held}
+use Rattle.dkg_infos.specs.declared.info.EpochInfo.{EpochInfo}
 use Rattle.dkg_text.specs.declared.script.Event.TheVariants.{Final, Info}
 use Rattle.dkg_text.specs.declared.script.Life.{Life}
 use Rattle.dkg_text.specs.declared.script.Script.{Script}

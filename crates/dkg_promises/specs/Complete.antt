@@ -3,7 +3,7 @@ use Rattle.std.specs.Prelude.{List, Option}
 use Rattle.std.specs.Int.NonZero.{non_zero_u32_get}
 use Rattle.dkg_journal.specs.Names.{Files}
 use Rattle.dkg_store.specs.Corrupt.{AreFit}
-use Rattle.dkg_types.specs.declared.entry.Entry.{Entry}
+use Rattle.dkg_infos.specs.declared.entry.Entry.{Entry}
 use Rattle.dkg_text.specs.declared.script.Script.{Script}
 use Rattle.dkg_script.specs.AsCut.{as_cut, setting_as_cut}
 use Rattle.dkg_script.specs.Consistent.{MayEndSo}

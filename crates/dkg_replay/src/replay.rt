@@ -1,8 +1,8 @@
 //! Runs cases over new devices in memory, and compares.
 
 use dkg_cases::{Case, Count, case_of, tell_lines};
+use dkg_infos::Transcript;
 use dkg_run::{MemorySink, MemorySource, fresh_devices, run_command};
-use dkg_types::Transcript;
 use std::alloc::Global;
 use std::io::{self, Write};
 

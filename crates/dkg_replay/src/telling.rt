@@ -3,9 +3,9 @@
 //! Of such a case the second text is not a transcript but what stands on standard error.
 
 use dkg_cases::{Case, Count, case_of, tell_lines};
+use dkg_infos::Transcript;
 use dkg_run::{MemorySink, MemorySource, fresh_devices, run_command};
 use dkg_told::KeptSource;
-use dkg_types::Transcript;
 use std::alloc::{AllocError, Global};
 use std::io::{self, Write};
 

@@ -10,10 +10,10 @@ use Rattle.dkg_journal.specs.Names.{Files}
 use Rattle.dkg_journal.specs.declared.journal.Journal.{Journal}
 use Rattle.dkg_types.specs.BlockCodes.{info_of}
 use Rattle.dkg_types.specs.Blocks.{Block}
-use Rattle.dkg_types.specs.declared.entry.Entry.{Entry as Line}
-use Rattle.dkg_types.specs.declared.fault.Fault.{Fault}
-use Rattle.dkg_types.specs.declared.fault.Fault.TheVariants.{MissingEpochInfo, WrongEpoch}
-use Rattle.dkg_types.specs.declared.info.EpochInfo.{EpochInfo}
+use Rattle.dkg_infos.specs.declared.entry.Entry.{Entry as Line}
+use Rattle.dkg_infos.specs.declared.fault.Fault.{Fault}
+use Rattle.dkg_infos.specs.declared.fault.Fault.TheVariants.{MissingEpochInfo, WrongEpoch}
+use Rattle.dkg_infos.specs.declared.info.EpochInfo.{EpochInfo}
 use Rattle.dkg_values.specs.Rising.{lookup}
 use Rattle.dkg_store.specs.Acts.{Ended, Held, Moment, went}
 use Rattle.dkg_core.specs.Blocks as blocks

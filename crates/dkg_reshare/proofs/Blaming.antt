@@ -1,7 +1,7 @@
 -- What the result of a call blames, it blames of the calls around it.
 use Rattle.std.proofs.Common.{◌≡◌, Bool, Result, Ok, Err, sym, subst}
 use Rattle.std.specs.Prelude.{IfErr}
-use Rattle.dkg_types.specs.declared.fault.Fault.TheVariants.{NoMemory}
+use Rattle.dkg_infos.specs.declared.fault.Fault.TheVariants.{NoMemory}
 use Rattle.dkg_life.specs.declared.stop.Stop.{Stop}
 use Rattle.dkg_life.specs.declared.stop.Stop.TheVariants.{Fault as Faulted}
 use Rattle.dkg_life.specs.Ends.{IsCaused, IsCausedBy}

@@ -10,11 +10,11 @@ use Rattle.dkg_secrets.specs.Secrets.{Secrets}
 use Rattle.dkg_artifact.specs.Results.{Checked, checked}
 use Rattle.dkg_artifact.specs.declared.artifact.Artifact as artifact
 use Rattle.dkg_artifact.specs.declared.job.Job as job
-use Rattle.dkg_types.specs.declared.entry.Entry.{Entry as Line}
-use Rattle.dkg_types.specs.declared.fault.Fault.{Fault}
-use Rattle.dkg_types.specs.declared.fault.Fault.TheVariants.{HeightRange, LocalState, NoMemory}
-use Rattle.dkg_types.specs.declared.fault.LocalCause.TheVariants.{StoredDealing}
-use Rattle.dkg_types.specs.declared.info.EpochInfo.{EpochInfo}
+use Rattle.dkg_infos.specs.declared.entry.Entry.{Entry as Line}
+use Rattle.dkg_infos.specs.declared.fault.Fault.{Fault}
+use Rattle.dkg_infos.specs.declared.fault.Fault.TheVariants.{HeightRange, LocalState, NoMemory}
+use Rattle.dkg_infos.specs.declared.fault.LocalCause.TheVariants.{StoredDealing}
+use Rattle.dkg_infos.specs.declared.info.EpochInfo.{EpochInfo}
 use Rattle.dkg_store.specs.Acts.{Ended, Moment, by_want, moment, went}
 use Rattle.dkg_store.specs.Recorded.{at_epoch, reached_logs}
 use Rattle.dkg_core.specs.Courses.{Course, Goes, Stops, bind, on_devices}

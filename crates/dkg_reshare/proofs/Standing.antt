@@ -9,8 +9,8 @@ use Rattle.std.proofs.lemmas.Nat.{le-div, div_below}
 use Rattle.dkg_ceremony.specs.Schedule.{epoch_of, last, midpoint}
 use Rattle.dkg_ceremony.specs.declared.epocher.Bounds.{Bounds}
 use Rattle.dkg_types.specs.Blocks.{Block}
-use Rattle.dkg_types.specs.declared.fault.Fault.{Fault}
-use Rattle.dkg_types.specs.declared.fault.Fault.TheVariants.{ConflictingBlock, DetachedBlock, SkippedHeight}
+use Rattle.dkg_infos.specs.declared.fault.Fault.{Fault}
+use Rattle.dkg_infos.specs.declared.fault.Fault.TheVariants.{ConflictingBlock, DetachedBlock, SkippedHeight}
 use Rattle.dkg_core.specs.Sources.{Tip}
 use Rattle.dkg_life.specs.declared.life.Life.{Life}
 use Rattle.dkg_life.specs.declared.life.Stage.{Stage}

@@ -6,12 +6,12 @@ use Rattle.dkg_ceremony.specs.Schedule.{epoch_of, last, midpoint, phase_at, in_r
 use Rattle.dkg_ceremony.specs.declared.epocher.Bounds.{Bounds}
 use Rattle.dkg_ceremony.specs.declared.phase.Phase.TheVariants.{Early, Midpoint, Late}
 use Rattle.std.specs.Prelude.{nat_eq}
-use Rattle.dkg_types.specs.declared.entry.Entry.{Entry as Line}
+use Rattle.dkg_infos.specs.declared.entry.Entry.{Entry as Line}
 use Rattle.dkg_store.specs.Acts.{went}
 use Rattle.dkg_fence.specs.Readiness.{Readiness}
 use Rattle.dkg_types.specs.Blocks.{Block}
-use Rattle.dkg_types.specs.declared.fault.Fault.{Fault}
-use Rattle.dkg_types.specs.declared.fault.Fault.TheVariants.{ConflictingBlock, DetachedBlock, HeightRange, OutOfWindow, SkippedHeight}
+use Rattle.dkg_infos.specs.declared.fault.Fault.{Fault}
+use Rattle.dkg_infos.specs.declared.fault.Fault.TheVariants.{ConflictingBlock, DetachedBlock, HeightRange, OutOfWindow, SkippedHeight}
 use Rattle.dkg_core.specs.Blocks as blocks
 use Rattle.dkg_core.specs.Courses.{Course, Goes, Stops}
 use Rattle.dkg_core.specs.Fixed.{Fixed}

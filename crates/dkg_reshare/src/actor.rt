@@ -32,10 +32,11 @@ use dkg_dealing::hear_peer;
 use dkg_life::{Config, Life, Stop, Terms, check_config};
 use dkg_fence::Fence;
 use dkg_inclusion::{Inclusion, Told, ask, cancel, end, feed, work};
+use dkg_infos::{Directory, Fault, Transcript};
 use dkg_journal::Disk;
 use dkg_setup::{BlockSource, open_life};
 use dkg_store::{Devices, SecretStore};
-use dkg_types::{Block, Directory, Fault, ParticipantsProvider, Registrar, Transcript};
+use dkg_types::{Block, ParticipantsProvider, Registrar};
 use std::alloc::Global;
 
 /// Where an actor stands in its life.

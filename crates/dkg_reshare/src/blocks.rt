@@ -29,10 +29,11 @@ use dkg_dealing::deal;
 use dkg_life::{Judged, Life, Stage, Stop, Terms, judge, tip_of};
 use dkg_fence::Fence;
 use dkg_inclusion::{Inclusion, advance};
+use dkg_infos::{Directory, EpochInfo, Fault, Transcript};
 use dkg_journal::Disk;
 use dkg_setup::{begin_inclusion, commit_and_register, secrets_of, set_up_committed};
 use dkg_store::{Devices, SecretStore};
-use dkg_types::{Block, Directory, EpochInfo, Fault, ParticipantsProvider, Registrar, Transcript};
+use dkg_types::{Block, ParticipantsProvider, Registrar};
 use dkg_values::{Epoch, Height};
 use std::alloc::Global;
 

@@ -10,8 +10,8 @@ ghost use Rattle.dkg_fence.specs.Readiness.{Readiness};
 ghost use Rattle.dkg_core.specs.Fixed.{Fixed};
 ghost use Rattle.dkg_core.specs.Including as including;
 ghost use Rattle.dkg_ceremony.specs.Schedule.{epoch_of, midpoint};
-ghost use Rattle.dkg_types.specs.declared.entry.Entry.{Entry as Line};
-ghost use Rattle.dkg_types.specs.declared.fault.Fault.TheVariants.{NoMemory as OutOfMemory};
+ghost use Rattle.dkg_infos.specs.declared.entry.Entry.{Entry as Line};
+ghost use Rattle.dkg_infos.specs.declared.fault.Fault.TheVariants.{NoMemory as OutOfMemory};
 ghost use Rattle.dkg_core.specs.Same.{same_info};
 ghost use Rattle.dkg_core.specs.Blocks as blocks;
 ghost use Rattle.dkg_life.specs.Ready.{IsReadyLife};
@@ -41,10 +41,11 @@ use dkg_fence::Fence;
 use dkg_inclusion::{
     Inclusion, answer_none, canonical, end_verifying, job_for, keep_artifact, retain, verify,
 };
+use dkg_infos::{Directory, EpochInfo, Transcript, Why};
 use dkg_journal::Disk;
 use dkg_setup::{EpochSecrets, commit_and_register, secrets_with, set_up_committed};
 use dkg_store::{Devices, SecretStore};
-use dkg_types::{Block, Directory, EpochInfo, ParticipantsProvider, Registrar, Transcript, Why};
+use dkg_types::{Block, ParticipantsProvider, Registrar};
 use dkg_values::{Map, Mem, Value};
 use std::alloc::Global;
 

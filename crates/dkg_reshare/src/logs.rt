@@ -6,8 +6,8 @@ ghost use Rattle.dkg_ceremony.specs.declared.round.RoundParts.{RoundParts as Rou
 ghost use Rattle.dkg_fence.specs.Readiness.{Readiness};
 ghost use Rattle.dkg_store.specs.Corrupt.{AreFit};
 ghost use Rattle.dkg_types.specs.PayloadCodes.{its_log, log_payload};
-ghost use Rattle.dkg_types.specs.declared.entry.Entry.{Entry as Line};
-ghost use Rattle.dkg_types.specs.declared.fault.Fault.TheVariants.{NoMemory as OutOfMemory};
+ghost use Rattle.dkg_infos.specs.declared.entry.Entry.{Entry as Line};
+ghost use Rattle.dkg_infos.specs.declared.fault.Fault.TheVariants.{NoMemory as OutOfMemory};
 ghost use Rattle.dkg_core.specs.Blocks as blocks;
 ghost use Rattle.dkg_core.specs.Fixed.{Fixed, has};
 ghost use Rattle.dkg_core.specs.Including as including;
@@ -25,9 +25,10 @@ ghost use Rattle.dkg_reshare.specs.CarriedLogs.{CarriesWithin, cleared_of};
 use dkg_ceremony::{Ceremony, Round, SignedDealerLog};
 use dkg_life::{Life, Stage, Stop, Terms};
 use dkg_inclusion::{Inclusion, bytes_of, told_log};
+use dkg_infos::{Directory, Entry, Fault, Transcript};
 use dkg_journal::Disk;
 use dkg_store::{Devices, SecretStore, Store};
-use dkg_types::{Block, Directory, Entry, Fault, Payload, ReshareBlock, Transcript};
+use dkg_types::{Block, Payload, ReshareBlock};
 use dkg_values::{EncodeSize, Epoch, Height, Key, Mem, Value};
 use std::alloc::Global;
 

@@ -1,5 +1,6 @@
 //! What the actor takes in a step.
-use dkg_types::{Block, Directory};
+use dkg_infos::Directory;
+use dkg_types::Block;
 use dkg_values::{Blob, Height, Key};
 
 /// What the actor takes in a step. A request's number is its caller's own.

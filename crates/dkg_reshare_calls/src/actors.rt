@@ -3,9 +3,10 @@ ghost use Rattle.std.specs.Prelude.{◌≡◌, IfOk};
 ghost use Rattle.dkg_reshare.specs.Actors.{IsNew};
 
 use dkg_ceremony::{Blob, Ceremony, Mode, ModeVersion, Reveal, StandCeremony, StandSigner};
+use dkg_infos::Unit;
 use dkg_life::Config;
 use dkg_reshare::Actor;
-use dkg_types::{Registrar, SchemeInfo, StaticParticipants, Unit};
+use dkg_types::{Registrar, SchemeInfo, StaticParticipants};
 use dkg_values::{Epoch, Key, Mem, Set};
 use std::alloc::Global;
 use std::num::{NonZeroU32, NonZeroU64};

@@ -3,8 +3,9 @@ ghost use Rattle.std.specs.Prelude.{◌≡◌, ℕ, IfOk, None};
 ghost use Rattle.dkg_reshare.specs.CarriedLogs.{CarriesWithin};
 
 use dkg_ceremony::{ModeVersion, decode_cfg};
+use dkg_infos::Unit;
 use dkg_setup::{BlockSource, Processed};
-use dkg_types::{Block, Context, Finalization, Payload, Unit};
+use dkg_types::{Block, Context, Finalization, Payload};
 use dkg_values::{Digest, Epoch, Height, Key, Mem};
 use std::alloc::Global;
 use std::num::NonZeroU32;

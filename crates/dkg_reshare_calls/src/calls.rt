@@ -8,11 +8,12 @@ use dkg_artifact::VerifiedLogs;
 use dkg_ceremony::Ceremony;
 use dkg_life::Stop;
 use dkg_fence::Fence;
+use dkg_infos::{Transcript, Unit};
 use dkg_journal::Disk;
 use dkg_reshare::{Actor, Message};
 use dkg_setup::BlockSource;
 use dkg_store::{Devices, SecretStore};
-use dkg_types::{Block, ParticipantsProvider, Registrar, Transcript, Unit};
+use dkg_types::{Block, ParticipantsProvider, Registrar};
 use std::alloc::Global;
 
 /// An actor's opening.

@@ -1,8 +1,8 @@
 //! Where a life starts, with a floor and without one.
 
 use crate::blocks::{bare, first_source};
+use dkg_infos::Unit;
 use dkg_setup::{BlockSource, startup};
-use dkg_types::Unit;
 use std::alloc::Global;
 use std::test::Fail;
 

@@ -1,11 +1,11 @@
 //! Lives that `run_lives` runs for who has read a script already: one is cut inside a device call, and the next one finds what was written before.
 
 use crate::texts::{DEALING, OUTPUT, RESTORED, SET_UP, life};
+use dkg_infos::Transcript;
 use dkg_journal::MemoryDisk;
 use dkg_run::run_lives;
 use dkg_script::{print_of, read_in_form};
 use dkg_store::MemorySecrets;
-use dkg_types::Transcript;
 use std::alloc::Global;
 use std::test::Fail;
 

@@ -1,9 +1,9 @@
 //! What a test runs: a script of one node over devices in memory.
 
+use dkg_infos::Transcript;
 use dkg_journal::MemoryDisk;
 use dkg_run::{MemorySink, MemorySource, run_command};
 use dkg_store::MemorySecrets;
-use dkg_types::Transcript;
 use std::alloc::Global;
 use std::str;
 use std::test::Fail;

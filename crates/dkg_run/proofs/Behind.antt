@@ -4,8 +4,8 @@ use Rattle.dkg_journal.specs.Burn.{Burn}
 use Rattle.dkg_journal.specs.DeviceCall.{DeviceCall}
 use Rattle.dkg_journal.specs.Names.{Files}
 use Rattle.dkg_journal.specs.declared.disk.Op.{Op}
-use Rattle.dkg_types.specs.declared.entry.Entry.{Entry}
-use Rattle.dkg_types.specs.declared.fault.Fault.{Fault}
+use Rattle.dkg_infos.specs.declared.entry.Entry.{Entry}
+use Rattle.dkg_infos.specs.declared.fault.Fault.{Fault}
 use Rattle.dkg_text.specs.declared.script.Script.{Script}
 use Rattle.dkg_store.specs.Acts.{at, moment}
 use Rattle.dkg_secrets.specs.Secrets.{Secrets}

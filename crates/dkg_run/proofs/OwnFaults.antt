@@ -1,7 +1,7 @@
 -- A fault that doesn't come from outside is a course's own.
 use Rattle.std.proofs.Common.{◌≡◌, ◌⊎◌, inl, inr, refl}
-use Rattle.dkg_types.specs.declared.fault.Fault.{Fault}
-use Rattle.dkg_types.specs.declared.fault.Fault.TheVariants as fault
+use Rattle.dkg_infos.specs.declared.fault.Fault.{Fault}
+use Rattle.dkg_infos.specs.declared.fault.Fault.TheVariants as fault
 use Rattle.dkg_store.specs.Acts.{stopped}
 use Rattle.dkg_core.specs.Live.{Faulted}
 use Rattle.dkg_core.specs.Splitting.{named}

@@ -9,7 +9,7 @@ use Rattle.dkg_ceremony.specs.Schedule.{epoch_of, last}
 use Rattle.dkg_fence.specs.Fence.{raised, unreached}
 use Rattle.dkg_fence.specs.Readiness.{Readiness}
 use Rattle.dkg_types.specs.Blocks.{Block}
-use Rattle.dkg_types.specs.declared.directory.Unit as directory
+use Rattle.dkg_infos.specs.declared.directory.Unit as directory
 use Rattle.dkg_store.specs.Acts.{Held}
 use Rattle.dkg_core.specs.Asked.{OfShares}
 use Rattle.dkg_core.specs.Entering.{is_ready}

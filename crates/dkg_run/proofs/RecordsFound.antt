@@ -4,9 +4,9 @@ use Rattle.std.specs.Prelude.{◌==◌, not, IfErr, IsTrue, if◌then◌else◌}
 use Rattle.dkg_ceremony.specs.Modes.{supports_of}
 use Rattle.dkg_ceremony.specs.declared.mode.Mode.{Mode}
 use Rattle.dkg_journal.specs.Names.{Files}
-use Rattle.dkg_types.specs.declared.fault.Fault.{Fault}
-use Rattle.dkg_types.specs.declared.fault.Fault.TheVariants.{Corrupt, InvalidConfig, NoMemory}
-use Rattle.dkg_types.specs.declared.fault.ConfigCause.TheVariants.{Mode as ModeCause, OneBlock}
+use Rattle.dkg_infos.specs.declared.fault.Fault.{Fault}
+use Rattle.dkg_infos.specs.declared.fault.Fault.TheVariants.{Corrupt, InvalidConfig, NoMemory}
+use Rattle.dkg_infos.specs.declared.fault.ConfigCause.TheVariants.{Mode as ModeCause, OneBlock}
 use Rattle.dkg_store.specs.declared.devices.Devices.{Devices}
 use Rattle.dkg_life.specs.Ready.{IsFoundAt}
 use Rattle.dkg_life.specs.Configured.{config_fault}

@@ -5,10 +5,10 @@ use Rattle.dkg_journal.specs.Opening.{broken}
 use Rattle.dkg_journal.specs.Records.{SectionEntry, entries}
 use Rattle.dkg_journal.specs.Steps.{Keeps}
 use Rattle.dkg_values.specs.declared.name.Name.{Name}
-use Rattle.dkg_types.specs.declared.directory.Unit as directory
-use Rattle.dkg_types.specs.declared.entry.Entry.{Entry as Line}
-use Rattle.dkg_types.specs.declared.fault.Fault.{Fault}
-use Rattle.dkg_types.specs.declared.fault.Fault.TheVariants as fault
+use Rattle.dkg_infos.specs.declared.directory.Unit as directory
+use Rattle.dkg_infos.specs.declared.entry.Entry.{Entry as Line}
+use Rattle.dkg_infos.specs.declared.fault.Fault.{Fault}
+use Rattle.dkg_infos.specs.declared.fault.Fault.TheVariants as fault
 use Rattle.dkg_store.specs.Acts.{Ended, Stands, by_cut, by_disk, by_secrets, by_want, held_in, stopped}
 use Rattle.dkg_store.specs.Corrupt.{AreEvents}
 use Rattle.dkg_store.specs.Events.{is_event}

@@ -9,8 +9,8 @@ use Rattle.dkg_journal.specs.Disk.{Lands}
 use Rattle.dkg_journal.specs.Names.{Files}
 use Rattle.dkg_secrets.specs.Secrets.{Secrets}
 use Rattle.dkg_store.specs.Corrupt.{AreFit}
-use Rattle.dkg_types.specs.declared.entry.Entry.{Entry}
-use Rattle.dkg_types.specs.declared.fault.Fault.{Fault}
+use Rattle.dkg_infos.specs.declared.entry.Entry.{Entry}
+use Rattle.dkg_infos.specs.declared.fault.Fault.{Fault}
 use Rattle.dkg_text.specs.declared.script.Script.{Script}
 use Rattle.dkg_script.specs.AsCut.{as_cut, setting_as_cut, with_cuts}
 use Rattle.dkg_script.specs.Blocks.{carried_infos, chain, info_at_boundary, known_in, known_info, oneshot_round, provided, reshare_round, round_at, used}

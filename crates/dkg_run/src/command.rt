@@ -21,13 +21,13 @@ ghost use Rattle.dkg_run.specs.Reports.{Blamed, IsMade, WasRead, Reported, RanBy
 use crate::lives::run_lives;
 use dkg_ceremony::Mem;
 use dkg_generator::make_script;
+use dkg_infos::{Entry, Fault, Transcript};
 use dkg_journal::Disk;
 use dkg_outside::{ReadError, Sink, Source, read_all, write_all};
 use dkg_reading::number;
 use dkg_script::{ReadError as FormError, Script, print_of, read_in_form};
 use dkg_store::SecretStore;
 use dkg_text::{script_text, summary};
-use dkg_types::{Entry, Fault, Transcript};
 use itoa::Buffer;
 use std::alloc::Global;
 

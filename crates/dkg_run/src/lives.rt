@@ -7,9 +7,9 @@ ghost use Rattle.std.specs.Int.NonZero.{non_zero_u32_get, non_zero_u64_get};
 ghost use Rattle.dkg_journal.specs.Burn.{Burn};
 ghost use Rattle.dkg_journal.specs.Disk.{Lands};
 ghost use Rattle.dkg_journal.specs.Names.{Files};
-ghost use Rattle.dkg_types.specs.declared.directory.Unit as directory;
-ghost use Rattle.dkg_types.specs.declared.entry.Entry.TheVariants as entry;
-ghost use Rattle.dkg_types.specs.declared.fault.Fault.TheVariants.{NoMemory};
+ghost use Rattle.dkg_infos.specs.declared.directory.Unit as directory;
+ghost use Rattle.dkg_infos.specs.declared.entry.Entry.TheVariants as entry;
+ghost use Rattle.dkg_infos.specs.declared.fault.Fault.TheVariants.{NoMemory};
 ghost use Rattle.dkg_store.specs.Acts.{Held, Stands};
 ghost use Rattle.dkg_store.specs.Corrupt.{AreFit};
 ghost use Rattle.dkg_core.specs.Live.{Live};
@@ -34,11 +34,12 @@ ghost use Rattle.dkg_lives.specs.Ways.{by_lines, by_worlds, trace};
 use crate::node::Node;
 use dkg_around::{HeldBlocks, blocks_of};
 use dkg_ceremony::{Mem, Value};
+use dkg_infos::{Entry, Fault, Transcript, Unit};
 use dkg_journal::{Disk, Fuse};
 use dkg_reshare::{Stop, check_config};
 use dkg_script::{Cut, Event, Life, Script};
 use dkg_store::{Devices, SecretStore};
-use dkg_types::{Block, Entry, Fault, Transcript, Unit};
+use dkg_types::Block;
 use std::alloc::Global;
 
 /// The fuse of a step, or none where the life ends before it.

@@ -1,10 +1,10 @@
 -- The order of a transcript says nothing of the devices: where it stands for some, it stands for any.
 use Rattle.std.proofs.Common.{ℕ, suc, List, [], ◌∷◌, ◌≡◌, refl, sym, subst, Option, Some, None, Bool, true, false, length}
 use Rattle.std.specs.Prelude.{fold, cond, slice_get, IsSomeAnd}
-use Rattle.dkg_types.specs.declared.entry.Entry.{Entry}
-use Rattle.dkg_types.specs.declared.entry.Entry.TheVariants.{Opened, Recorded, Cut, Step}
+use Rattle.dkg_infos.specs.declared.entry.Entry.{Entry}
+use Rattle.dkg_infos.specs.declared.entry.Entry.TheVariants.{Opened, Recorded, Cut, Step}
 use Rattle.dkg_text.specs.declared.script.Life.{Life}
-use Rattle.dkg_types.specs.declared.entry.Restored.{Restored}
+use Rattle.dkg_infos.specs.declared.entry.Restored.{Restored}
 use Rattle.dkg_text.specs.declared.script.Script.{Script}
 use Rattle.dkg_journal.specs.Names.{Files}
 use Rattle.dkg_secrets.specs.Secrets.{Secrets}

@@ -7,10 +7,10 @@ use Rattle.dkg_values.specs.Uint.{uint}
 use Rattle.dkg_types.specs.BlockCodes.{block_bytes, context_bytes, flagged_bytes}
 use Rattle.dkg_types.specs.MessageCodes.{message_at}
 use Rattle.dkg_types.specs.PayloadCodes.{payload_spelling}
-use Rattle.dkg_types.specs.Units.{unit_spelling}
+use Rattle.dkg_infos.specs.Units.{unit_spelling}
 use Rattle.dkg_types.specs.declared.block.Context.{Context}
-use Rattle.dkg_types.specs.declared.directory.Unit as directory
-use Rattle.dkg_types.specs.declared.info.EpochInfo.{EpochInfo}
+use Rattle.dkg_infos.specs.declared.directory.Unit as directory
+use Rattle.dkg_infos.specs.declared.info.EpochInfo.{EpochInfo}
 use Rattle.dkg_types.specs.declared.message.Message.TheVariants.{Dealer}
 use Rattle.dkg_types.specs.declared.payload.Payload.{Payload}
 use Rattle.dkg_types.specs.declared.payload.Payload.TheVariants as payload

@@ -6,7 +6,7 @@ use Rattle.std.specs.Option.{option_map_or}
 use Rattle.std.proofs.lemmas.Bool.{cases_lt}
 use Rattle.std.proofs.lemmas.Option.{slice_get_within}
 use Rattle.dkg_journal.specs.Names.{Files}
-use Rattle.dkg_types.specs.declared.entry.Entry.{Entry}
+use Rattle.dkg_infos.specs.declared.entry.Entry.{Entry}
 use Rattle.dkg_text.specs.declared.script.Cut.{Cut as ScriptCut}
 use Rattle.dkg_text.specs.declared.script.Event.{Event}
 use Rattle.dkg_text.specs.declared.script.Life.{Life}

@@ -1,10 +1,10 @@
 -- Laws of `AtEachEntry`: by recursion for a given transcript, and one entry more for a running one.
 use Rattle.std.proofs.Common.{◌⊎◌, inl, inr, Option, Some, None, List, [], ◌∷◌, ◌++◌, ◌≡◌, refl, ap, subst, sym, ◌∙◌, append_assoc}
 use Rattle.std.specs.Prelude.{fold}
-use Rattle.dkg_types.specs.declared.entry.Entry.{Entry}
+use Rattle.dkg_infos.specs.declared.entry.Entry.{Entry}
 use Rattle.dkg_script.specs.Setting.{Setting}
 use Rattle.dkg_script.specs.Progress.{Progress, read, at_start, progress, AtEachEntry, with_pair, pair_of}
-use Rattle.dkg_types.specs.declared.entry.Restored.{Restored}
+use Rattle.dkg_infos.specs.declared.entry.Restored.{Restored}
 use Rattle.dkg_journal.specs.Names.{Files}
 use Rattle.dkg_script.specs.Kept.{IsSound, IsDurable, IsRecordedAs}
 use Rattle.dkg_script.specs.Laws.{StaysKept, StaysInOrder, OwnMarksStandBefore}

@@ -10,8 +10,8 @@ use Rattle.dkg_values.specs.declared.name.Name.TheVariants.{Plan}
 use Rattle.dkg_ceremony.specs.Modes.{mode_at}
 use Rattle.dkg_journal.specs.Names.{name_cmp}
 use Rattle.dkg_journal.specs.Records.{SectionEntry}
-use Rattle.dkg_types.specs.InfoCodes.{held_at, parts_at}
-use Rattle.dkg_types.specs.OutcomeCodes.{outcome_after}
+use Rattle.dkg_infos.specs.InfoCodes.{held_at, parts_at}
+use Rattle.dkg_infos.specs.OutcomeCodes.{outcome_after}
 use Rattle.dkg_types.specs.PayloadCodes.{carried_at, payload_after}
 use Rattle.dkg_store.specs.Pairs.{IsWhole}
 use Rattle.dkg_text.specs.declared.script.Life.{Life}

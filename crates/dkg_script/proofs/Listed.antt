@@ -14,7 +14,7 @@ use Rattle.std.proofs.lemmas.Cmp.{tied_itself}
 use Rattle.dkg_secrets.specs.Keys.{key_cmp}
 use Rattle.dkg_store.specs.Pairs.{Pairs}
 use Rattle.dkg_secrets.proofs.Map.{keys_total}
-use Rattle.dkg_types.specs.declared.entry.Restored.{Restored}
+use Rattle.dkg_infos.specs.declared.entry.Restored.{Restored}
 use Rattle.dkg_script.specs.Setting.{listed}
 use Rattle.dkg_script.specs.Progress.{pair_of}
 use Rattle.dkg_script.specs.Kept.{Gives}

@@ -11,7 +11,7 @@ use Rattle.std.proofs.lemmas.Bool.{ltb-true}
 use Rattle.dkg_values.specs.Codec.{whole}
 use Rattle.dkg_values.specs.Rising.{keys_of}
 use Rattle.dkg_types.specs.PayloadCodes.{payload_at}
-use Rattle.dkg_types.specs.Units.{unit_at}
+use Rattle.dkg_infos.specs.Units.{unit_at}
 use Rattle.dkg_text.specs.declared.script.Anchor.{Anchor}
 use Rattle.dkg_text.specs.declared.script.Anchor.TheVariants.{Processed, Absent}
 use Rattle.dkg_text.specs.declared.script.BlockLine.{BlockLine}

@@ -7,8 +7,8 @@ use Rattle.dkg_ceremony.specs.declared.round.RoundParts.{RoundParts as Round}
 use Rattle.dkg_journal.specs.Names.{Files}
 use Rattle.dkg_store.specs.Pairs.{Pairs}
 use Rattle.dkg_secrets.specs.Secrets.{Secrets}
-use Rattle.dkg_types.specs.declared.entry.Entry.TheVariants.{Ack}
-use Rattle.dkg_types.specs.declared.entry.Restored.{Restored}
+use Rattle.dkg_infos.specs.declared.entry.Entry.TheVariants.{Ack}
+use Rattle.dkg_infos.specs.declared.entry.Restored.{Restored}
 use Rattle.dkg_script.specs.Kept.{Gives}
 use Rattle.dkg_script.specs.Laws.{AcknowledgesOnceAgain, StandsFor}
 use Rattle.dkg_script.specs.Progress.{at_start, has_pair_key, pair_of, progress}

@@ -2,11 +2,11 @@
 -- heeds the cut.
 use Rattle.std.proofs.Common.{ℕ, ◌+◌, ◌<◌, ◌≤◌, List, [], ◌∷◌, ◌++◌, ◌≡◌, refl, Option, Some, None, inl, inr, lit<, lit≤, arith, subst, ap, length}
 use Rattle.std.specs.Prelude.{fold}
-use Rattle.dkg_types.specs.declared.entry.Entry.{Entry}
-use Rattle.dkg_types.specs.declared.entry.Entry.TheVariants.{Opened, Committed, Registered, Setup, Entered, Acked, Ack, Cut, Step, Fault}
-use Rattle.dkg_types.specs.declared.fault.Fault as fault
-use Rattle.dkg_types.specs.declared.entry.Part.TheVariants.{Player}
-use Rattle.dkg_types.specs.declared.entry.Role.TheVariants.{Member}
+use Rattle.dkg_infos.specs.declared.entry.Entry.{Entry}
+use Rattle.dkg_infos.specs.declared.entry.Entry.TheVariants.{Opened, Committed, Registered, Setup, Entered, Acked, Ack, Cut, Step, Fault}
+use Rattle.dkg_infos.specs.declared.fault.Fault as fault
+use Rattle.dkg_infos.specs.declared.entry.Part.TheVariants.{Player}
+use Rattle.dkg_infos.specs.declared.entry.Role.TheVariants.{Member}
 use Rattle.dkg_ceremony.specs.declared.phase.Phase.TheVariants.{Early}
 use Rattle.dkg_text.specs.declared.script.BlockLine.{BlockLine}
 use Rattle.dkg_text.specs.declared.script.Event.TheVariants.{Peer, Final}

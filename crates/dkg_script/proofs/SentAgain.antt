@@ -9,13 +9,13 @@ use Rattle.dkg_values.specs.Uint.{groups_at}
 use Rattle.dkg_values.specs.declared.name.Name.TheVariants.{Plan}
 use Rattle.dkg_ceremony.specs.Modes.{mode_at}
 use Rattle.dkg_journal.specs.Names.{name_cmp}
-use Rattle.dkg_types.specs.InfoCodes.{held_at, parts_at}
-use Rattle.dkg_types.specs.OutcomeCodes.{outcome_after}
+use Rattle.dkg_infos.specs.InfoCodes.{held_at, parts_at}
+use Rattle.dkg_infos.specs.OutcomeCodes.{outcome_after}
 use Rattle.dkg_types.specs.PayloadCodes.{carried_at, payload_after}
-use Rattle.dkg_types.specs.declared.entry.Entry.{Entry}
-use Rattle.dkg_types.specs.declared.entry.Entry.TheVariants.{Opened, Ack, Blocked, Step}
-use Rattle.dkg_types.specs.declared.entry.BlockedWhy.TheVariants.{Decode}
-use Rattle.dkg_types.specs.declared.entry.Restored.{Restored}
+use Rattle.dkg_infos.specs.declared.entry.Entry.{Entry}
+use Rattle.dkg_infos.specs.declared.entry.Entry.TheVariants.{Opened, Ack, Blocked, Step}
+use Rattle.dkg_infos.specs.declared.entry.BlockedWhy.TheVariants.{Decode}
+use Rattle.dkg_infos.specs.declared.entry.Restored.{Restored}
 use Rattle.dkg_text.specs.declared.script.Event.TheVariants.{Peer}
 use Rattle.dkg_text.specs.declared.script.Life.{Life}
 use Rattle.dkg_text.specs.declared.script.Script.{Script}

@@ -12,7 +12,7 @@ use Rattle.dkg_store.specs.Pairs.{IsWhole, recorded_dealing}
 use Rattle.dkg_secrets.specs.Secrets.{Secrets}
 use Rattle.dkg_secrets.proofs.Map.{keys_total}
 use Rattle.dkg_store.proofs.Pairs.{get_here}
-use Rattle.dkg_types.specs.declared.entry.Restored.{Restored}
+use Rattle.dkg_infos.specs.declared.entry.Restored.{Restored}
 use Rattle.dkg_script.specs.Setting.{Setting, recovered_from}
 use Rattle.dkg_script.specs.Position.{begun}
 use Rattle.dkg_script.specs.Progress.{Progress}

@@ -10,14 +10,14 @@ use Rattle.dkg_values.specs.declared.name.Name.TheVariants.{Plan}
 use Rattle.dkg_ceremony.specs.Modes.{mode_at}
 use Rattle.dkg_ceremony.specs.Rounds.{round_of}
 use Rattle.dkg_journal.specs.Names.{name_cmp}
-use Rattle.dkg_types.specs.InfoCodes.{held_at, parts_at}
-use Rattle.dkg_types.specs.OutcomeCodes.{outcome_after}
+use Rattle.dkg_infos.specs.InfoCodes.{held_at, parts_at}
+use Rattle.dkg_infos.specs.OutcomeCodes.{outcome_after}
 use Rattle.dkg_types.specs.PayloadCodes.{carried_at, payload_after}
-use Rattle.dkg_types.specs.declared.entry.Entry.{Entry}
-use Rattle.dkg_types.specs.declared.entry.Entry.TheVariants.{Opened, Ack, Step, Committed, Registered, Setup, Entered, Acked}
-use Rattle.dkg_types.specs.declared.entry.Part.TheVariants.{Player}
-use Rattle.dkg_types.specs.declared.entry.Role.TheVariants.{Member}
-use Rattle.dkg_types.specs.declared.entry.Restored.{Restored}
+use Rattle.dkg_infos.specs.declared.entry.Entry.{Entry}
+use Rattle.dkg_infos.specs.declared.entry.Entry.TheVariants.{Opened, Ack, Step, Committed, Registered, Setup, Entered, Acked}
+use Rattle.dkg_infos.specs.declared.entry.Part.TheVariants.{Player}
+use Rattle.dkg_infos.specs.declared.entry.Role.TheVariants.{Member}
+use Rattle.dkg_infos.specs.declared.entry.Restored.{Restored}
 use Rattle.dkg_ceremony.specs.declared.phase.Phase.TheVariants.{Early}
 use Rattle.dkg_text.specs.declared.script.Anchor.TheVariants.{Processed}
 use Rattle.dkg_text.specs.declared.script.Event.TheVariants.{Peer, Final}

@@ -14,12 +14,12 @@ use Rattle.dkg_secrets.specs.Keys.{key_cmp}
 use Rattle.dkg_store.specs.Pairs.{Pairs}
 use Rattle.dkg_secrets.specs.Secrets.{Secrets}
 use Rattle.dkg_secrets.proofs.Map.{keys_total}
-use Rattle.dkg_types.specs.InfoCodes.{held_at, parts_at}
-use Rattle.dkg_types.specs.OutcomeCodes.{outcome_after}
+use Rattle.dkg_infos.specs.InfoCodes.{held_at, parts_at}
+use Rattle.dkg_infos.specs.OutcomeCodes.{outcome_after}
 use Rattle.dkg_types.specs.PayloadCodes.{carried_at, payload_after}
-use Rattle.dkg_types.specs.declared.entry.Entry.{Entry}
-use Rattle.dkg_types.specs.declared.entry.Entry.TheVariants.{Opened, Ack, Step}
-use Rattle.dkg_types.specs.declared.entry.Restored.{Restored}
+use Rattle.dkg_infos.specs.declared.entry.Entry.{Entry}
+use Rattle.dkg_infos.specs.declared.entry.Entry.TheVariants.{Opened, Ack, Step}
+use Rattle.dkg_infos.specs.declared.entry.Restored.{Restored}
 use Rattle.dkg_text.specs.declared.script.Event.TheVariants.{Peer}
 use Rattle.dkg_script.specs.Readings.{info_in}
 use Rattle.dkg_script.specs.Blocks.{round_at, used}

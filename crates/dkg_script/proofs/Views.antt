@@ -7,16 +7,16 @@ use Rattle.dkg_ceremony.specs.declared.round.RoundParts.{RoundParts as Round}
 use Rattle.dkg_ceremony.specs.declared.signed_log.SignedDealerLog.{SignedDealerLog}
 use Rattle.dkg_ceremony.specs.Outcomes.{LogMap}
 use Rattle.dkg_types.specs.Blocks as made
-use Rattle.dkg_types.specs.declared.directory.Unit as directory
-use Rattle.dkg_types.specs.declared.info.EpochInfo.{EpochInfo}
-use Rattle.dkg_types.specs.declared.outcome.EpochOutcome.TheVariants.{Success}
+use Rattle.dkg_infos.specs.declared.directory.Unit as directory
+use Rattle.dkg_infos.specs.declared.info.EpochInfo.{EpochInfo}
+use Rattle.dkg_infos.specs.declared.outcome.EpochOutcome.TheVariants.{Success}
 use Rattle.dkg_types.specs.declared.payload.Payload.{Payload}
 use Rattle.dkg_types.specs.declared.payload.Payload.TheVariants as payload
 use Rattle.dkg_types.specs.BlockCodes.{IsBlock}
-use Rattle.dkg_types.specs.NextInfos.{Provided, info_by, info_with, next_info, oneshot_info}
+use Rattle.dkg_infos.specs.NextInfos.{Provided, info_by, info_with, next_info, oneshot_info}
 use Rattle.dkg_types.specs.Paths.{log_of_block, logs_from, logs_of_path}
 use Rattle.dkg_types.specs.PayloadCodes.{payload_spelling}
-use Rattle.dkg_types.specs.Units.{unit_spelling}
+use Rattle.dkg_infos.specs.Units.{unit_spelling}
 use Rattle.dkg_text.specs.declared.script.BlockLine.{BlockLine}
 use Rattle.dkg_script.specs.Blocks.{Block, block_of, digest_of}
 use Rattle.dkg_script.specs.Readings.{Limits, info_in, log_in, with_spelled}

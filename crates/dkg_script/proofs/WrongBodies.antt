@@ -24,10 +24,10 @@ use Rattle.dkg_secrets.specs.Keys.{key_cmp}
 use Rattle.dkg_store.specs.Pairs.{IsWhole, recovered}
 use Rattle.dkg_secrets.specs.Secrets.{Secrets}
 use Rattle.dkg_secrets.proofs.Map.{keys_total}
-use Rattle.dkg_types.specs.declared.entry.Entry.{Entry}
-use Rattle.dkg_types.specs.declared.entry.Entry.TheVariants.{Opened, Ack, Step, Fault}
-use Rattle.dkg_types.specs.declared.entry.Restored.{Restored}
-use Rattle.dkg_types.specs.declared.fault.Fault.TheVariants.{Disk, FloorBlockMissing, NoMemory}
+use Rattle.dkg_infos.specs.declared.entry.Entry.{Entry}
+use Rattle.dkg_infos.specs.declared.entry.Entry.TheVariants.{Opened, Ack, Step, Fault}
+use Rattle.dkg_infos.specs.declared.entry.Restored.{Restored}
+use Rattle.dkg_infos.specs.declared.fault.Fault.TheVariants.{Disk, FloorBlockMissing, NoMemory}
 use Rattle.dkg_text.specs.declared.script.Event.TheVariants.{Peer}
 use Rattle.dkg_script.specs.Readings.{Material}
 use Rattle.dkg_script.specs.Setting.{recovered_from, listed}

@@ -2,7 +2,7 @@
 use Rattle.std.specs.Prelude.{List, ◌++◌, ◌≡◌, Option}
 use Rattle.dkg_journal.specs.Names.{Files}
 use Rattle.dkg_secrets.specs.Secrets.{Secrets}
-use Rattle.dkg_types.specs.declared.entry.Entry.{Entry}
+use Rattle.dkg_infos.specs.declared.entry.Entry.{Entry}
 use Rattle.dkg_text.specs.declared.script.Script.{Script}
 use Rattle.dkg_script.specs.Setting.{Setting, CutAt, setting_of}
 use Rattle.dkg_script.specs.Epochs.{IsFormOfEpochs}

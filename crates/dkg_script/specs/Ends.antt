@@ -1,14 +1,14 @@
 -- How the entries of a run end, by what ended it, and which faults it can tell.
 use Rattle.std.specs.Prelude.{List, [], ◌∷◌, ◌++◌, ◌≡◌, ◌≢◌, ◌<◌, ◌⊎◌, Bool, true, false, ⊤, IsFalse, Option, Some, None, Result, Ok, Err}
 use Rattle.std.specs.List.{list_any}
-use Rattle.dkg_types.specs.declared.entry.Entry.{Entry}
-use Rattle.dkg_types.specs.declared.entry.Entry.TheVariants as entry
-use Rattle.dkg_types.specs.declared.fault.Fault.{Fault}
-use Rattle.dkg_types.specs.declared.fault.Fault.TheVariants.{NoMemory, Disk, Secrets, Corrupt, HeightRange, MissingEpochInfo, WrongEpoch, InvalidParticipants, LocalState, ConflictingBlock, DetachedBlock, SkippedHeight, OutOfWindow, InvalidConfig}
-use Rattle.dkg_types.specs.declared.fault.LocalCause.{LocalCause}
-use Rattle.dkg_types.specs.declared.fault.LocalCause.TheVariants.{StoredDealing, ShareRefused, OwnDealing}
-use Rattle.dkg_types.specs.declared.fault.ParticipantsCause.{ParticipantsCause}
-use Rattle.dkg_types.specs.declared.fault.ParticipantsCause.TheVariants.{Refused, Round, ProviderEmpty, ProviderAbove}
+use Rattle.dkg_infos.specs.declared.entry.Entry.{Entry}
+use Rattle.dkg_infos.specs.declared.entry.Entry.TheVariants as entry
+use Rattle.dkg_infos.specs.declared.fault.Fault.{Fault}
+use Rattle.dkg_infos.specs.declared.fault.Fault.TheVariants.{NoMemory, Disk, Secrets, Corrupt, HeightRange, MissingEpochInfo, WrongEpoch, InvalidParticipants, LocalState, ConflictingBlock, DetachedBlock, SkippedHeight, OutOfWindow, InvalidConfig}
+use Rattle.dkg_infos.specs.declared.fault.LocalCause.{LocalCause}
+use Rattle.dkg_infos.specs.declared.fault.LocalCause.TheVariants.{StoredDealing, ShareRefused, OwnDealing}
+use Rattle.dkg_infos.specs.declared.fault.ParticipantsCause.{ParticipantsCause}
+use Rattle.dkg_infos.specs.declared.fault.ParticipantsCause.TheVariants.{Refused, Round, ProviderEmpty, ProviderAbove}
 
 abbrev pub is_fault : Entry → Bool
 is_fault (entry.Fault fault) = true

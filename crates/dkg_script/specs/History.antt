@@ -10,7 +10,7 @@ use Rattle.dkg_ceremony.specs.declared.signed_log.SignedDealerLog.{SignedDealerL
 use Rattle.dkg_journal.specs.Records.{entries}
 use Rattle.dkg_store.specs.Noted.{logs_in}
 use Rattle.dkg_store.specs.declared.recorded_log.RecordedLog.{RecordedLog}
-use Rattle.dkg_types.specs.NextInfos.{Provided, next_info}
+use Rattle.dkg_infos.specs.NextInfos.{Provided, next_info}
 use Rattle.dkg_types.specs.Paths.{log_counts, logs_from}
 use Rattle.dkg_text.specs.declared.script.Event.TheVariants.{Final}
 use Rattle.dkg_text.specs.declared.script.Life.{Life}

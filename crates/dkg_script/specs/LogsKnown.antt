@@ -4,7 +4,7 @@ use Rattle.std.specs.FinMap.{get}
 use Rattle.dkg_ceremony.specs.declared.dealer_log.DealerLog.{DealerLog}
 use Rattle.dkg_store.specs.Noted.{Notes}
 use Rattle.dkg_store.specs.declared.recorded_log.RecordedLog.{RecordedLog}
-use Rattle.dkg_types.specs.declared.entry.Restored.{Restored}
+use Rattle.dkg_infos.specs.declared.entry.Restored.{Restored}
 use Rattle.dkg_script.specs.Blocks.{Block}
 use Rattle.dkg_script.specs.OwnMarks.{IsOwnMarkKnown}
 use Rattle.dkg_script.specs.Schedule.{epoch_of, midpoint, last}

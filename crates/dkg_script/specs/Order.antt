@@ -2,8 +2,8 @@
 -- and step, no step goes unopened or uncounted, and a life that is cut before a step ends there.
 use Rattle.std.specs.Prelude.{ℕ, List, [], ◌≡◌, ◌<◌, ◌⊎◌, Bool, true, false, IsTrue, IsFalse, IfSome, IsSomeAnd, length}
 use Rattle.std.specs.List.{list_any}
-use Rattle.dkg_types.specs.declared.entry.Entry.{Entry}
-use Rattle.dkg_types.specs.declared.entry.Entry.TheVariants.{Opened, Cut, Step, Fault}
+use Rattle.dkg_infos.specs.declared.entry.Entry.{Entry}
+use Rattle.dkg_infos.specs.declared.entry.Entry.TheVariants.{Opened, Cut, Step, Fault}
 use Rattle.dkg_text.specs.declared.script.Life.{Life}
 use Rattle.dkg_script.specs.Setting.{Setting, life_at}
 use Rattle.dkg_script.specs.Progress.{Progress, AtEachEntry}

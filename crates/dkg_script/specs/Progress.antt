@@ -2,9 +2,9 @@
 use Rattle.std.specs.Prelude.{ℕ, suc, Bool, List, [], ◌∷◌, ◌++◌, ◌-◌, ◌≡◌, ◌==◌, ◌&&◌, Option, Some, None, Ok, find, length, fold, if◌then◌else◌, is_some, IsSomeAnd, false}
 use Rattle.std.specs.Option.{option_map_or}
 use Rattle.dkg_ceremony.specs.Dealings.{dealing_of}
-use Rattle.dkg_types.specs.declared.entry.Entry.{Entry}
-use Rattle.dkg_types.specs.declared.entry.Entry.TheVariants.{Opened, Recorded, Cut, Step}
-use Rattle.dkg_types.specs.declared.entry.Restored.{Restored}
+use Rattle.dkg_infos.specs.declared.entry.Entry.{Entry}
+use Rattle.dkg_infos.specs.declared.entry.Entry.TheVariants.{Opened, Recorded, Cut, Step}
+use Rattle.dkg_infos.specs.declared.entry.Restored.{Restored}
 use Rattle.dkg_text.specs.declared.script.Event.{Event}
 use Rattle.dkg_text.specs.declared.script.Event.TheVariants.{Peer, Final}
 use Rattle.dkg_text.specs.declared.script.Life.{Life}

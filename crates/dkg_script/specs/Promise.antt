@@ -7,8 +7,8 @@ use Rattle.dkg_journal.specs.Names.{Files}
 use Rattle.dkg_journal.specs.Records.{entries}
 use Rattle.dkg_store.specs.Pairs.{IsWhole}
 use Rattle.dkg_secrets.specs.Secrets.{Secrets}
-use Rattle.dkg_types.specs.declared.entry.Entry.{Entry}
-use Rattle.dkg_types.specs.declared.entry.Entry.TheVariants.{Step}
+use Rattle.dkg_infos.specs.declared.entry.Entry.{Entry}
+use Rattle.dkg_infos.specs.declared.entry.Entry.TheVariants.{Step}
 use Rattle.dkg_text.specs.declared.script.Script.{Script}
 use Rattle.dkg_script.specs.Readings.{Material}
 use Rattle.dkg_script.specs.Inclusion.{IsFormOfInclusion}

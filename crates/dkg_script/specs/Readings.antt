@@ -6,15 +6,15 @@ use Rattle.dkg_values.specs.Bytes.{bytes_at}
 use Rattle.dkg_values.specs.Joined.{beside_at}
 use Rattle.dkg_values.specs.Uint.{uint_at}
 use Rattle.dkg_ceremony.specs.declared.signed_log.SignedDealerLog.{SignedDealerLog}
-use Rattle.dkg_types.specs.declared.directory.Unit as directory
-use Rattle.dkg_types.specs.declared.info.EpochInfo.{EpochInfo}
+use Rattle.dkg_infos.specs.declared.directory.Unit as directory
+use Rattle.dkg_infos.specs.declared.info.EpochInfo.{EpochInfo}
 use Rattle.dkg_types.specs.declared.message.Message.{Message}
 use Rattle.dkg_types.specs.declared.message.Message.TheVariants.{Dealer, Ack}
 use Rattle.dkg_types.specs.declared.payload.Payload.{Payload}
 use Rattle.dkg_types.specs.MessageCodes.{message_at}
-use Rattle.dkg_types.specs.InfoCodes.{info_at}
+use Rattle.dkg_infos.specs.InfoCodes.{info_at}
 use Rattle.dkg_types.specs.PayloadCodes.{payload_at, its_info, its_log}
-use Rattle.dkg_types.specs.Units.{unit_at, unit_spelling}
+use Rattle.dkg_infos.specs.Units.{unit_at, unit_spelling}
 
 -- what a reader is told: the participant limit, the newest mode of a sharing, and whether directories hold addresses
 pub record Limits : Type 0 where

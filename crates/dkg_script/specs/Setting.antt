@@ -7,7 +7,7 @@ use Rattle.dkg_journal.specs.Names.{Files}
 use Rattle.dkg_journal.specs.Records.{entries}
 use Rattle.dkg_store.specs.Pairs.{Pairs, recovered}
 use Rattle.dkg_secrets.specs.Secrets.{Secrets}
-use Rattle.dkg_types.specs.declared.entry.Restored.{Restored}
+use Rattle.dkg_infos.specs.declared.entry.Restored.{Restored}
 use Rattle.dkg_text.specs.declared.script.Life.{Life}
 use Rattle.dkg_text.specs.declared.script.Script.{Script}
 use Rattle.dkg_script.specs.Readings.{Limits, Material}

@@ -7,18 +7,18 @@ use Rattle.dkg_ceremony.specs.declared.output.Output.{Output}
 use Rattle.dkg_ceremony.specs.declared.phase.Phase.{Phase}
 use Rattle.dkg_ceremony.specs.declared.round.RoundParts.{RoundParts as Round}
 use Rattle.dkg_ceremony.specs.declared.round.RoundError.{RoundError}
-use Rattle.dkg_types.specs.declared.fault.Fault.{Fault}
-use Rattle.dkg_types.specs.declared.entry.Entry.{Entry as Line}
-use Rattle.dkg_types.specs.declared.entry.Entry.TheVariants.{Setup}
-use Rattle.dkg_types.specs.declared.fault.Fault.TheVariants.{InvalidParticipants, LocalState, NoMemory}
-use Rattle.dkg_types.specs.declared.fault.LocalCause.TheVariants.{ShareRefused, StoredDealing}
-use Rattle.dkg_types.specs.declared.info.EpochInfo.{EpochInfo}
-use Rattle.dkg_types.specs.declared.fault.ParticipantsCause.TheVariants.{Round as NoRound}
-use Rattle.dkg_types.specs.declared.fault.Fault.TheVariants.{WrongEpoch}
-use Rattle.dkg_types.specs.declared.participants.Participants.{Participants}
-use Rattle.dkg_types.specs.declared.participants.ParticipantsError.{ParticipantsError}
-use Rattle.dkg_types.specs.declared.participants.ParticipantsError.TheVariants.{EmptyDealers, EmptyPlayers, TooManyParticipants}
-use Rattle.dkg_types.specs.Validation.{previous_validation, validation}
+use Rattle.dkg_infos.specs.declared.fault.Fault.{Fault}
+use Rattle.dkg_infos.specs.declared.entry.Entry.{Entry as Line}
+use Rattle.dkg_infos.specs.declared.entry.Entry.TheVariants.{Setup}
+use Rattle.dkg_infos.specs.declared.fault.Fault.TheVariants.{InvalidParticipants, LocalState, NoMemory}
+use Rattle.dkg_infos.specs.declared.fault.LocalCause.TheVariants.{ShareRefused, StoredDealing}
+use Rattle.dkg_infos.specs.declared.info.EpochInfo.{EpochInfo}
+use Rattle.dkg_infos.specs.declared.fault.ParticipantsCause.TheVariants.{Round as NoRound}
+use Rattle.dkg_infos.specs.declared.fault.Fault.TheVariants.{WrongEpoch}
+use Rattle.dkg_infos.specs.declared.participants.Participants.{Participants}
+use Rattle.dkg_infos.specs.declared.participants.ParticipantsError.{ParticipantsError}
+use Rattle.dkg_infos.specs.declared.participants.ParticipantsError.TheVariants.{EmptyDealers, EmptyPlayers, TooManyParticipants}
+use Rattle.dkg_infos.specs.Validation.{previous_validation, validation}
 use Rattle.dkg_store.specs.declared.dealer.Dealer.{Dealer}
 use Rattle.dkg_store.specs.declared.player.Player.{Player}
 use Rattle.dkg_store.specs.Acts.{Ended, Runs, World, went}

@@ -4,10 +4,10 @@ use Rattle.std.specs.Prelude.{Contains, if◌then◌else◌}
 use Rattle.std.specs.Str.{bytes_eq}
 use Rattle.std.proofs.lemmas.Slice.Eq.{bytes_eq-Decides}
 use Rattle.dkg_values.specs.Places.{place_of-Contains}
-use Rattle.dkg_types.specs.declared.info.EpochInfo.{EpochInfo}
-use Rattle.dkg_types.specs.Validation.{are_among, reshare_validation, validation}
-use Rattle.dkg_types.specs.declared.participants.ParticipantsError.{ParticipantsError}
-use Rattle.dkg_types.specs.declared.participants.ParticipantsError.TheVariants.{InitialReshareDealers, UnknownReshareDealer}
+use Rattle.dkg_infos.specs.declared.info.EpochInfo.{EpochInfo}
+use Rattle.dkg_infos.specs.Validation.{are_among, reshare_validation, validation}
+use Rattle.dkg_infos.specs.declared.participants.ParticipantsError.{ParticipantsError}
+use Rattle.dkg_infos.specs.declared.participants.ParticipantsError.TheVariants.{InitialReshareDealers, UnknownReshareDealer}
 use Rattle.dkg_core.specs.Setup as setup
 
 among_them : (xs keys : List ℕ) → ((x : ℕ) → Contains xs x → Contains keys x) → are_among xs keys ≡ true

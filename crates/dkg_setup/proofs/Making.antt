@@ -5,8 +5,8 @@ use Rattle.std.specs.FinMap.{FinMap, empty, get-empty}
 use Rattle.std.specs.Prelude.{◌⊎◌, ◌||◌, not, is_some, IfSome, if◌then◌else◌}
 use Rattle.dkg_ceremony.specs.declared.phase.Phase.{Phase}
 use Rattle.dkg_ceremony.specs.declared.round.RoundParts.{RoundParts as Round}
-use Rattle.dkg_types.specs.declared.fault.Fault.{Fault}
-use Rattle.dkg_types.specs.declared.fault.LocalCause.TheVariants.{StoredDealing}
+use Rattle.dkg_infos.specs.declared.fault.Fault.{Fault}
+use Rattle.dkg_infos.specs.declared.fault.LocalCause.TheVariants.{StoredDealing}
 use Rattle.dkg_store.specs.Player.{IsPlayerOf, has_orphan}
 use Rattle.dkg_store.specs.Recorded as of_store
 use Rattle.dkg_store.specs.Recorded.{at_epoch, bare_logs, first_refused}

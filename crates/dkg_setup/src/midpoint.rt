@@ -1,7 +1,7 @@
 //! What a setup behind the midpoint and the block before it do alike: the dealer signs its log.
 ghost use Rattle.std.specs.Prelude.{◌≡◌, IfErr, IfSome, OnErr, OnOk};
 ghost use Rattle.dkg_fence.specs.Readiness.{Readiness};
-ghost use Rattle.dkg_types.specs.declared.fault.Fault.TheVariants.{NoMemory as OutOfMemory};
+ghost use Rattle.dkg_infos.specs.declared.fault.Fault.TheVariants.{NoMemory as OutOfMemory};
 ghost use Rattle.dkg_core.specs.Dealing as dealing;
 ghost use Rattle.dkg_core.specs.Fixed.{Fixed};
 ghost use Rattle.dkg_core.specs.Setup as setup;
@@ -10,8 +10,8 @@ ghost use Rattle.dkg_life.specs.Rules.{DealsBy};
 ghost use Rattle.dkg_life.specs.declared.stop.Stop.TheVariants.{Fault as Faulted};
 
 use dkg_ceremony::Ceremony;
+use dkg_infos::Directory;
 use dkg_life::{Life, Stage, Stop};
-use dkg_types::Directory;
 use std::alloc::Global;
 
 /// Begins inclusion: the dealer, where there is one, signs its log, and offers it from now on (`begins_inclusion`).

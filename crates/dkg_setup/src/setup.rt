@@ -16,9 +16,9 @@ ghost use Rattle.dkg_store.specs.Acts.{Held, Stands, held_in};
 ghost use Rattle.dkg_store.specs.Called.{ErrorIsDue};
 ghost use Rattle.dkg_store.specs.Corrupt.{AreFit};
 ghost use Rattle.dkg_types.specs.Schemes.{scheme_of};
-ghost use Rattle.dkg_types.specs.Validation.{validation};
-ghost use Rattle.dkg_types.specs.declared.entry.Entry.{Entry as Line};
-ghost use Rattle.dkg_types.specs.declared.fault.Fault.TheVariants.{HeightRange, NoMemory as OutOfMemory};
+ghost use Rattle.dkg_infos.specs.Validation.{validation};
+ghost use Rattle.dkg_infos.specs.declared.entry.Entry.{Entry as Line};
+ghost use Rattle.dkg_infos.specs.declared.fault.Fault.TheVariants.{HeightRange, NoMemory as OutOfMemory};
 ghost use Rattle.dkg_core.specs.Agreeing.{AreAgreed};
 ghost use Rattle.dkg_core.specs.Courses.{bind};
 ghost use Rattle.dkg_core.specs.Fixed.{Fixed, has};
@@ -43,13 +43,11 @@ use crate::midpoint::begin_inclusion;
 use crate::source::BlockSource;
 use dkg_ceremony::{Bounds, Ceremony, Epocher, Phase, Round, RoundError, Share};
 use dkg_fence::Fence;
+use dkg_infos::{Directory, Entry, EpochInfo, EpochOutcome, Fault, Part, ParticipantsCause, Role, Transcript};
 use dkg_journal::Disk;
 use dkg_life::{Life, Stage, Stop, Terms, awaited};
 use dkg_store::{Dealer, Devices, Player, SecretStore, Store, StoreError};
-use dkg_types::{
-    Directory, Entry, EpochInfo, EpochOutcome, Fault, Part, ParticipantsCause, Registrar, Role,
-    SchemeInfo, Transcript,
-};
+use dkg_types::{Registrar, SchemeInfo};
 use dkg_values::{Epoch, Height, Key, Mem, Seed, Value};
 use sha2::{Digest, Sha256};
 use std::alloc::Global;

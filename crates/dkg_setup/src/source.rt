@@ -4,8 +4,9 @@ ghost use Rattle.std.specs.Option.{option_copied};
 ghost use Rattle.dkg_core.specs.Sources.{over_floor, position, position_of, startup};
 ghost use Rattle.dkg_setup.specs.Anchors.{processed_of};
 
+use dkg_infos::Directory;
 use dkg_life::Tip;
-use dkg_types::{Block, Directory, Finalization};
+use dkg_types::{Block, Finalization};
 use dkg_values::{Digest, Height, Mem};
 
 /// What was processed last: a block that is there, or one that is absent, of which the child is there.

@@ -8,7 +8,7 @@ use Rattle.dkg_journal.specs.Operations as of_disk
 use Rattle.dkg_journal.specs.Records.{SectionEntry}
 use Rattle.dkg_journal.specs.declared.call.JournalError.{JournalError}
 use Rattle.dkg_journal.specs.declared.call.JournalError.TheVariants as of_journal
-use Rattle.dkg_types.specs.declared.entry.Entry.{Entry as Line}
+use Rattle.dkg_infos.specs.declared.entry.Entry.{Entry as Line}
 use Rattle.dkg_journal.specs.Operations.{Appends}
 use Rattle.dkg_secrets.specs.Secrets.{Secrets, Tries, after}
 use Rattle.dkg_store.specs.Acts.{Acts, bind, Cause, EndsBy, Ended, broken, went, Stands, Moment, moment, MadeAt}

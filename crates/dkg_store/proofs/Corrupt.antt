@@ -9,7 +9,7 @@ use Rattle.dkg_journal.specs.Records.{SectionEntry}
 use Rattle.dkg_journal.specs.declared.opening.JournalEntry.{JournalEntry}
 use Rattle.dkg_journal.specs.Burn.{Burn}
 use Rattle.dkg_journal.specs.Records.{entries}
-use Rattle.dkg_types.specs.declared.entry.Entry.{Entry as Line}
+use Rattle.dkg_infos.specs.declared.entry.Entry.{Entry as Line}
 use Rattle.dkg_store.specs.Acts.{Cause, by_secrets, by_want, Ended, broken as broken_by, went, moment, held_in, MadeAt}
 use Rattle.dkg_store.specs.Calls.{by_error, given_back, reading}
 use Rattle.dkg_store.specs.Corrupt.{AreEvents, IsAlien, IsCorruptAt}

@@ -6,7 +6,7 @@ use Rattle.dkg_journal.specs.Names.{Files}
 use Rattle.dkg_journal.specs.Operations as of_journal
 use Rattle.dkg_journal.specs.Operations.{Finished, Tried}
 use Rattle.dkg_journal.specs.Operations.{Journaled, journaled}
-use Rattle.dkg_types.specs.declared.entry.Entry.{Entry as Line}
+use Rattle.dkg_infos.specs.declared.entry.Entry.{Entry as Line}
 use Rattle.dkg_store.specs.Acts.{Acts, Do, Goes, World, world, Runs, Cause, EndsBy, Ended, went, broken, Stands, MadeAt, moment, Held, Operation, OnDisk, Changes}
 use Rattle.dkg_journal.specs.Disk.{Did, Follows, Inside}
 use Rattle.dkg_journal.specs.declared.call.JournalError.{JournalError}

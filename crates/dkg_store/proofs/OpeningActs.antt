@@ -9,7 +9,7 @@ use Rattle.dkg_journal.specs.Opening.{open_calls}
 use Rattle.dkg_journal.specs.Operations as of_disk
 use Rattle.dkg_journal.specs.declared.disk.Op.TheVariants.{Barrier}
 use Rattle.dkg_journal.specs.declared.opening.JournalEntry.{JournalEntry}
-use Rattle.dkg_types.specs.declared.entry.Entry.{Entry as Line}
+use Rattle.dkg_infos.specs.declared.entry.Entry.{Entry as Line}
 use Rattle.dkg_values.specs.declared.name.Name.TheVariants.{Segment}
 use Rattle.dkg_values.specs.declared.name.Name.{Name}
 use Rattle.dkg_journal.specs.Operations.{Bars, Opens}

@@ -10,7 +10,7 @@ use Rattle.dkg_journal.specs.Disk.{Follows}
 use Rattle.dkg_journal.specs.Operations.{Tried, Finished, Prunes as PrunesJournal}
 use Rattle.dkg_journal.specs.Pruning.{Leaves, MayLeave}
 use Rattle.dkg_journal.specs.Records.{SectionEntry, entries, from_section}
-use Rattle.dkg_types.specs.declared.entry.Entry.{Entry as Line}
+use Rattle.dkg_infos.specs.declared.entry.Entry.{Entry as Line}
 use Rattle.dkg_values.specs.declared.name.Name.TheVariants.{Plan}
 use Rattle.dkg_store.specs.Acts.{Acts, Changes, Cause, EndsBy, Ended, broken, went, moment, MadeAt, Stands}
 use Rattle.dkg_store.specs.Calls.{pruning}

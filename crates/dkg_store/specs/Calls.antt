@@ -4,7 +4,7 @@ use Rattle.std.specs.FinMap.{get}
 use Rattle.dkg_ceremony.specs.declared.ceremony.AckError.{AckError}
 use Rattle.dkg_ceremony.specs.declared.ceremony.DealingError.{DealingError}
 use Rattle.dkg_journal.specs.Records.{SectionEntry}
-use Rattle.dkg_types.specs.declared.entry.Entry.TheVariants.{Recorded}
+use Rattle.dkg_infos.specs.declared.entry.Entry.TheVariants.{Recorded}
 use Rattle.dkg_journal.specs.Operations.{Bars, Opens, Appends, Prunes}
 use Rattle.dkg_values.specs.declared.name.Name.{Name}
 use Rattle.dkg_store.specs.Acts.{Held, notes, Acts, Say, Do, Ask, Goes, Stops, bind, OnDisk, Changes, Cause, by_cut, by_disk, by_secrets, by_want, Ended, went, stopped, broken}

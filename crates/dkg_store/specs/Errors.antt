@@ -4,8 +4,8 @@ use Rattle.dkg_journal.specs.declared.call.JournalError.TheVariants as of_journa
 use Rattle.dkg_ceremony.specs.declared.ceremony.AckError.TheVariants as of_acks
 use Rattle.dkg_ceremony.specs.declared.ceremony.AckError.TheVariants.{UnexpectedPlayer, InvalidAck}
 use Rattle.dkg_values.specs.declared.name.Name.TheVariants.{Flat}
-use Rattle.dkg_types.specs.declared.fault.LocalCause.{LocalCause}
-use Rattle.dkg_types.specs.declared.fault.LocalCause.TheVariants.{StoredDealing, ShareRefused, OwnDealing, NoShare, OutcomeOmitted}
+use Rattle.dkg_infos.specs.declared.fault.LocalCause.{LocalCause}
+use Rattle.dkg_infos.specs.declared.fault.LocalCause.TheVariants.{StoredDealing, ShareRefused, OwnDealing, NoShare, OutcomeOmitted}
 use Rattle.dkg_store.specs.declared.call.StoreError.{StoreError}
 use Rattle.dkg_store.specs.declared.call.StoreError.TheVariants.{Disk, Secrets, Corrupt, LocalState, StateSyncEpochs, StateSyncMaterial, Cut, NoMemory}
 use Rattle.dkg_store.specs.declared.dealer.AckHandleError.{AckHandleError}

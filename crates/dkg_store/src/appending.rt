@@ -2,7 +2,7 @@
 ghost use Rattle.std.specs.Prelude.{◌≡◌, ◌⊎◌, ◌<◌, ◌^◌, ⊤, List, length, OnOk, IfErr, IsTrue, None, true};
 ghost use Rattle.std.specs.Prelude.{map as map_list};
 ghost use Rattle.std.specs.FinMap as map;
-ghost use Rattle.dkg_types.specs.declared.entry.Entry.{Entry as Line};
+ghost use Rattle.dkg_infos.specs.declared.entry.Entry.{Entry as Line};
 ghost use Rattle.dkg_journal.specs.Disk.{Follows, Lands, Rose};
 ghost use Rattle.dkg_journal.specs.Fuse.{Reached};
 ghost use Rattle.dkg_journal.specs.Journals.{IsOpen, append_calls};

@@ -12,9 +12,9 @@ ghost use Rattle.dkg_store.specs.Errors.{store_error_of};
 ghost use Rattle.dkg_store.specs.declared.call.StoreError.TheVariants.{NoMemory as WantOfMemory};
 ghost use Rattle.dkg_secrets.specs.Secrets.{Tries, HasCause, HasWant, after};
 
+use dkg_infos::LocalCause;
 use dkg_journal::{Fuse, JournalError};
 use dkg_secrets::{SecretError, SecretOp, SecretStore};
-use dkg_types::LocalCause;
 use dkg_values::{Epoch, Name, NoMemory};
 use std::alloc::{AllocError, AllocFailed, Global};
 use thiserror::Error;

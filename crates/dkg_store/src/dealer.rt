@@ -23,7 +23,7 @@ ghost use Rattle.dkg_store.specs.Noted.{acks_in, logs_in};
 ghost use Rattle.dkg_store.specs.Recorded.{at_epoch};
 ghost use Rattle.dkg_store.specs.declared.dealer.AckHandleError.TheVariants.{Store as OfStore};
 ghost use Rattle.dkg_store.specs.declared.event.Event.TheVariants as events;
-ghost use Rattle.dkg_types.specs.declared.entry.Entry.{Entry as Line};
+ghost use Rattle.dkg_infos.specs.declared.entry.Entry.{Entry as Line};
 
 use crate::call::StoreError;
 use crate::devices::Devices;

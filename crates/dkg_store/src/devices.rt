@@ -1,7 +1,7 @@
 //! Both devices of a step, and the calls that change them, in one order.
 ghost use Rattle.std.specs.Prelude.{◌≡◌, ⊤, [], List, OnOk, IfErr, IsTrue, true};
 ghost use Rattle.std.specs.FinMap.{keys};
-ghost use Rattle.dkg_types.specs.declared.entry.Entry.{Entry as Line};
+ghost use Rattle.dkg_infos.specs.declared.entry.Entry.{Entry as Line};
 ghost use Rattle.dkg_journal.specs.Disk.{Follows, IsUnchanged, Rose};
 ghost use Rattle.dkg_journal.specs.Fuse.{Reached};
 ghost use Rattle.dkg_journal.specs.Journals.{IsOpen};

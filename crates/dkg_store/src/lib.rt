@@ -21,7 +21,7 @@ pub use call::{StoreError, perform_secret};
 pub use dealer::{AckHandleError, AckOutcome, Dealer, Unsent};
 pub use devices::Devices;
 pub use dkg_secrets::{MemorySecrets, SecretError, SecretOp, SecretStore, SureSecrets};
-pub use dkg_types::Restored;
+pub use dkg_infos::Restored;
 pub use event::Event;
 pub use player::{DealingHandleError, Player};
 pub use store::Store;

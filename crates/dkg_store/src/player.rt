@@ -28,9 +28,9 @@ use dkg_ceremony::{
     Ack, Ceremony, DealerLog, DealingError, FinishError, Output, Private, Public, Round, Share,
     Signer, Value,
 };
+use dkg_infos::{Entry, Transcript};
 use dkg_journal::Disk;
 use dkg_secrets::{NumberMap, SecretStore};
-use dkg_types::{Entry, Transcript};
 use dkg_values::{Epoch, Key, Map, Mem};
 use std::alloc::Global;
 use thiserror::Error;

@@ -12,7 +12,7 @@ ghost use Rattle.dkg_ceremony.specs.Finishes.{has_public};
 ghost use Rattle.dkg_values.specs.Rising.{keys_of, lookup};
 ghost use Rattle.dkg_values.specs.declared.name.Name.{Name};
 ghost use Rattle.dkg_values.specs.declared.name.Name.TheVariants.{Segment};
-ghost use Rattle.dkg_types.specs.declared.entry.Entry.{Entry as Line};
+ghost use Rattle.dkg_infos.specs.declared.entry.Entry.{Entry as Line};
 ghost use Rattle.dkg_journal.specs.Names.{Files};
 ghost use Rattle.dkg_journal.specs.Records.{SectionEntry, entries};
 ghost use Rattle.dkg_journal.specs.Gated.{OpensAlike, gated, gated_entries};
@@ -62,9 +62,9 @@ use crate::restoring::{Recorded, restore};
 use dkg_ceremony::{
     Ack, Ceremony, DealError, DealerLog, Private, Public, Round, Share, Signer, Value,
 };
+use dkg_infos::{EpochInfo, LocalCause, Restored};
 use dkg_journal::{Disk, Fuse, Journal, Op, perform};
 use dkg_secrets::{PairMap, SecretError, SecretOp, SecretStore};
-use dkg_types::{EpochInfo, LocalCause, Restored};
 use dkg_values::{Epoch, Height, Key, Map, Mem, NoMemory, NotRising, Seed};
 use std::alloc::Global;
 use std::num::NonZeroU32;

@@ -1,7 +1,7 @@
 //! Four calls of a store in a row, with an early return in between: their acts are made as those of one call.
 ghost use Rattle.std.specs.Prelude.{◌≡◌, ◌<◌, ◌+◌, ◌^◌, List, length, OnOk, IsTrue};
 ghost use Rattle.std.specs.FinMap as map;
-ghost use Rattle.dkg_types.specs.declared.entry.Entry.{Entry as Line};
+ghost use Rattle.dkg_infos.specs.declared.entry.Entry.{Entry as Line};
 ghost use Rattle.dkg_journal.specs.Journals.{IsOpen};
 ghost use Rattle.dkg_store.specs.Acts.{MadeOn, Goes, bind};
 ghost use Rattle.dkg_store.specs.Calls.{ended, recording, noting, pruning};
@@ -13,9 +13,9 @@ use crate::asserts::is;
 use crate::memory::{Memory, opened};
 use crate::prune::{element, public_of};
 use dkg_ceremony::{Ack, Private, Public};
+use dkg_infos::Unit;
 use dkg_journal::Disk;
 use dkg_store::{Devices, SecretStore, Store, StoreError};
-use dkg_types::Unit;
 use dkg_values::{Epoch, Key, Mark};
 use std::alloc::Global;
 use std::test::Fail;

@@ -10,9 +10,9 @@ use dkg_ceremony::{
     Ack, Ceremony, Mode, ModeVersion, Output, Public, Reveal, Round, Share, SignedDealerLog,
     Signer, StandCeremony, StandSigner, Value, decode_cfg,
 };
+use dkg_infos::{EpochInfo, EpochOutcome, Unit};
 use dkg_journal::Disk;
 use dkg_store::{AckHandleError, AckOutcome, Dealer, Devices, SecretStore, Store, StoreError};
-use dkg_types::{EpochInfo, EpochOutcome, Unit};
 use dkg_values::{CodecError, Element, Epoch, Key, Seed, Set};
 use std::alloc::Global;
 use std::test::Fail;

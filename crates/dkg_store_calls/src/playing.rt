@@ -12,9 +12,9 @@ use dkg_ceremony::{
     Ceremony, DealerLog, FinishError, Output, Private, Public, Round, Share, SignedDealerLog,
     Signer, StandCeremony, StandSigner, decode_cfg,
 };
+use dkg_infos::{Transcript, Unit};
 use dkg_journal::{Disk, MemoryDisk};
 use dkg_store::{Devices, MemorySecrets, Player, SecretStore, Store};
-use dkg_types::{Transcript, Unit};
 use dkg_values::{CodecError, Element, Epoch, Key, Map};
 use std::alloc::Global;
 use std::test::Fail;

@@ -1,7 +1,7 @@
 -- One entry more of a tally.
 use Rattle.std.proofs.Common.{◌≡◌, ℕ, ◌+◌, ◌<◌, List, [], ◌∷◌, ◌++◌, length, take, get_or, ap, arith}
 use Rattle.std.proofs.lemmas.List.{take_more}
-use Rattle.dkg_types.specs.declared.entry.Entry.{Entry}
+use Rattle.dkg_infos.specs.declared.entry.Entry.{Entry}
 use Rattle.dkg_text.specs.declared.tallies.Item.{Item}
 use Rattle.dkg_text.specs.Summary.{adds, tally}
 

@@ -4,17 +4,17 @@ use Rattle.dkg_values.specs.declared.name.Name.{Name}
 use Rattle.dkg_values.specs.declared.name.Name.TheVariants as name
 use Rattle.dkg_ceremony.specs.declared.round.RoundError.{RoundError}
 use Rattle.dkg_ceremony.specs.declared.round.RoundError.TheVariants as round
-use Rattle.dkg_types.specs.declared.fault.ConfigCause.{ConfigCause}
-use Rattle.dkg_types.specs.declared.fault.ConfigCause.TheVariants as config
-use Rattle.dkg_types.specs.declared.fault.LocalCause.{LocalCause}
-use Rattle.dkg_types.specs.declared.fault.LocalCause.TheVariants as local
-use Rattle.dkg_types.specs.declared.fault.ParticipantsCause.{ParticipantsCause}
-use Rattle.dkg_types.specs.declared.fault.ParticipantsCause.TheVariants as cause
-use Rattle.dkg_types.specs.declared.fault.Fault.{Fault}
-use Rattle.dkg_types.specs.declared.fault.Fault.TheVariants as fault
-use Rattle.dkg_types.specs.declared.participants.ParticipantsError.{ParticipantsError}
-use Rattle.dkg_types.specs.declared.participants.ParticipantsError.TheVariants as refused
-use Rattle.dkg_types.specs.Faults.{fault_number}
+use Rattle.dkg_infos.specs.declared.fault.ConfigCause.{ConfigCause}
+use Rattle.dkg_infos.specs.declared.fault.ConfigCause.TheVariants as config
+use Rattle.dkg_infos.specs.declared.fault.LocalCause.{LocalCause}
+use Rattle.dkg_infos.specs.declared.fault.LocalCause.TheVariants as local
+use Rattle.dkg_infos.specs.declared.fault.ParticipantsCause.{ParticipantsCause}
+use Rattle.dkg_infos.specs.declared.fault.ParticipantsCause.TheVariants as cause
+use Rattle.dkg_infos.specs.declared.fault.Fault.{Fault}
+use Rattle.dkg_infos.specs.declared.fault.Fault.TheVariants as fault
+use Rattle.dkg_infos.specs.declared.participants.ParticipantsError.{ParticipantsError}
+use Rattle.dkg_infos.specs.declared.participants.ParticipantsError.TheVariants as refused
+use Rattle.dkg_infos.specs.Faults.{fault_number}
 use Rattle.dkg_values.specs.Lists.{public_spelling}
 use Rattle.dkg_text.specs.Fields.{bytes_field, number_field, word_field}
 

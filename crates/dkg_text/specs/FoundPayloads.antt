@@ -1,10 +1,10 @@
 -- Payloads that were read of the bytes that spell them, under limits.
 use Rattle.std.proofs.Common.{◌≡◌, ℕ, List, Some, subst}
 use Rattle.dkg_values.specs.Codec.{IsBytes}
-use Rattle.dkg_types.specs.declared.directory.Unit as directory
+use Rattle.dkg_infos.specs.declared.directory.Unit as directory
 use Rattle.dkg_types.specs.declared.payload.Payload.{Payload}
 use Rattle.dkg_types.specs.PayloadCodes.{payload_spelling}
-use Rattle.dkg_types.specs.Units.{unit_spelling}
+use Rattle.dkg_infos.specs.Units.{unit_spelling}
 use Rattle.dkg_text.specs.PayloadKinds.{unit_spelled}
 
 -- a payload, and the limits under which it was read

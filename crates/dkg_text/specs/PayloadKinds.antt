@@ -4,12 +4,12 @@ use Rattle.std.specs.Result.{result_ok}
 use Rattle.std.specs.Str.{bytes_eq}
 use Rattle.dkg_values.specs.Codec.{whole}
 use Rattle.dkg_values.specs.Rising.{keys_of}
-use Rattle.dkg_types.specs.declared.directory.Unit as directory
+use Rattle.dkg_infos.specs.declared.directory.Unit as directory
 use Rattle.dkg_types.specs.declared.payload.Payload.{Payload}
 use Rattle.dkg_types.specs.declared.payload.Payload.TheVariants.{DealerLog, EpochInfo}
 use Rattle.dkg_types.specs.AddressCodes.{addresses_at}
 use Rattle.dkg_types.specs.PayloadCodes.{payload_at}
-use Rattle.dkg_types.specs.Units.{unit_at}
+use Rattle.dkg_infos.specs.Units.{unit_at}
 use Rattle.dkg_text.specs.declared.payload.PayloadKind.{PayloadKind}
 use Rattle.dkg_text.specs.declared.payload.PayloadKind.TheVariants.{Log, Info}
 

@@ -3,15 +3,15 @@ use Rattle.std.specs.Prelude.{ℕ, List, [], ◌∷◌, ◌++◌, Option, Some, 
 use Rattle.std.specs.Int.{w16, to_be_bytes}
 use Rattle.std.specs.List.{flat_map}
 use Rattle.dkg_values.specs.Lists.{public_spelling}
-use Rattle.dkg_types.specs.declared.entry.AnswerLine.{AnswerLine}
-use Rattle.dkg_types.specs.declared.entry.AnswerLine.TheVariants as answer
-use Rattle.dkg_types.specs.declared.entry.Entry.{Entry}
-use Rattle.dkg_types.specs.declared.entry.Entry.TheVariants as entry
-use Rattle.dkg_types.specs.declared.entry.PreparedLine.{PreparedLine}
-use Rattle.dkg_types.specs.declared.entry.PreparedLine.TheVariants as prepared
-use Rattle.dkg_types.specs.declared.entry.Restored.{Restored}
-use Rattle.dkg_types.specs.declared.entry.Why.{Why}
-use Rattle.dkg_types.specs.declared.entry.Why.TheVariants as why
+use Rattle.dkg_infos.specs.declared.entry.AnswerLine.{AnswerLine}
+use Rattle.dkg_infos.specs.declared.entry.AnswerLine.TheVariants as answer
+use Rattle.dkg_infos.specs.declared.entry.Entry.{Entry}
+use Rattle.dkg_infos.specs.declared.entry.Entry.TheVariants as entry
+use Rattle.dkg_infos.specs.declared.entry.PreparedLine.{PreparedLine}
+use Rattle.dkg_infos.specs.declared.entry.PreparedLine.TheVariants as prepared
+use Rattle.dkg_infos.specs.declared.entry.Restored.{Restored}
+use Rattle.dkg_infos.specs.declared.entry.Why.{Why}
+use Rattle.dkg_infos.specs.declared.entry.Why.TheVariants as why
 use Rattle.dkg_text.specs.FaultLines.{fault_line}
 use Rattle.dkg_text.specs.Fields.{bytes_field, number_field, word_field}
 use Rattle.dkg_text.specs.Words.{blocked_text, part_text, phase_text, role_text, verdict_text}

@@ -1,10 +1,10 @@
 -- The summary of a run of the generated script, by the entries of the run.
 use Rattle.std.specs.Prelude.{ℕ, zero, suc, ◌+◌, List, [], ◌∷◌, ◌++◌, Option, Some, None, codes, length}
 use Rattle.std.specs.List.{flat_map}
-use Rattle.dkg_types.specs.declared.entry.AnswerLine.TheVariants as answer
-use Rattle.dkg_types.specs.declared.entry.Entry.{Entry}
-use Rattle.dkg_types.specs.declared.entry.Entry.TheVariants as entry
-use Rattle.dkg_types.specs.declared.fault.Fault.{Fault}
+use Rattle.dkg_infos.specs.declared.entry.AnswerLine.TheVariants as answer
+use Rattle.dkg_infos.specs.declared.entry.Entry.{Entry}
+use Rattle.dkg_infos.specs.declared.entry.Entry.TheVariants as entry
+use Rattle.dkg_infos.specs.declared.fault.Fault.{Fault}
 use Rattle.dkg_text.specs.declared.tallies.Item.{Item}
 use Rattle.dkg_text.specs.declared.tallies.Item.TheVariants as item
 use Rattle.dkg_text.specs.FaultLines.{fault_line}

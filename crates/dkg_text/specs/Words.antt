@@ -2,14 +2,14 @@
 use Rattle.std.specs.Prelude.{ℕ, List, codes}
 use Rattle.dkg_ceremony.specs.declared.phase.Phase.{Phase}
 use Rattle.dkg_ceremony.specs.declared.phase.Phase.TheVariants as phase
-use Rattle.dkg_types.specs.declared.entry.Part.{Part}
-use Rattle.dkg_types.specs.declared.entry.Part.TheVariants as part
-use Rattle.dkg_types.specs.declared.entry.Role.{Role}
-use Rattle.dkg_types.specs.declared.entry.Role.TheVariants as role
-use Rattle.dkg_types.specs.declared.entry.BlockedWhy.{BlockedWhy}
-use Rattle.dkg_types.specs.declared.entry.BlockedWhy.TheVariants as blocked
-use Rattle.dkg_types.specs.declared.entry.Verdict.{Verdict}
-use Rattle.dkg_types.specs.declared.entry.Verdict.TheVariants as verdict
+use Rattle.dkg_infos.specs.declared.entry.Part.{Part}
+use Rattle.dkg_infos.specs.declared.entry.Part.TheVariants as part
+use Rattle.dkg_infos.specs.declared.entry.Role.{Role}
+use Rattle.dkg_infos.specs.declared.entry.Role.TheVariants as role
+use Rattle.dkg_infos.specs.declared.entry.BlockedWhy.{BlockedWhy}
+use Rattle.dkg_infos.specs.declared.entry.BlockedWhy.TheVariants as blocked
+use Rattle.dkg_infos.specs.declared.entry.Verdict.{Verdict}
+use Rattle.dkg_infos.specs.declared.entry.Verdict.TheVariants as verdict
 
 abbrev pub phase_text : Phase → List ℕ
 phase_text phase.Early = codes "early"

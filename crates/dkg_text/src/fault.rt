@@ -5,7 +5,7 @@ ghost use Rattle.dkg_text.specs.Fields.{number_field};
 
 use crate::text::Text;
 use dkg_ceremony::{Epoch, Key, Mem, Name, Public, RoundError};
-use dkg_types::{ConfigCause, Fault, LocalCause, ParticipantsCause, ParticipantsError};
+use dkg_infos::{ConfigCause, Fault, LocalCause, ParticipantsCause, ParticipantsError};
 
 fn put_place(text: &mut Text, name: Name, place: u64) -> Mem<()>
     ensures { OnOk result (text.new ≡ text.old ++ place_fields name place) }

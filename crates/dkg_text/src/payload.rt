@@ -7,7 +7,8 @@ ghost use Rattle.dkg_types.specs.PayloadCodes.{payload_at};
 ghost use Rattle.dkg_text.specs.PayloadKinds.{addressed_kind, payload_kind, is_info as is_info_of, kind_of, unit_kind};
 
 use dkg_ceremony::{CodecError, Mem, ModeVersion, NoMemory, decode_cfg};
-use dkg_types::{Addresses, Directory, Payload, Unit};
+use dkg_infos::{Directory, Unit};
+use dkg_types::{Addresses, Payload};
 use std::alloc::Global;
 use std::num::NonZeroU32;
 

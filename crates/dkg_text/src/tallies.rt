@@ -10,7 +10,7 @@ ghost use Rattle.dkg_text.specs.Summary.{adds as adds_of, all_items, ending_line
 use crate::fault::put_fault;
 use crate::text::Text;
 use dkg_ceremony::{Mem, NoMemory};
-use dkg_types::{AnswerLine, Entry, Fault};
+use dkg_infos::{AnswerLine, Entry, Fault};
 use std::alloc::Global;
 
 /// What is counted.

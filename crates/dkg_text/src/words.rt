@@ -3,7 +3,7 @@ ghost use Rattle.std.specs.Prelude.{◌≡◌};
 ghost use Rattle.dkg_text.specs.Words.{blocked_text, part_text, phase_text, role_text, verdict_text};
 
 use dkg_ceremony::Phase;
-use dkg_types::{BlockedWhy, Part, Role, Verdict};
+use dkg_infos::{BlockedWhy, Part, Role, Verdict};
 
 pub(crate) fn phase_word(phase: Phase) -> &'static [u8]
     ensures { result.now ≡ phase_text phase }

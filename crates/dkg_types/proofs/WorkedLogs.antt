@@ -16,12 +16,12 @@ use Rattle.dkg_ceremony.specs.Polynomials.{value_at}
 use Rattle.dkg_ceremony.specs.Rounds.{round_bytes}
 use Rattle.dkg_ceremony.specs.ValidLogs.{check_log_of, is_valid, log_content, sign_log_of}
 use Rattle.dkg_types.specs.Blocks.{Block}
-use Rattle.dkg_types.specs.declared.directory.Unit as directory
-use Rattle.dkg_types.specs.declared.info.EpochInfo.{EpochInfo}
-use Rattle.dkg_types.specs.declared.outcome.EpochOutcome.TheVariants.{Success, Failure}
+use Rattle.dkg_infos.specs.declared.directory.Unit as directory
+use Rattle.dkg_infos.specs.declared.info.EpochInfo.{EpochInfo}
+use Rattle.dkg_infos.specs.declared.outcome.EpochOutcome.TheVariants.{Success, Failure}
 use Rattle.dkg_types.specs.declared.payload.Payload.TheVariants.{DealerLog as carries}
 use Rattle.dkg_types.specs.BlockCodes.{genesis_context, zero_digest}
-use Rattle.dkg_types.specs.NextInfos.{Provided, next_info, oneshot_info}
+use Rattle.dkg_infos.specs.NextInfos.{Provided, next_info, oneshot_info}
 use Rattle.dkg_types.specs.Paths.{logs_from, logs_of_path}
 
 -- LOGS OF A PATH: dealers 1 and 2 deal to player 1 in epoch 0 of 8 blocks, whose midpoint is 4 and whose last height is 7

@@ -12,7 +12,7 @@ use Rattle.dkg_values.specs.Uint.{uint, uint_at}
 use Rattle.dkg_values.specs.UintGrammar.{u64_grammar}
 use Rattle.dkg_types.specs.declared.block.Context.{Context}
 use Rattle.dkg_types.specs.Blocks.{Block}
-use Rattle.dkg_types.specs.declared.info.EpochInfo as info
+use Rattle.dkg_infos.specs.declared.info.EpochInfo as info
 use Rattle.dkg_types.specs.declared.payload.Payload.{Payload}
 use Rattle.dkg_types.specs.PayloadCodes.{payload_at, payload_grammar, PayloadFits, payload_spelling, its_info}
 use Rattle.dkg_types.specs.Variants.{Always, no_bytes, nothing_at, nothing_grammar, MadeOf, variant_grammar, none_grammar, made_grammar}

@@ -6,10 +6,10 @@ use Rattle.dkg_values.specs.Codec.{Reading, IsGrammar}
 use Rattle.dkg_values.specs.Joined.{seen_at}
 use Rattle.dkg_ceremony.specs.declared.signed_log.SignedDealerLog.{SignedDealerLog}
 use Rattle.dkg_ceremony.specs.Logs.{signed_at, signed_spelling, SignedFits, signed_grammar}
-use Rattle.dkg_types.specs.declared.info.EpochInfo as info
+use Rattle.dkg_infos.specs.declared.info.EpochInfo as info
 use Rattle.dkg_types.specs.declared.payload.Payload.{Payload}
 use Rattle.dkg_types.specs.declared.payload.Payload.TheVariants.{DealerLog, EpochInfo}
-use Rattle.dkg_types.specs.InfoCodes.{info_at, info_spelling, InfoFits, info_grammar}
+use Rattle.dkg_infos.specs.InfoCodes.{info_at, info_spelling, InfoFits, info_grammar}
 use Rattle.dkg_types.specs.Variants.{MadeOf, variant_grammar, none_grammar}
 
 abbrev pub payload_tag : {Dir : Type 0} → Payload Dir → ℕ

@@ -4,7 +4,7 @@ use Rattle.dkg_values.specs.Rising.{keys_of, lookup}
 use Rattle.dkg_types.specs.declared.addresses.Address.{Address}
 use Rattle.dkg_types.specs.declared.manager.TrackError.{TrackError}
 use Rattle.dkg_types.specs.declared.manager.TrackError.TheVariants.{Missing, NoMemory}
-use Rattle.dkg_types.specs.declared.participants.TrackedPeers.{TrackedPeers}
+use Rattle.dkg_infos.specs.declared.participants.TrackedPeers.{TrackedPeers}
 
 abbrev pub Pairs : Type 0
 Pairs = List (ℕ × Address)

@@ -2,55 +2,39 @@
 --
 -- A type keeps all that its spelling asks but the limits and the match of a directory.
 use Rattle.std.proofs.Common.{◌≡◌, ℕ, zero, suc, ◌+◌, ◌^◌, ◌<◌, ◌≤◌, Bool, true, List, [], ◌∷◌, length, get_or, take, Option, Some, None, subst, ap, add-one, arith}
-use Rattle.std.specs.Prelude.{IfSome, IsTrue, option_map}
+use Rattle.std.specs.Prelude.{IfSome, option_map}
 use Rattle.std.specs.List.{AllByRecursion}
 use Rattle.std.specs.Str.{bytes_eq}
 use Rattle.std.proofs.lemmas.List.{length-map, take_all}
 use Rattle.std.proofs.lemmas.Slice.Eq.{bytes_eq-Decides}
 use Rattle.sha2.specs.Sha256.{sha256}
-use Rattle.dkg_values.specs.Lists.{SetFits, values_of}
+use Rattle.dkg_values.specs.Lists.{values_of}
 use Rattle.dkg_values.specs.Rising.{keys_of}
 use Rattle.dkg_ceremony.specs.declared.output.Output.{Output}
 use Rattle.dkg_ceremony.specs.declared.signed_log.SignedDealerLog.{SignedDealerLog}
 use Rattle.dkg_ceremony.specs.declared.round.RoundParts.{RoundParts as Round}
 use Rattle.dkg_ceremony.specs.Outcomes.{LogMap}
-use Rattle.dkg_ceremony.specs.Modes.{supports_of}
-use Rattle.dkg_ceremony.specs.Outputs.{OutputFits}
 use Rattle.dkg_types.specs.declared.addresses.Address.{Address}
 use Rattle.dkg_types.specs.Blocks.{Block}
 use Rattle.dkg_types.specs.declared.block.Context.{Context}
 use Rattle.dkg_types.specs.declared.finalization.Finalization.{Finalization}
-use Rattle.dkg_types.specs.declared.info.EpochInfo.{EpochInfo}
+use Rattle.dkg_infos.specs.declared.info.EpochInfo.{EpochInfo}
 use Rattle.dkg_types.specs.declared.message.Message.{Message}
 use Rattle.dkg_types.specs.declared.message.Message.TheVariants.{Dealer, Ack}
-use Rattle.dkg_types.specs.declared.outcome.EpochOutcome.TheVariants.{Success}
-use Rattle.dkg_types.specs.declared.participants.Participants.{Participants}
+use Rattle.dkg_infos.specs.declared.outcome.EpochOutcome.TheVariants.{Success}
 use Rattle.dkg_types.specs.declared.payload.Payload.{Payload}
 use Rattle.dkg_types.specs.declared.payload.Payload.TheVariants as payload
 use Rattle.dkg_types.specs.AddressCodes.{AddressFits, Pairs}
 use Rattle.dkg_types.specs.BlockCodes.{BlockFits, ContextFits, FlaggedFits, block_bytes}
 use Rattle.dkg_types.specs.FinalizationCodes.{FinalizationFits}
-use Rattle.dkg_types.specs.InfoCodes.{InfoFits, has_peers, peers_of}
-use Rattle.dkg_types.specs.NextInfos.{Provided, info_by, info_with, next_info, oneshot_info}
-use Rattle.dkg_types.specs.ParticipantsCodes.{ParticipantsFit}
-
--- ---- participants and messages
-
--- no set has more keys
-pub record ParticipantsWithin (most : ℕ) (p : Participants) : Type 0 where
-  pub dealers : length p.dealers ≤ most
-  pub players : length p.players ≤ most
-  pub next_players : length p.next_players ≤ most
-
-pub participants_fit : (most : ℕ) (p : Participants) → SetFits most p.dealers → SetFits most p.players → SetFits most p.next_players → ParticipantsFit most p
-participants_fit most p dealers players next_players = record { one = dealers; other = record { one = players; other = next_players } }
+use Rattle.dkg_infos.specs.InfoCodes.{peers_of}
+use Rattle.dkg_infos.specs.NextInfos.{Provided, info_by, info_with, next_info, oneshot_info}
+use Rattle.dkg_infos.specs.InfoLimits.{OutputWithin, InfoWithin}
 
 -- no public half has more coefficients
 abbrev pub MessageWithin : (most : ℕ) → Message → Type 0
 MessageWithin most (Dealer public private) = length public ≤ most
 MessageWithin most (Ack ack) = Unit {0}
-
--- ---- directories of addresses
 
 more_step : (pairs : Pairs) (i : ℕ) (d : ℕ × Address) → i < length pairs → AllByRecursion AddressFits (values_of (take i pairs)) → AddressFits (get_or pairs i d).1 → AllByRecursion AddressFits (values_of (take (suc i) pairs))
 more_step [] i d lt all one = absurd (omega arith)
@@ -71,38 +55,14 @@ as_many pairs peers e =
     let same : keys_of pairs ≡ peers = (bytes_eq-Decides (keys_of pairs) peers).0 e in
     omega (arith, length-map pairs (λ (p : ℕ × Address). p.0), ap (λ (xs : List ℕ). length xs) same)
 
--- ---- what blocks carry
-
 -- no more coefficients and no more entries
 pub record LogWithin (most : ℕ) (s : SignedDealerLog) : Type 0 where
   pub coefficients : length s.log.public ≤ most
   pub entries : length s.log.entries ≤ most
 
--- a mode that the version has, and no more dealers and players
-pub record OutputWithin (most version : ℕ) (o : Output) : Type 0 where
-  pub mode : IsTrue (supports_of version o.sharing.mode)
-  pub dealers : length o.dealers ≤ most
-  pub players : length o.players ≤ most
-
--- .. of the output, no more players and next players, and a directory of just the peers
-pub record InfoWithin {Dir : Type 0} (matches : Dir → List ℕ → Bool) (most version : ℕ) (i : EpochInfo Dir) : Type 0 where
-  pub output : OutputWithin most version i.output
-  pub players : length i.players ≤ most
-  pub next_players : length i.next_players ≤ most
-  pub peers : has_peers matches i ≡ true
-
 abbrev pub PayloadWithin : {Dir : Type 0} → (Dir → List ℕ → Bool) → (most version : ℕ) → Payload Dir → Type 0
 PayloadWithin matches most version (payload.DealerLog s) = LogWithin most s
 PayloadWithin matches most version (payload.EpochInfo i) = InfoWithin matches most version i
-
-pub info_fits : {Dir : Type 0} (fits : List ℕ → Dir → Type 0) (matches : Dir → List ℕ → Bool) (most version : ℕ) (i : EpochInfo Dir) → i.epoch < 2 ^ 64 → OutputFits most version i.output → SetFits most i.players → SetFits most i.next_players
-    → fits (peers_of i.output.players i.players i.next_players) i.directory → has_peers matches i ≡ true → InfoFits fits matches most version i
-info_fits fits matches most version i epoch output players next_players directory peers = record {
-  fit = record { one = record { one = tt; other = record { one = epoch; other = record { one = output; other = record { one = players; other = next_players } } } }; other = directory };
-  passes = peers;
-}
-
--- ---- blocks
 
 -- what is carried, if anything, keeps to the limits
 abbrev pub BlockWithin : {Dir : Type 0} → (Dir → List ℕ → Bool) → (most version : ℕ) → Block Dir → Type 0
@@ -114,8 +74,6 @@ context_fits c epoch view leader parent_view parent = record { one = epoch; othe
 pub block_fits : {Dir : Type 0} (fits : Payload Dir → Type 0) (spelling : Dir → List ℕ) (b : Block Dir) → ContextFits b.context → length b.parent ≡ 32 → b.height < 2 ^ 64 → FlaggedFits fits b.payload
     → b.digest ≡ sha256 (block_bytes spelling b.context b.parent b.height b.payload) → BlockFits fits spelling b
 block_fits fits spelling b context parent height carried sealed = record { parts = record { one = record { one = context; other = record { one = parent; other = height } }; other = carried }; sealed = sealed }
-
--- ---- what a node derives
 
 within_by : {Dir : Type 0} (matches : Dir → List ℕ → Bool) (most version : ℕ) (provided : Provided Dir) (i : EpochInfo Dir) (output : Option Output) → OutputWithin most version i.output → FlaggedFits (OutputWithin most version) output → length i.next_players ≤ most
     → length (provided.participants (i.epoch + 2)) ≤ most → ((peers : List ℕ) → matches (provided.directory (i.epoch + 1) peers) peers ≡ true) → InfoWithin matches most version (info_by provided i output)

@@ -4,15 +4,14 @@ ghost use Rattle.std.specs.Int.NonZero.{non_zero_u32_get};
 ghost use Rattle.std.specs.Option.{option_copied};
 ghost use Rattle.sha2.specs.Sha256.{sha256};
 ghost use Rattle.dkg_values.specs.Codec.{Reads, StandsInFront};
-ghost use Rattle.dkg_types.specs.Bounds.{IsBound};
+ghost use Rattle.dkg_infos.specs.InfoBounds.{IsBound};
 ghost use Rattle.dkg_types.specs.Within.{BlockWithin, PayloadWithin};
 ghost use Rattle.dkg_types.specs.PayloadCodes.{PayloadFits};
 ghost use Rattle.dkg_types.specs.BlockCodes.{BlockFits, ContextFits, FlaggedFits, IsBlock, context_at as context_from, block_bytes, block_spelling, flagged_at, flagged_bytes, genesis_context, head_at, held_at, info_of, zero_digest};
 
 use crate::apart::Apart;
-use crate::directory::Directory;
-use crate::info::EpochInfo;
 use crate::payload::Payload;
+use dkg_infos::{Directory, EpochInfo};
 use bytes::{BufMut, BytesMut};
 use dkg_ceremony::{
     CodecError, Digest, EncodeSize, Epoch, Height, Key, Mem, ModeVersion, Read, Reader, Spelled,

@@ -7,9 +7,8 @@ ghost use Rattle.dkg_types.specs.Tracking.{IsOf, AnswersTracking, addresses_of a
 ghost use Rattle.dkg_types.specs.declared.manager.TrackError.TheVariants.{NoMemory as OutOfMemory};
 
 use crate::addresses::{Address, Addresses};
-use crate::directory::{Directory, Unit};
-use crate::participants::TrackedPeers;
 use dkg_ceremony::{Epoch, Key, Map, Mem, NoMemory, Set};
+use dkg_infos::{Directory, TrackedPeers, Unit};
 use std::alloc::Global;
 use thiserror::Error;
 
@@ -38,7 +37,7 @@ impl From<NoMemory> for TrackError {
 /// Who knows sets of peers by number, as the upstream's `Provider` of the `p2p` crate.
 pub trait Provider {
     ghost use Rattle.std.specs.Prelude.{◌≡◌, ℕ, Bool, Option, IfOk, IsTrue};
-    ghost use Rattle.dkg_types.specs.declared.participants.TrackedPeers.{TrackedPeers};
+    ghost use Rattle.dkg_infos.specs.declared.participants.TrackedPeers.{TrackedPeers};
 
     /// Whether it tells what it tracks.
     ghost tells: { Bool };
@@ -56,7 +55,7 @@ pub trait Provider {
 pub trait Manager: Provider {
     ghost use Rattle.std.specs.Prelude.{◌≡◌, ℕ, Option, OnOk, OnErr, IsTrue};
     ghost use Rattle.dkg_types.specs.Tracking.{AnswersTracking, with_set};
-    ghost use Rattle.dkg_types.specs.declared.participants.TrackedPeers.{TrackedPeers};
+    ghost use Rattle.dkg_infos.specs.declared.participants.TrackedPeers.{TrackedPeers};
 
     type Dir: Directory;
 

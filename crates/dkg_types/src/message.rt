@@ -3,7 +3,7 @@ ghost use Rattle.std.specs.Prelude.{◌≡◌, ℕ, ◌+◌, ◌*◌, ◌^◌, �
 ghost use Rattle.std.specs.Int.NonZero.{non_zero_u32_get};
 ghost use Rattle.dkg_values.specs.Joined.{BothFit, both_spelled};
 ghost use Rattle.dkg_values.specs.Uint.{uint};
-ghost use Rattle.dkg_types.specs.Bounds.{IsBound};
+ghost use Rattle.dkg_infos.specs.InfoBounds.{IsBound};
 ghost use Rattle.dkg_types.specs.MessageCodes.{MessageFits, message_spelling};
 ghost use Rattle.dkg_types.specs.Within.{MessageWithin};
 

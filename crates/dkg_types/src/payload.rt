@@ -3,12 +3,11 @@
 ghost use Rattle.std.specs.Prelude.{◌≡◌, ℕ, ◌+◌, ◌*◌, ◌^◌, ◌≤◌, length};
 ghost use Rattle.std.specs.Int.NonZero.{non_zero_u32_get};
 ghost use Rattle.dkg_values.specs.Codec.{Reads};
-ghost use Rattle.dkg_types.specs.Bounds.{IsBound};
+ghost use Rattle.dkg_infos.specs.InfoBounds.{IsBound};
 ghost use Rattle.dkg_types.specs.Within.{PayloadWithin};
 ghost use Rattle.dkg_types.specs.PayloadCodes.{PayloadFits, carried_at, logged_at, payload_spelling};
 
-use crate::directory::Directory;
-use crate::info::EpochInfo;
+use dkg_infos::{Directory, EpochInfo};
 use bytes::{BufMut, BytesMut};
 use dkg_ceremony::{
     CodecError, EncodeSize, Mem, ModeVersion, Read, Reader, SignedDealerLog, Spelled, Value, Write,

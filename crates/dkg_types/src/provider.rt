@@ -1,8 +1,8 @@
 //! Who says which participants an epoch has and how they are reached.
 ghost use Rattle.std.specs.Prelude.{◌≡◌, ℕ, List, Bool, IfOk, IsTrue};
 
-use crate::directory::Directory;
 use dkg_ceremony::{Epoch, Mem, Set, Value};
+use dkg_infos::Directory;
 use std::alloc::Global;
 
 /// Who says which participants an epoch has and how they are reached.

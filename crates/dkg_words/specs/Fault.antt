@@ -1,9 +1,9 @@
 -- What is said of a run that a fault ended.
 use Rattle.std.specs.Prelude.{ℕ, ◌≡◌, List, [], ◌∷◌, ◌++◌, Option, Some, None, codes, decimal}
-use Rattle.dkg_types.specs.declared.entry.Entry.{Entry}
-use Rattle.dkg_types.specs.declared.entry.Entry.TheVariants as entry
-use Rattle.dkg_types.specs.declared.fault.Fault.{Fault}
-use Rattle.dkg_types.specs.Faults.{fault_number}
+use Rattle.dkg_infos.specs.declared.entry.Entry.{Entry}
+use Rattle.dkg_infos.specs.declared.entry.Entry.TheVariants as entry
+use Rattle.dkg_infos.specs.declared.fault.Fault.{Fault}
+use Rattle.dkg_infos.specs.Faults.{fault_number}
 use Rattle.dkg_words.specs.declared.fault.Spot.{Spot}
 use Rattle.dkg_words.specs.declared.fault.Step.{Step}
 use Rattle.dkg_words.specs.Before.{counted}

@@ -5,7 +5,7 @@ ghost use Rattle.dkg_words.specs.Fault.{IsFaultLine, behind_entries, behind_entr
 use crate::bad::put_line;
 use crate::put::{put, put_number};
 use crate::seek::place;
-use dkg_types::{Entry, Fault};
+use dkg_infos::{Entry, Fault};
 use dkg_values::Mem;
 use std::alloc::Global;
 

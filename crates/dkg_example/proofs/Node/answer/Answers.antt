@@ -1,7 +1,7 @@
 use Rattle.std.proofs.Common.{List, ap, length, refl, subst, ◌≤◌, ℕ}
 use Rattle.dkg_store.specs.declared.devices.Devices.{Devices}
 use Rattle.dkg_store.specs.declared.store.Store.{Store}
-use Rattle.dkg_types.specs.declared.directory.Unit.{Unit as Directory}
+use Rattle.dkg_infos.specs.declared.directory.Unit.{Unit as Directory}
 use Rattle.dkg_store.proofs.Handling.{answer_refused, handled_answer, handled_no_pair, handled_pairs, handled_player}
 use Rattle.dkg_example.proofs.Recording.{open_still, plays_on, recorded_stays, refused_fair, sent_by, stays_same}
 use Rattle.dkg_example.proofs.Short.{event_short}

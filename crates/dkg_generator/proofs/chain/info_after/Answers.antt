@@ -2,7 +2,7 @@ use Rattle.std.proofs.Common.{◌≡◌, Option, ap, subst, ◌∙◌}
 use Rattle.std.specs.Prelude.{IfOk}
 use Rattle.dkg_ceremony.specs.declared.output.Output.{Output}
 use Rattle.dkg_ceremony.specs.Outcomes.{LogMap, outcome_of}
-use Rattle.dkg_types.specs.NextInfos.{info_by, next_info}
+use Rattle.dkg_infos.specs.NextInfos.{info_by, next_info}
 use Rattle.dkg_generator.specs.Chain.{provided}
 use Rattle.dkg_generator.proofs.chain.info_after.Goals as goal
 

@@ -2,7 +2,7 @@ use Rattle.std.proofs.Common.{◌≡◌, ℕ, List, take, ap, ◌∙◌, map}
 use Rattle.dkg_ceremony.specs.declared.round.RoundParts.{RoundParts as Round}
 use Rattle.dkg_ceremony.specs.declared.signed_log.SignedDealerLog.{SignedDealerLog}
 use Rattle.dkg_ceremony.specs.Outcomes.{outcome_of}
-use Rattle.dkg_types.specs.NextInfos.{next_info}
+use Rattle.dkg_infos.specs.NextInfos.{next_info}
 use Rattle.dkg_generator.specs.Chain.{by_dealer, included, info_after, provided, round_after}
 use Rattle.dkg_generator.specs.Made.{Shown, info_bytes, log_bytes, log_payloads, next_of}
 use Rattle.dkg_generator.proofs.Plans.{first_logs}

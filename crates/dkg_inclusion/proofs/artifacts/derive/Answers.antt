@@ -2,7 +2,7 @@ use Rattle.std.proofs.Common.{◌∙◌, Option, Some, ap, refl, sym, subst, tru
 use Rattle.std.specs.Prelude.{option_map}
 use Rattle.std.specs.Int.NonZero.{non_zero_u32_get}
 use Rattle.std.proofs.lemmas.Result.{err_from_is_err_and}
-use Rattle.dkg_types.specs.declared.fault.Fault.{Fault}
+use Rattle.dkg_infos.specs.declared.fault.Fault.{Fault}
 use Rattle.dkg_artifact.specs.Results.{Checked}
 use Rattle.dkg_core.specs.Live.{VerifiedLogs}
 use Rattle.dkg_inclusion.specs.Derived.{follows_with}

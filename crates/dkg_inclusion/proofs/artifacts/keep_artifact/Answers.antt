@@ -8,7 +8,7 @@ use Rattle.dkg_artifact.specs.declared.artifact.Artifact.{Artifact}
 use Rattle.dkg_inclusion.specs.Including.{caching}
 use Rattle.dkg_inclusion.specs.InclusionOf.{artifact_of, result_of}
 use Rattle.dkg_life.specs.declared.stop.Stop.TheVariants.{Fault as Faulted}
-use Rattle.dkg_types.specs.declared.fault.Fault.TheVariants.{NoMemory}
+use Rattle.dkg_infos.specs.declared.fault.Fault.TheVariants.{NoMemory}
 use Rattle.dkg_inclusion.proofs.Derived.{has_one, kept_made, kept_told, newly_made, newly_told, underived_made, underived_told, unkept_made, unkept_told}
 use Rattle.dkg_life.proofs.Kept.{moved_none}
 use Rattle.dkg_inclusion.proofs.artifacts.keep_artifact.Goals as goal

@@ -3,7 +3,7 @@ use Rattle.std.proofs.lemmas.Result.{err_from_is_err_and}
 use Rattle.std.specs.Int.NonZero.{non_zero_u64_get}
 use Rattle.dkg_store.specs.Acts.{by_want}
 use Rattle.dkg_store.specs.declared.call.StoreError.TheVariants.{NoMemory as Wanting}
-use Rattle.dkg_types.specs.declared.entry.Why.TheVariants.{Following as Follows}
+use Rattle.dkg_infos.specs.declared.entry.Why.TheVariants.{Following as Follows}
 use Rattle.dkg_core.specs.Including as including
 use Rattle.dkg_core.specs.Live.{GaveNone}
 use Rattle.dkg_life.specs.LiveOf.{live_of}

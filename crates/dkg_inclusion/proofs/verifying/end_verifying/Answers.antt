@@ -2,7 +2,7 @@ use Rattle.std.proofs.Common.{refl, sym, ◌∙◌, ap}
 use Rattle.std.specs.Option.{option_copied}
 use Rattle.std.specs.Prelude.{option_map}
 use Rattle.std.proofs.lemmas.Result.{err_from_is_err_and}
-use Rattle.dkg_types.specs.declared.fault.Fault.TheVariants.{NoMemory}
+use Rattle.dkg_infos.specs.declared.fault.Fault.TheVariants.{NoMemory}
 use Rattle.dkg_core.specs.Including as including
 use Rattle.dkg_life.specs.declared.stop.Stop.TheVariants.{Fault as Faulted}
 use Rattle.dkg_life.specs.Ends.{by_stop}

@@ -1,7 +1,7 @@
 use Rattle.std.proofs.Common.{Option, ap, refl, subst, sym}
 use Rattle.std.specs.Prelude.{IsSome}
 use Rattle.std.specs.Int.NonZero.{non_zero_u64_get}
-use Rattle.dkg_types.specs.declared.info.EpochInfo.{EpochInfo}
+use Rattle.dkg_infos.specs.declared.info.EpochInfo.{EpochInfo}
 use Rattle.dkg_store.specs.Acts.{went}
 use Rattle.dkg_core.specs.Courses.{Goes}
 use Rattle.dkg_core.specs.Including as including

@@ -5,7 +5,7 @@ use Rattle.std.specs.Int.NonZero.{non_zero_u64_get}
 use Rattle.std.proofs.lemmas.Result.{err_from_is_err_and}
 use Rattle.dkg_ceremony.specs.Outcomes.{LogMap}
 use Rattle.dkg_core.specs.Including as including
-use Rattle.dkg_types.specs.declared.fault.Fault.TheVariants.{NoMemory}
+use Rattle.dkg_infos.specs.declared.fault.Fault.TheVariants.{NoMemory}
 use Rattle.dkg_inclusion.specs.Including.{caching}
 use Rattle.dkg_inclusion.specs.InclusionOf.{artifact_of, cached_of, result_of}
 use Rattle.dkg_life.specs.LiveOf.{live_of}

@@ -1,8 +1,8 @@
 use Rattle.std.proofs.Common.{List, [], refl, sym, ap}
 use Rattle.std.specs.Int.NonZero.{non_zero_u32_get}
 use Rattle.std.proofs.lemmas.Result.{err_from_is_err_and}
-use Rattle.dkg_types.specs.declared.entry.Entry.{Entry}
-use Rattle.dkg_types.specs.declared.entry.Entry.TheVariants as entry
+use Rattle.dkg_infos.specs.declared.entry.Entry.{Entry}
+use Rattle.dkg_infos.specs.declared.entry.Entry.TheVariants as entry
 use Rattle.dkg_store.specs.Acts.{Stands}
 use Rattle.dkg_store.proofs.Counts.{reached_cuts}
 use Rattle.dkg_lives.specs.Given.{step_of}

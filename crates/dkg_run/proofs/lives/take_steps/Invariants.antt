@@ -2,7 +2,7 @@
 use Rattle.std.proofs.Common.{◌≡◌, [], ℕ, List}
 use Rattle.std.specs.Prelude.{IsTrue}
 use Rattle.std.specs.Int.NonZero.{non_zero_u32_get}
-use Rattle.dkg_types.specs.declared.directory.Unit as directory
+use Rattle.dkg_infos.specs.declared.directory.Unit as directory
 use Rattle.dkg_store.specs.Corrupt.{AreFit}
 use Rattle.dkg_core.specs.Live.{Live}
 use Rattle.dkg_lives.specs.Epochs.{IsAt, IsLifeInForm}

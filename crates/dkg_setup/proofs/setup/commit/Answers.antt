@@ -1,7 +1,7 @@
 use Rattle.std.proofs.Common.{Err, Ok, Some, ap, refl, ◌∙◌}
 use Rattle.std.proofs.lemmas.Result.{err_from_is_err_and}
-use Rattle.dkg_types.specs.declared.fault.Fault.TheVariants.{NoMemory as OutOfMemory}
-use Rattle.dkg_types.specs.declared.info.EpochInfo.{EpochInfo}
+use Rattle.dkg_infos.specs.declared.fault.Fault.TheVariants.{NoMemory as OutOfMemory}
+use Rattle.dkg_infos.specs.declared.info.EpochInfo.{EpochInfo}
 use Rattle.dkg_store.specs.Acts.{went}
 use Rattle.dkg_core.specs.Courses.{on_devices}
 use Rattle.dkg_core.specs.Setup as setup

@@ -1,4 +1,4 @@
-use Rattle.dkg_types.specs.declared.info.EpochInfo.{EpochInfo}
+use Rattle.dkg_infos.specs.declared.info.EpochInfo.{EpochInfo}
 use Rattle.std.specs.Prelude.{IsSome}
 use Rattle.std.proofs.Common.{refl, Option, subst, sym}
 use Rattle.dkg_life.specs.LiveOf.{live_of}

@@ -2,9 +2,9 @@ use Rattle.std.proofs.Common.{Some, [], ◌∷◌, ◌++◌, ◌∙◌, ap, refl
 use Rattle.std.specs.Prelude.{IsSome, option_map}
 use Rattle.std.specs.Int.NonZero.{non_zero_u32_get}
 use Rattle.std.proofs.lemmas.Result.{err_from_is_err_and}
-use Rattle.dkg_types.specs.declared.entry.Entry.TheVariants.{Setup}
-use Rattle.dkg_types.specs.declared.fault.Fault.TheVariants.{NoMemory}
-use Rattle.dkg_types.specs.declared.entry.Part.{Part}
+use Rattle.dkg_infos.specs.declared.entry.Entry.TheVariants.{Setup}
+use Rattle.dkg_infos.specs.declared.fault.Fault.TheVariants.{NoMemory}
+use Rattle.dkg_infos.specs.declared.entry.Part.{Part}
 use Rattle.dkg_core.specs.Setup as setup
 use Rattle.dkg_life.specs.declared.life.Life.{Life}
 use Rattle.dkg_life.specs.declared.stop.Stop.TheVariants.{Fault as Faulted}

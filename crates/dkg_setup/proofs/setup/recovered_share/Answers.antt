@@ -4,7 +4,7 @@ use Rattle.std.specs.FinMap.{empty, entries, get-empty, insert}
 use Rattle.std.specs.Ordering.{nat_cmp}
 use Rattle.dkg_core.specs.Setup as setup
 use Rattle.dkg_secrets.specs.Secrets.{Secrets}
-use Rattle.dkg_types.specs.declared.outcome.EpochOutcome.TheVariants.{Failure}
+use Rattle.dkg_infos.specs.declared.outcome.EpochOutcome.TheVariants.{Failure}
 use Rattle.dkg_life.proofs.Calls.{moved_called}
 use Rattle.dkg_life.proofs.Kept.{moved_then}
 use Rattle.dkg_life.proofs.Shares.{apart_of, below_found, below_only, gives_below, gives_none, gives_none_below, gives_none_fitting, gives_stored, is_failure, none_found, not_failure, not_some, one_at, one_is, same_of}

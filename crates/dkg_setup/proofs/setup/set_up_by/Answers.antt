@@ -1,5 +1,5 @@
 use Rattle.dkg_life.proofs.Committing.{in_any}
-use Rattle.dkg_types.specs.declared.info.EpochInfo.{EpochInfo}
+use Rattle.dkg_infos.specs.declared.info.EpochInfo.{EpochInfo}
 use Rattle.std.specs.Prelude.{IsSome}
 use Rattle.std.proofs.Common.{◌-◌, ◌∙◌, None, ap, arith, Option, subst, sym}
 use Rattle.std.proofs.lemmas.Result.{err_from_is_err_and}

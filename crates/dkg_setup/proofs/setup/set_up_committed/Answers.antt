@@ -1,9 +1,9 @@
-use Rattle.dkg_types.specs.declared.info.EpochInfo.{EpochInfo}
+use Rattle.dkg_infos.specs.declared.info.EpochInfo.{EpochInfo}
 use Rattle.std.specs.Prelude.{IsSome}
 use Rattle.std.proofs.Common.{None, ap, refl, sym, ◌∙◌, Option, subst}
 use Rattle.std.specs.Int.NonZero.{non_zero_u32_get, non_zero_u64_get}
 use Rattle.std.proofs.lemmas.Result.{err_from_is_err_and}
-use Rattle.dkg_types.specs.declared.fault.Fault.TheVariants.{HeightRange}
+use Rattle.dkg_infos.specs.declared.fault.Fault.TheVariants.{HeightRange}
 use Rattle.dkg_core.specs.Setup as setup
 use Rattle.dkg_life.specs.declared.life.Life.{Life}
 use Rattle.dkg_life.specs.declared.stop.Stop.TheVariants.{Fault as Faulted}

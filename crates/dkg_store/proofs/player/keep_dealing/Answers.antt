@@ -4,7 +4,7 @@ use Rattle.std.specs.Ordering.{nat_cmp}
 use Rattle.std.specs.FinMap as map
 use Rattle.std.specs.Cmp.{nat_cmp_total}
 use Rattle.std.proofs.lemmas.Result.{err_from_is_err_and}
-use Rattle.dkg_types.specs.declared.entry.Entry.TheVariants.{Recorded}
+use Rattle.dkg_infos.specs.declared.entry.Entry.TheVariants.{Recorded}
 use Rattle.dkg_store.specs.Acts.{Say, Goes, broken, by_want}
 use Rattle.dkg_store.specs.Calls.{cause_of}
 use Rattle.dkg_store.specs.declared.call.StoreError.{StoreError}

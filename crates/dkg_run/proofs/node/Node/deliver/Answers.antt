@@ -2,7 +2,7 @@ use Rattle.std.proofs.Common.{Err, refl, sym}
 use Rattle.std.proofs.lemmas.Result.{err_from_is_err_and}
 use Rattle.dkg_ceremony.specs.Acks as acks
 use Rattle.dkg_ceremony.specs.Deals as deals
-use Rattle.dkg_types.specs.declared.directory.Unit as directory
+use Rattle.dkg_infos.specs.declared.directory.Unit as directory
 use Rattle.dkg_life.specs.Ready.{IsReadyLife}
 use Rattle.dkg_life.specs.declared.life.Life as reshare
 use Rattle.dkg_lives.specs.Given.{at_step}

@@ -4,7 +4,7 @@ use Rattle.std.specs.declared.num.NonZeroU64.{NonZeroU64}
 use Rattle.dkg_ceremony.specs.Dealings as dealings
 use Rattle.dkg_ceremony.specs.Finishes as finishes
 use Rattle.dkg_ceremony.specs.ValidLogs as logs
-use Rattle.dkg_types.specs.declared.directory.Unit as directory
+use Rattle.dkg_infos.specs.declared.directory.Unit as directory
 use Rattle.dkg_core.specs.Core.{no_inclusion}
 use Rattle.dkg_inclusion.specs.InclusionOf.{IsSeen, IsSettledInclusion}
 use Rattle.dkg_life.specs.declared.life.Life as reshare

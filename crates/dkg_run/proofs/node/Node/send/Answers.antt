@@ -1,7 +1,7 @@
 use Rattle.std.proofs.Common.{refl}
 use Rattle.dkg_ceremony.specs.Acks as acks
 use Rattle.dkg_ceremony.specs.Deals as deals
-use Rattle.dkg_types.specs.declared.directory.Unit as directory
+use Rattle.dkg_infos.specs.declared.directory.Unit as directory
 use Rattle.dkg_life.specs.Ready.{IsReadyLife}
 use Rattle.dkg_life.specs.declared.life.Life as reshare
 use Rattle.dkg_run.proofs.Noding.{at_includes, mail_within, not_failed, of_again, ready_on, sends, sends_said}

@@ -1,6 +1,7 @@
 use Rattle.std.proofs.Common.{◌≡◌, ℕ, ◌+◌, ◌*◌, arith}
 use Rattle.std.specs.Int.NonZero.{non_zero_u32_get}
-use Rattle.dkg_types.specs.Bounds.{longer, message_bound}
+use Rattle.dkg_infos.specs.InfoBounds.{longer}
+use Rattle.dkg_types.specs.Bounds.{message_bound}
 use Rattle.dkg_types.specs.MessageCodes.{MessageFits, message_spelling}
 use Rattle.dkg_types.proofs.message.Message.max_encode_size.Goals as goal
 

@@ -1,0 +1,11 @@
+pub mod Faults
+pub mod InfoBounds
+pub mod InfoCodes
+pub mod InfoLimits
+pub mod NextInfos
+pub mod OutcomeCodes
+pub mod ParticipantsCodes
+pub mod Told
+pub mod Units
+pub mod Validation
+pub use Rattle.dkg_ceremony.specs.Variants
