@@ -25,9 +25,9 @@ ghost use Rattle.dkg_around.specs.Halves.{IsStartOf, beginning_of};
 ghost use Rattle.dkg_around.specs.Orchestrator.{HasHalf, IsFenceReady, IsHalfGiven, IsSettled, MayEnter, MayGoOn, MayPass, ends_half, ends_on, with_half};
 
 use dkg_ceremony::{Bounds, Epoch, Epocher, Height};
-use dkg_life::{Stop, Tip};
 use dkg_fence::{Fence, Waited};
 use dkg_infos::{Entry, Fault, Transcript, Unit};
+use dkg_life::{Stop, Tip};
 use dkg_setup::{BlockSource, startup};
 use dkg_types::Block;
 use std::num::NonZeroU64;

@@ -16,7 +16,6 @@ ghost use Rattle.dkg_infos.specs.declared.fault.Fault.TheVariants.{LocalState, N
 ghost use Rattle.dkg_infos.specs.declared.fault.LocalCause.TheVariants.{OwnDealing};
 ghost use Rattle.dkg_core.specs.Dealing as dealing;
 ghost use Rattle.dkg_core.specs.Fixed.{Fixed};
-ghost use Rattle.dkg_core.specs.Setup as setup;
 ghost use Rattle.dkg_life.specs.Ready.{IsReadyLife};
 ghost use Rattle.dkg_life.specs.Ends.{StopsOver, ends_in};
 ghost use Rattle.dkg_life.specs.Given.{IsOf};
@@ -30,7 +29,7 @@ ghost use Rattle.dkg_life.specs.declared.life.Stage.TheVariants.{Dealing};
 ghost use Rattle.dkg_life.specs.declared.stop.Stop.TheVariants.{Fault as Faulted};
 
 use crate::dealing::{handle, take_ack};
-use dkg_ceremony::{Ceremony, Private, Public};
+use dkg_ceremony::{Ceremony, Private, Public, Value};
 use dkg_infos::{BoxedPublic, Directory, Entry, Fault, LocalCause, Transcript};
 use dkg_journal::Disk;
 use dkg_life::{Life, Stop, Terms};

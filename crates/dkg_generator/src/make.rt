@@ -9,11 +9,11 @@ use crate::chain::{everybody, genesis};
 use crate::life::{life, put_events};
 use crate::plan::{EPOCHS, ME, Plan, plan_of};
 use dkg_ceremony::{Blob, Epoch, Height, Map, Mem, Mode, ModeVersion, Value};
+use dkg_infos::{EpochInfo, Unit};
 use dkg_text::{
     BlockLine, BlockLines, Carried, Events, Life, Lives, PlayerLine, PlayerLines, Script,
     ScriptConfig,
 };
-use dkg_infos::{EpochInfo, Unit};
 use std::alloc::Global;
 use std::num::{NonZeroU32, NonZeroU64};
 

@@ -8,4 +8,3 @@ pub mod ParticipantsCodes
 pub mod Told
 pub mod Units
 pub mod Validation
-pub use Rattle.dkg_ceremony.specs.Variants

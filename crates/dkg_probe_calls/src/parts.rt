@@ -4,7 +4,10 @@ ghost use Rattle.std.specs.Prelude.{◌+◌, ◌<◌, ◌^◌, ◌↔◌, length
 use dkg_ceremony::{Digest, Epoch, Height, Key, Map, Mem, ModeVersion, Set, decode_cfg};
 use dkg_infos::{Directory, EpochInfo, Participants, TrackedPeers, Transcript, Unit};
 use dkg_probe::{Actor, Blocks, Bootstrap, Config, Event, ProbeStop};
-use dkg_types::{Address, AddressedPeerManager, Block, Context, Finalization, KeyOnlyManager, Manager, Payload, PeerManager, Provider, Scheme, StandScheme};
+use dkg_types::{
+    Address, AddressedPeerManager, Block, Context, Finalization, KeyOnlyManager, Manager, Payload,
+    PeerManager, Provider, Scheme, StandScheme,
+};
 use std::alloc::Global;
 use std::num::{NonZeroU32, NonZeroU64};
 use std::test::Fail;

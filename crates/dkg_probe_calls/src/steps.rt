@@ -9,7 +9,10 @@ use crate::probe_cases::{CASES, Case};
 use dkg_ceremony::{Blob, Height, Key, Mem};
 use dkg_infos::{BlockedWhy, Directory, Entry, EpochInfo, Transcript, Unit};
 use dkg_probe::{Actor, Blocks, Event, ProbeStop};
-use dkg_types::{Address, AddressableManager, Addresses, Block, Finalization, Manager, MissingAddress, Scheme, Socket, StandScheme};
+use dkg_types::{
+    Address, AddressableManager, Addresses, Block, Finalization, Manager, MissingAddress, Scheme,
+    Socket, StandScheme,
+};
 use std::alloc::Global;
 use std::test::Fail;
 

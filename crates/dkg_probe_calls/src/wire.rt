@@ -3,10 +3,10 @@
 use crate::asserts::{holds, is};
 use crate::parts::{block_at, limits, sealed};
 use dkg_ceremony::{CodecError, Digest, Epoch, Key, What, encode};
+use dkg_infos::Unit;
 use dkg_probe::{
     Message, Request, Response, Sample, max_payload_size, read_block, read_request, read_response,
 };
-use dkg_infos::Unit;
 use dkg_types::Finalization;
 use std::alloc::Global;
 use std::test::Fail;

@@ -36,13 +36,13 @@ ghost use Rattle.dkg_reshare.specs.Actors.{MovesOn};
 
 use dkg_artifact::{Artifact, ArtifactCache};
 use dkg_ceremony::{Ceremony, DealerLog, Share, encode};
-use dkg_life::{Life, Stop, Terms, tip_of};
 use dkg_fence::Fence;
 use dkg_inclusion::{
     Inclusion, answer_none, canonical, end_verifying, job_for, keep_artifact, retain, verify,
 };
 use dkg_infos::{Directory, EpochInfo, Transcript, Why};
 use dkg_journal::Disk;
+use dkg_life::{Life, Stop, Terms, tip_of};
 use dkg_setup::{EpochSecrets, commit_and_register, secrets_with, set_up_committed};
 use dkg_store::{Devices, SecretStore};
 use dkg_types::{Block, ParticipantsProvider, Registrar};

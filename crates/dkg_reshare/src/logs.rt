@@ -23,10 +23,10 @@ ghost use Rattle.dkg_inclusion.specs.InclusionOf.{IsSeen};
 ghost use Rattle.dkg_reshare.specs.CarriedLogs.{CarriesWithin, cleared_of};
 
 use dkg_ceremony::{Ceremony, Round, SignedDealerLog};
-use dkg_life::{Life, Stage, Stop, Terms};
 use dkg_inclusion::{Inclusion, bytes_of, told_log};
 use dkg_infos::{Directory, Entry, Fault, Transcript};
 use dkg_journal::Disk;
+use dkg_life::{Life, Stage, Stop, Terms};
 use dkg_store::{Devices, SecretStore, Store};
 use dkg_types::{Block, Payload, ReshareBlock};
 use dkg_values::{EncodeSize, Epoch, Height, Key, Mem, Value};

@@ -6,10 +6,10 @@ ghost use Rattle.dkg_reshare.specs.CarriedLogs.{CarriesWithin};
 
 use dkg_artifact::VerifiedLogs;
 use dkg_ceremony::Ceremony;
-use dkg_life::Stop;
 use dkg_fence::Fence;
 use dkg_infos::{Transcript, Unit};
 use dkg_journal::Disk;
+use dkg_life::Stop;
 use dkg_reshare::{Actor, Message};
 use dkg_setup::BlockSource;
 use dkg_store::{Devices, SecretStore};

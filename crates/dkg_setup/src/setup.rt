@@ -43,7 +43,9 @@ use crate::midpoint::begin_inclusion;
 use crate::source::BlockSource;
 use dkg_ceremony::{Bounds, Ceremony, Epocher, Phase, Round, RoundError, Share};
 use dkg_fence::Fence;
-use dkg_infos::{Directory, Entry, EpochInfo, EpochOutcome, Fault, Part, ParticipantsCause, Role, Transcript};
+use dkg_infos::{
+    Directory, Entry, EpochInfo, EpochOutcome, Fault, Part, ParticipantsCause, Role, Transcript,
+};
 use dkg_journal::Disk;
 use dkg_life::{Life, Stage, Stop, Terms, awaited};
 use dkg_store::{Dealer, Devices, Player, SecretStore, Store, StoreError};

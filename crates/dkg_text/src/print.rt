@@ -9,7 +9,9 @@ use crate::fault::put_fault;
 use crate::text::Text;
 use crate::words::{blocked_word, part_word, phase_word, role_word, verdict_word};
 use dkg_ceremony::{Ack, Blob, Epoch, Height, Key, Mem, Phase, Private, Public, Share};
-use dkg_infos::{AnswerLine, BlockedWhy, Entry, Part, PreparedLine, Restored, RestoredList, Role, Verdict, Why};
+use dkg_infos::{
+    AnswerLine, BlockedWhy, Entry, Part, PreparedLine, Restored, RestoredList, Role, Verdict, Why,
+};
 use dkg_values::Shared;
 use std::alloc::Global;
 

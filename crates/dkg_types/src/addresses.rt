@@ -9,12 +9,12 @@ ghost use Rattle.dkg_values.specs.Rising.{keys_of, lookup, map_of};
 ghost use Rattle.dkg_values.specs.Lists.{values_of};
 ghost use Rattle.dkg_types.specs.AddressCodes.{AddressFits, AddressesFit, SocketFits, address_at, addresses_spelling, end_at, socket_at, two_spelled};
 
-use dkg_infos::Directory;
 use bytes::{BufMut, BytesMut};
 use dkg_ceremony::{
     CodecError, EncodeSize, Key, Map, MapCfg, Mem, Read, Reader, Set, Spelled, Value, Write,
     read_be16, read_be32, read_byte,
 };
+use dkg_infos::Directory;
 use std::alloc::Global;
 use std::marker::Model;
 

@@ -11,12 +11,12 @@ ghost use Rattle.dkg_types.specs.BlockCodes.{BlockFits, ContextFits, FlaggedFits
 
 use crate::apart::Apart;
 use crate::payload::Payload;
-use dkg_infos::{Directory, EpochInfo};
 use bytes::{BufMut, BytesMut};
 use dkg_ceremony::{
     CodecError, Digest, EncodeSize, Epoch, Height, Key, Mem, ModeVersion, Read, Reader, Spelled,
     Value, Write, read_byte, read_u64, uint_size, write_uint,
 };
+use dkg_infos::{Directory, EpochInfo};
 use dkg_values::Shared;
 use sha2::{Digest as Hashes, Sha256};
 use std::alloc::Global;

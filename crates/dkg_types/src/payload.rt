@@ -7,12 +7,12 @@ ghost use Rattle.dkg_infos.specs.InfoBounds.{IsBound};
 ghost use Rattle.dkg_types.specs.Within.{PayloadWithin};
 ghost use Rattle.dkg_types.specs.PayloadCodes.{PayloadFits, carried_at, logged_at, payload_spelling};
 
-use dkg_infos::{Directory, EpochInfo};
 use bytes::{BufMut, BytesMut};
 use dkg_ceremony::{
     CodecError, EncodeSize, Mem, ModeVersion, Read, Reader, SignedDealerLog, Spelled, Value, Write,
     read_byte,
 };
+use dkg_infos::{Directory, EpochInfo};
 use std::alloc::Global;
 use std::num::NonZeroU32;
 

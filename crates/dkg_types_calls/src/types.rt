@@ -3,6 +3,7 @@ use dkg_ceremony::{
     CodecError, Digest, Element, EncodeSize, Epoch, Height, Key, Map, Mark, Mem, ModeVersion,
     NoMemory, Private, Public, Read, Set, Share, Value, Write, decode_cfg, encode, round_trip,
 };
+use dkg_infos::*;
 use dkg_types::*;
 use std::alloc::Global;
 use std::num::NonZeroU32;

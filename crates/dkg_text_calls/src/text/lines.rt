@@ -3,7 +3,10 @@
 use dkg_ceremony::{
     Ack, Blob, Element, Epoch, Height, Key, Mark, Name, Phase, Private, Public, RoundError, Share,
 };
-use dkg_infos::{AnswerLine, BlockedWhy, BoxedPublic, ConfigCause, Entry, Fault, LocalCause, Part, ParticipantsCause, ParticipantsError, PreparedLine, Restored, RestoredList, Role, Verdict, Why};
+use dkg_infos::{
+    AnswerLine, BlockedWhy, BoxedPublic, ConfigCause, Entry, Fault, LocalCause, Part,
+    ParticipantsCause, ParticipantsError, PreparedLine, Restored, RestoredList, Role, Verdict, Why,
+};
 use dkg_text::print_of;
 use dkg_values::Shared;
 use std::alloc::Global;
