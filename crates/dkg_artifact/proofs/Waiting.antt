@@ -1,5 +1,5 @@
 -- Requests at their places: where the next of a number waits, and what becomes of them.
-use Rattle.std.proofs.Common.{Option, Some, None, is_some, unwrap_or, ◌≡◌, ◌≢◌, ◌<◌, ◌≤◌, ◌++◌, ◌+◌, ◌-◌, ◌^◌, ◌==◌, ◌⊎◌, nat_le, ℕ, List, [], ◌∷◌, Bool, true, false, Result, Ok, Err, ◌&&◌, cond, if◌then◌else◌, not, ap, arith, inl, inr, map, refl, subst, sym, ◌∙◌}
+use Rattle.std.proofs.Common.{Option, Some, None, is_some, unwrap_or, ◌≡◌, ◌≢◌, ◌<◌, ◌≤◌, ◌++◌, ◌+◌, ◌-◌, ◌^◌, ◌==◌, ◌⊎◌, nat_le, ℕ, List, [], ◌∷◌, Bool, true, false, Result, Ok, Err, ◌&&◌, cond, if◌then◌else◌, not, ap, arith, append-nil, inl, inr, map, refl, reverse, subst, sym, ◌∙◌}
 use Rattle.std.specs.Prelude.{filter, OnOk}
 use Rattle.std.specs.BTreeMap.{BTreeMap, get, insert_entry, is_at, IsOrdered}
 use Rattle.std.specs.BTreeMap.Range.{IsFromStart}
@@ -9,16 +9,18 @@ use Rattle.std.specs.List.Sorted.{IsStrictlySortedBy}
 use Rattle.std.specs.Map.{keys_of, values_of, lookup, remove_entry, set_value}
 use Rattle.std.specs.Ordering.{is_eq, is_gt, match_ordering, nat_cmp}
 use Rattle.std.specs.declared.cmp.Ordering.{Ordering}
+use Rattle.std.specs.declared.cmp.Reverse.{Reverse}
 use Rattle.std.specs.declared.cmp.Ordering.TheVariants.{Less, Greater}
 use Rattle.std.specs.declared.ops.Bound.{Bound}
 use Rattle.std.specs.declared.ops.Bound.TheVariants.{Included, Excluded, Unbounded}
 use Rattle.std.specs.Cmp.{nat_cmp_total}
 use Rattle.std.proofs.lemmas.Bool.Decides.{nat_tests}
-use Rattle.std.proofs.lemmas.List.Elements.{All-weaker, recursion_from_All}
+use Rattle.std.proofs.lemmas.List.{map-append, reverse-append}
+use Rattle.std.proofs.lemmas.List.Elements.{All-weaker, filter-append, recursion_from_All}
 use Rattle.std.proofs.lemmas.Map.Views.{All-found}
 use Rattle.dkg_types.specs.Blocks.{Block}
 use Rattle.dkg_artifact.specs.Requested.{Request, ended_for, fed_for, is_other}
-use Rattle.dkg_artifact.specs.Places.{AreKnown, IsNext, KeepsNumbers, changed_at, has_place, is_of, pair_cmp}
+use Rattle.dkg_artifact.specs.Places.{AreKnown, IsNext, KeepsNumbers, changed_at, has_place, is_of, pair_cmp, pair_of}
 
 -- NUMBERS
 
@@ -31,7 +33,7 @@ greater a b h = grind (arith, nat_tests)
 one_same : (a b : ℕ) → is_at (nat_cmp a) b ≡ (a == b)
 one_same a b = grind (arith, nat_tests)
 
-pair_same : (n p m q : ℕ) → is_at (pair_cmp (n, p)) (m, q) ≡ ((n == m) && (p == q))
+pair_same : (n p m q : ℕ) → is_at (pair_cmp (pair_of n p)) (pair_of m q) ≡ ((n == m) && (p == q))
 pair_same n p m q = grind (arith, nat_tests)
 
 same_true : (a b : ℕ) → (a == b) ≡ true → a ≡ b
@@ -59,21 +61,21 @@ by_test false = inr refl
 
 -- WHERE THE NEXT OF A NUMBER WAITS
 
-module _ (numbers : BTreeSet (ℕ × ℕ)) (number from : ℕ) (start : Bound (ℕ × ℕ))
-    (within : (place : ℕ) → from ≤ place → IsFromStart pair_cmp start (number, place))
-    (reaches : (pair : ℕ × ℕ) → IsFromStart pair_cmp start pair → (number ≤ pair.0) × (pair.0 ≡ number → from ≤ pair.1))
-    (range : List (ℕ × ℕ)) (is : IsKeyRangeOf pair_cmp start Unbounded numbers range) where
+module _ (numbers : BTreeSet (Reverse ℕ × ℕ)) (number from : ℕ) (start : Bound (Reverse ℕ × ℕ))
+    (within : (place : ℕ) → from ≤ place → IsFromStart pair_cmp start (pair_of number place))
+    (reaches : (pair : Reverse ℕ × ℕ) → IsFromStart pair_cmp start pair → (pair.0.0 ≤ number) × (pair.0.0 ≡ number → from ≤ pair.1))
+    (range : List (Reverse ℕ × ℕ)) (is : IsKeyRangeOf pair_cmp start Unbounded numbers range) where
   pub next_none : range ≡ [] → IsNext numbers number from None
-  next_none none place low = is.5 none (number, place) (within place low, tt)
+  next_none none place low = is.5 none (pair_of number place) (within place low, tt)
 
   -- what lies in the range is not before its first
-  least : (k : ℕ × ℕ) (rest : List (ℕ × ℕ)) → range ≡ k ∷ rest → (place : ℕ) → from ≤ place → has_place numbers number place ≡ true → is_gt (pair_cmp k (number, place)) ≡ false
-  least k rest at place low has = (subst (λ (l : List (ℕ × ℕ)). IsKeyRangeOf pair_cmp start Unbounded numbers l) at is).2 (number, place) (within place low, tt) has
+  least : (k : Reverse ℕ × ℕ) (rest : List (Reverse ℕ × ℕ)) → range ≡ k ∷ rest → (place : ℕ) → from ≤ place → has_place numbers number place ≡ true → is_gt (pair_cmp k (pair_of number place)) ≡ false
+  least k rest at place low has = (subst (λ (l : List (Reverse ℕ × ℕ)). IsKeyRangeOf pair_cmp start Unbounded numbers l) at is).2 (pair_of number place) (within place low, tt) has
 
-  first_in : (k : ℕ × ℕ) (rest : List (ℕ × ℕ)) → range ≡ k ∷ rest → IsFromStart pair_cmp start k × (contains pair_cmp numbers k ≡ true)
-  first_in k rest at = let it = (subst (λ (l : List (ℕ × ℕ)). IsKeyRangeOf pair_cmp start Unbounded numbers l) at is).1 in (it.0.0, it.1)
+  first_in : (k : Reverse ℕ × ℕ) (rest : List (Reverse ℕ × ℕ)) → range ≡ k ∷ rest → IsFromStart pair_cmp start k × (contains pair_cmp numbers k ≡ true)
+  first_in k rest at = let it = (subst (λ (l : List (Reverse ℕ × ℕ)). IsKeyRangeOf pair_cmp start Unbounded numbers l) at is).1 in (it.0.0, it.1)
 
-  pub next_some : (k : ℕ × ℕ) (rest : List (ℕ × ℕ)) → range ≡ k ∷ rest → k.0 ≡ number → IsNext numbers number from (Some k.1)
+  pub next_some : (k : Reverse ℕ × ℕ) (rest : List (Reverse ℕ × ℕ)) → range ≡ k ∷ rest → k.0.0 ≡ number → IsNext numbers number from (Some k.1)
   next_some k rest at same = (
     (reaches k (first_in k rest at).0).1 same,
     subst (λ (n : ℕ). has_place numbers n k.1 ≡ true) same (first_in k rest at).1,
@@ -83,62 +85,84 @@ module _ (numbers : BTreeSet (ℕ × ℕ)) (number from : ℕ) (start : Bound (�
     ],
   )
     where
-      before_not : (k : ℕ × ℕ) (number place : ℕ) → k.0 ≡ number → place < k.1 → is_gt (pair_cmp k (number, place)) ≡ false → ⊥
+      before_not : (k : Reverse ℕ × ℕ) (number place : ℕ) → k.0.0 ≡ number → place < k.1 → is_gt (pair_cmp k (pair_of number place)) ≡ false → ⊥
       before_not k number place same short last = grind (arith, nat_tests)
 
-  pub next_other : (k : ℕ × ℕ) (rest : List (ℕ × ℕ)) → range ≡ k ∷ rest → k.0 ≢ number → IsNext numbers number from None
+  pub next_other : (k : Reverse ℕ × ℕ) (rest : List (Reverse ℕ × ℕ)) → range ≡ k ∷ rest → k.0.0 ≢ number → IsNext numbers number from None
   next_other k rest at apart place low = elim (by_test (has_place numbers number place)) [
     | inl has ↦ absurd (behind_not k number place ((reaches k (first_in k rest at).0).0) apart (least k rest at place low has))
     | inr none ↦ none
   ]
     where
-      behind_not : (k : ℕ × ℕ) (number place : ℕ) → number ≤ k.0 → k.0 ≢ number → is_gt (pair_cmp k (number, place)) ≡ false → ⊥
+      behind_not : (k : Reverse ℕ × ℕ) (number place : ℕ) → k.0.0 ≤ number → k.0.0 ≢ number → is_gt (pair_cmp k (pair_of number place)) ≡ false → ⊥
       behind_not k number place above apart last = grind (arith, nat_tests)
 
-pub within_included : (number place : ℕ) → 0 ≤ place → IsFromStart pair_cmp (Included (number, 0)) (number, place)
+pub within_included : (number place : ℕ) → 0 ≤ place → IsFromStart pair_cmp (Included (pair_of number 0)) (pair_of number place)
 within_included number place low = grind (arith, nat_tests)
 
-pub reaches_included : (number : ℕ) (pair : ℕ × ℕ) → IsFromStart pair_cmp (Included (number, 0)) pair → (number ≤ pair.0) × (pair.0 ≡ number → 0 ≤ pair.1)
+pub reaches_included : (number : ℕ) (pair : Reverse ℕ × ℕ) → IsFromStart pair_cmp (Included (pair_of number 0)) pair → (pair.0.0 ≤ number) × (pair.0.0 ≡ number → 0 ≤ pair.1)
 reaches_included number pair h = (grind (arith, nat_tests), λ same. omega arith)
 
-pub within_excluded : (number at place : ℕ) → at + 1 ≤ place → IsFromStart pair_cmp (Excluded (number, at)) (number, place)
+pub within_excluded : (number at place : ℕ) → at + 1 ≤ place → IsFromStart pair_cmp (Excluded (pair_of number at)) (pair_of number place)
 within_excluded number at place low = grind (arith, nat_tests)
 
-pub reaches_excluded : (number at : ℕ) (pair : ℕ × ℕ) → IsFromStart pair_cmp (Excluded (number, at)) pair → (number ≤ pair.0) × (pair.0 ≡ number → at + 1 ≤ pair.1)
+pub reaches_excluded : (number at : ℕ) (pair : Reverse ℕ × ℕ) → IsFromStart pair_cmp (Excluded (pair_of number at)) pair → (pair.0.0 ≤ number) × (pair.0.0 ≡ number → at + 1 ≤ pair.1)
 reaches_excluded number at pair h = (grind (arith, nat_tests), λ same. grind (arith, nat_tests))
 
 -- WHAT IS PUT AND TAKEN AWAY
 
--- A place is behind all, or before all.
+-- A place is above all, or below all.
 module _ {X : Type 0} where
-  pub values_behind : (es : List (ℕ × X)) (place : ℕ) (x : X) → AllByRecursion (λ q. q < place) (keys_of es) → values_of (insert_entry nat_cmp es place x) ≡ values_of es ++ x ∷ []
-  values_behind [] place x behind = refl
-  values_behind (e ∷ es) place x behind =
-      ap (λ (o : Ordering). values_of (match_ordering o ((place, x) ∷ e ∷ es) ((e.0, x) ∷ es) (e ∷ insert_entry nat_cmp es place x))) (greater place e.0 behind.0)
-      ∙ ap (λ (l : List X). e.1 ∷ l) (values_behind es place x behind.1)
+  pub values_above : (es : List (ℕ × X)) (place : ℕ) (x : X) → AllByRecursion (λ q. q < place) (keys_of es) → values_of (insert_entry nat_cmp es place x) ≡ values_of es ++ x ∷ []
+  values_above [] place x above = refl
+  values_above (e ∷ es) place x above =
+      ap (λ (o : Ordering). values_of (match_ordering o ((place, x) ∷ e ∷ es) ((e.0, x) ∷ es) (e ∷ insert_entry nat_cmp es place x))) (greater place e.0 above.0)
+      ∙ ap (λ (l : List X). e.1 ∷ l) (values_above es place x above.1)
 
-  pub values_before : (es : List (ℕ × X)) (place : ℕ) (x : X) → AllByRecursion (λ q. place < q) (keys_of es) → values_of (insert_entry nat_cmp es place x) ≡ x ∷ values_of es
-  values_before [] place x before = refl
-  values_before (e ∷ es) place x before = ap (λ (o : Ordering). values_of (match_ordering o ((place, x) ∷ e ∷ es) ((e.0, x) ∷ es) (e ∷ insert_entry nat_cmp es place x))) (less place e.0 before.0)
+  pub values_below : (es : List (ℕ × X)) (place : ℕ) (x : X) → AllByRecursion (λ q. place < q) (keys_of es) → values_of (insert_entry nat_cmp es place x) ≡ x ∷ values_of es
+  values_below [] place x below = refl
+  values_below (e ∷ es) place x below = ap (λ (o : Ordering). values_of (match_ordering o ((place, x) ∷ e ∷ es) ((e.0, x) ∷ es) (e ∷ insert_entry nat_cmp es place x))) (less place e.0 below.0)
 
-  pub free_behind : (es : List (ℕ × X)) (place : ℕ) → AllByRecursion (λ q. q < place) (keys_of es) → lookup (is_at (nat_cmp place)) es ≡ None
-  free_behind [] place behind = refl
-  free_behind (e ∷ es) place behind = ap (λ (o : Ordering). cond (is_eq o) (Some e.1) (lookup (is_at (nat_cmp place)) es)) (greater place e.0 behind.0) ∙ free_behind es place behind.1
+  pub free_above : (es : List (ℕ × X)) (place : ℕ) → AllByRecursion (λ q. q < place) (keys_of es) → lookup (is_at (nat_cmp place)) es ≡ None
+  free_above [] place above = refl
+  free_above (e ∷ es) place above = ap (λ (o : Ordering). cond (is_eq o) (Some e.1) (lookup (is_at (nat_cmp place)) es)) (greater place e.0 above.0) ∙ free_above es place above.1
 
-  pub free_before : (es : List (ℕ × X)) (place : ℕ) → AllByRecursion (λ q. place < q) (keys_of es) → lookup (is_at (nat_cmp place)) es ≡ None
-  free_before [] place before = refl
-  free_before (e ∷ es) place before = ap (λ (o : Ordering). cond (is_eq o) (Some e.1) (lookup (is_at (nat_cmp place)) es)) (less place e.0 before.0) ∙ free_before es place before.1
+  pub free_below : (es : List (ℕ × X)) (place : ℕ) → AllByRecursion (λ q. place < q) (keys_of es) → lookup (is_at (nat_cmp place)) es ≡ None
+  free_below [] place below = refl
+  free_below (e ∷ es) place below = ap (λ (o : Ordering). cond (is_eq o) (Some e.1) (lookup (is_at (nat_cmp place)) es)) (less place e.0 below.0) ∙ free_below es place below.1
+
+  -- What lies the newest first comes the oldest first.
+  pub reverse_cons : (x : X) (xs : List X) → reverse (x ∷ xs) ≡ reverse xs ++ x ∷ []
+  reverse_cons x xs = reverse-append (x ∷ []) xs
+
+  pub reverse_map : (f : X → X) (xs : List X) → reverse (map f xs) ≡ map f (reverse xs)
+  reverse_map f [] = refl
+  reverse_map f (x ∷ xs) =
+      reverse_cons (f x) (map f xs)
+      ∙ ap (λ (l : List X). l ++ f x ∷ []) (reverse_map f xs)
+      ∙ sym (ap (map f) (reverse_cons x xs) ∙ map-append f (reverse xs) (x ∷ []))
+
+  pub reverse_filter : (p : X → Bool) (xs : List X) → reverse (filter p xs) ≡ filter p (reverse xs)
+  reverse_filter p [] = refl
+  reverse_filter p (x ∷ xs) =
+      one (p x) (filter p xs)
+      ∙ ap (λ (l : List X). l ++ cond (p x) (x ∷ []) []) (reverse_filter p xs)
+      ∙ sym (ap (filter p) (reverse_cons x xs) ∙ filter-append p (reverse xs) (x ∷ []))
+    where
+      one : (b : Bool) (l : List X) → reverse (cond b (x ∷ l) l) ≡ reverse l ++ cond b (x ∷ []) []
+      one true l = reverse_cons x l
+      one false l = sym (append-nil (reverse l))
 
 -- a set that has one pair more, or one less
-abbrev pub Adds : BTreeSet (ℕ × ℕ) → (number place : ℕ) → (has : Bool) → BTreeSet (ℕ × ℕ) → Type 0
-Adds old number place has new = (pair : ℕ × ℕ) → contains pair_cmp new pair ≡ cond (is_at (pair_cmp (number, place)) pair) has (contains pair_cmp old pair)
+abbrev pub Adds : BTreeSet (Reverse ℕ × ℕ) → (number place : ℕ) → (has : Bool) → BTreeSet (Reverse ℕ × ℕ) → Type 0
+Adds old number place has new = (pair : Reverse ℕ × ℕ) → contains pair_cmp new pair ≡ cond (is_at (pair_cmp (pair_of number place)) pair) has (contains pair_cmp old pair)
 
 -- whether a walk that has come as far as to `next` has yet to come by this place
 abbrev pub is_left : (next : Option ℕ) → (place : ℕ) → Bool
 is_left None place = false
 is_left (Some next) place = nat_le next place
 
-passed : (numbers : BTreeSet (ℕ × ℕ)) (number from : ℕ) (next : Option ℕ) (place : ℕ) → IsNext numbers number from next → from ≤ place → is_left next place ≡ false
+passed : (numbers : BTreeSet (Reverse ℕ × ℕ)) (number from : ℕ) (next : Option ℕ) (place : ℕ) → IsNext numbers number from next → from ≤ place → is_left next place ≡ false
     → has_place numbers number place ≡ false
 passed numbers number from None place is low gone = is place low
 passed numbers number from (Some next) place is low gone = is.2 place low (under next place gone)
@@ -146,7 +170,7 @@ passed numbers number from (Some next) place is low gone = is.2 place low (under
     under : (next place : ℕ) → nat_le next place ≡ false → place < next
     under next place gone = grind (arith, nat_tests)
 
-before_next : (numbers : BTreeSet (ℕ × ℕ)) (number from : ℕ) (next : Option ℕ) (place : ℕ) → IsNext numbers number from next → place < from → is_left next place ≡ false
+before_next : (numbers : BTreeSet (Reverse ℕ × ℕ)) (number from : ℕ) (next : Option ℕ) (place : ℕ) → IsNext numbers number from next → place < from → is_left next place ≡ false
 before_next numbers number from None place is short = refl
 before_next numbers number from (Some next) place is short = over from next place is.0 short
   where
@@ -162,16 +186,16 @@ module _ {Dir : Type 0} where
   of_other n m None is apart = refl
   of_other n m (Some r) is apart = ap (λ (k : ℕ). k == m) (same_true r.number n is) ∙ apart
 
-  module _ (numbers : BTreeSet (ℕ × ℕ)) (waiting : BTreeMap ℕ (Request Dir)) (known : AreKnown numbers waiting) where
+  module _ (numbers : BTreeSet (Reverse ℕ × ℕ)) (waiting : BTreeMap ℕ (Request Dir)) (known : AreKnown numbers waiting) where
     at_place : (place n q : ℕ) → (place == q) ≡ true → has_place numbers n q ≡ is_of n (get nat_cmp waiting place)
     at_place place n q same = known.1 n q ∙ ap (λ (p : ℕ). is_of n (get nat_cmp waiting p)) (sym (same_true place q same))
 
-    pub known_put : (ns : BTreeSet (ℕ × ℕ)) (ws : BTreeMap ℕ (Request Dir)) (number place : ℕ) (r : Request Dir) → number ≡ r.number → get nat_cmp waiting place ≡ None
+    pub known_put : (ns : BTreeSet (Reverse ℕ × ℕ)) (ws : BTreeMap ℕ (Request Dir)) (number place : ℕ) (r : Request Dir) → number ≡ r.number → get nat_cmp waiting place ≡ None
         → Adds numbers number place true ns → Puts waiting place (Some r) ws → IsOrdered nat_cmp ws → AreKnown ns ws
     known_put ns ws number place r same free adds puts ordered = (
       ordered,
       λ n q.
-          adds (n, q)
+          adds (pair_of n q)
           ∙ ap (λ (b : Bool). cond b true (has_place numbers n q)) (pair_same number place n q)
           ∙ by_tests n q (number == n) (place == q) (ap (λ (k : ℕ). k == n) (sym same)) refl
           ∙ ap (λ (b : Bool). is_of n (cond b (Some r) (get nat_cmp waiting q))) (sym (one_same place q))
@@ -184,12 +208,12 @@ module _ {Dir : Type 0} where
         by_tests n q true false of_n here = known.1 n q
         by_tests n q false false of_n here = known.1 n q
 
-    pub known_taken : (ns : BTreeSet (ℕ × ℕ)) (ws : BTreeMap ℕ (Request Dir)) (number place : ℕ) → is_of number (get nat_cmp waiting place) ≡ true
+    pub known_taken : (ns : BTreeSet (Reverse ℕ × ℕ)) (ws : BTreeMap ℕ (Request Dir)) (number place : ℕ) → is_of number (get nat_cmp waiting place) ≡ true
         → Adds numbers number place false ns → Puts waiting place None ws → IsOrdered nat_cmp ws → AreKnown ns ws
     known_taken ns ws number place of_number adds puts ordered = (
       ordered,
       λ n q.
-          adds (n, q)
+          adds (pair_of n q)
           ∙ ap (λ (b : Bool). cond b false (has_place numbers n q)) (pair_same number place n q)
           ∙ by_tests n q (number == n) (place == q) refl refl
           ∙ ap (λ (b : Bool). is_of n (cond b None (get nat_cmp waiting q))) (sym (one_same place q))
@@ -203,14 +227,14 @@ module _ {Dir : Type 0} where
         by_tests n q false false of_n here = known.1 n q
 
     -- a pair that was put in and taken out again
-    pub known_undone : (ms ns : BTreeSet (ℕ × ℕ)) (ws : BTreeMap ℕ (Request Dir)) (number place : ℕ) → get nat_cmp waiting place ≡ None
+    pub known_undone : (ms ns : BTreeSet (Reverse ℕ × ℕ)) (ws : BTreeMap ℕ (Request Dir)) (number place : ℕ) → get nat_cmp waiting place ≡ None
         → Adds numbers number place true ms → Adds ms number place false ns → ws.entries ≡ waiting.entries → AreKnown ns ws
     known_undone ms ns ws number place free adds removes same = (
       subst (λ (es : List (ℕ × Request Dir)). IsStrictlySortedBy nat_cmp (keys_of es)) (sym same) known.0,
       λ n q.
-          removes (n, q)
+          removes (pair_of n q)
           ∙ ap (λ (b : Bool). cond b false (has_place ms n q)) (pair_same number place n q)
-          ∙ ap (λ (b : Bool). cond ((number == n) && (place == q)) false b) (adds (n, q) ∙ ap (λ (b : Bool). cond b true (has_place numbers n q)) (pair_same number place n q))
+          ∙ ap (λ (b : Bool). cond ((number == n) && (place == q)) false b) (adds (pair_of n q) ∙ ap (λ (b : Bool). cond b true (has_place numbers n q)) (pair_same number place n q))
           ∙ by_tests n q (number == n) (place == q) refl
           ∙ ap (λ (es : List (ℕ × Request Dir)). is_of n (lookup (is_at (nat_cmp q)) es)) (sym same),
     )
@@ -237,10 +261,10 @@ module _ {Dir : Type 0} where
   abbrev pub changed_from : (next : Option ℕ) → (Request Dir → Request Dir) → List (ℕ × Request Dir) → List (Request Dir)
   changed_from next f es = map (λ e. if is_left next e.0 then f e.1 else e.1) es
 
-  abbrev pub HavePlaces : BTreeSet (ℕ × ℕ) → List (ℕ × Request Dir) → Type 0
+  abbrev pub HavePlaces : BTreeSet (Reverse ℕ × ℕ) → List (ℕ × Request Dir) → Type 0
   HavePlaces numbers es = AllByRecursion (λ e. has_place numbers e.1.number e.0 ≡ true) es
 
-  module _ (numbers : BTreeSet (ℕ × ℕ)) (number : ℕ) where
+  module _ (numbers : BTreeSet (Reverse ℕ × ℕ)) (number : ℕ) where
     other_there : (place : ℕ) (r : Request Dir) → has_place numbers r.number place ≡ true → has_place numbers number place ≡ false → is_other number r ≡ true
     other_there place r has none = by_number (r.number == number) refl
       where
@@ -367,7 +391,7 @@ abbrev pub to_go : (next : Option ℕ) → ℕ
 to_go None = 0
 to_go (Some next) = 2 ^ 64 - next
 
-pub goes_on : (numbers : BTreeSet (ℕ × ℕ)) (number at : ℕ) (next before : Option ℕ) → at < 2 ^ 64 → IsNext numbers number (at + 1) next → before ≡ Some at → to_go next < to_go before
+pub goes_on : (numbers : BTreeSet (Reverse ℕ × ℕ)) (number at : ℕ) (next before : Option ℕ) → at < 2 ^ 64 → IsNext numbers number (at + 1) next → before ≡ Some at → to_go next < to_go before
 goes_on numbers number at next before fits is at_it = subst (λ (o : Option ℕ). to_go next < to_go o) (sym at_it) (on next is)
   where
     on : (next : Option ℕ) → IsNext numbers number (at + 1) next → to_go next < 2 ^ 64 - at

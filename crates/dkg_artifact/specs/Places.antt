@@ -5,18 +5,23 @@ use Rattle.std.specs.BTreeSet.{BTreeSet, contains}
 use Rattle.std.specs.List.{AllByRecursion}
 use Rattle.std.specs.Ordering.{nat_cmp, ordering_then}
 use Rattle.std.specs.declared.cmp.Ordering.{Ordering}
+use Rattle.std.specs.declared.cmp.Reverse.{Reverse}
 use Rattle.dkg_artifact.specs.Requested.{Request}
 
--- by number, then by place
-abbrev pub pair_cmp : ℕ × ℕ → ℕ × ℕ → Ordering
-pair_cmp a b = ordering_then (nat_cmp a.0 b.0) (nat_cmp a.1 b.1)
+-- a number with a place
+abbrev pub pair_of : (number place : ℕ) → Reverse ℕ × ℕ
+pair_of number place = (record { 0 = number }, place)
+
+-- the greatest number first, then by place
+abbrev pub pair_cmp : Reverse ℕ × ℕ → Reverse ℕ × ℕ → Ordering
+pair_cmp a b = ordering_then (nat_cmp b.0.0 a.0.0) (nat_cmp a.1 b.1)
 
 -- whether a number has this place
-abbrev pub has_place : BTreeSet (ℕ × ℕ) → (number place : ℕ) → Bool
-has_place numbers number place = contains pair_cmp numbers (number, place)
+abbrev pub has_place : BTreeSet (Reverse ℕ × ℕ) → (number place : ℕ) → Bool
+has_place numbers number place = contains pair_cmp numbers (pair_of number place)
 
 -- Among the places of a number, this is the first that isn't before `from`.
-abbrev pub IsNext : BTreeSet (ℕ × ℕ) → (number from : ℕ) → Option ℕ → Type 0
+abbrev pub IsNext : BTreeSet (Reverse ℕ × ℕ) → (number from : ℕ) → Option ℕ → Type 0
 IsNext numbers number from None = (place : ℕ) → from ≤ place → has_place numbers number place ≡ false
 IsNext numbers number from (Some next) = (from ≤ next) × (has_place numbers number next ≡ true) × ((place : ℕ) → from ≤ place → place < next → has_place numbers number place ≡ false)
 
@@ -26,21 +31,21 @@ module _ {Dir : Type 0} where
   is_of number None = false
   is_of number (Some r) = r.number == number
 
-  -- The places rise, and a number has exactly those at which a request of it waits.
-  abbrev pub AreKnown : BTreeSet (ℕ × ℕ) → BTreeMap ℕ (Request Dir) → Type 0
+  -- The places are in order, and a number has exactly those at which a request of it waits.
+  abbrev pub AreKnown : BTreeSet (Reverse ℕ × ℕ) → BTreeMap ℕ (Request Dir) → Type 0
   AreKnown numbers waiting = IsOrdered nat_cmp waiting × ((number place : ℕ) → has_place numbers number place ≡ is_of number (get nat_cmp waiting place))
 
   -- At each place the same number waits.
   abbrev pub KeepsNumbers : BTreeMap ℕ (Request Dir) → BTreeMap ℕ (Request Dir) → Type 0
   KeepsNumbers old new = (number place : ℕ) → is_of number (get nat_cmp new place) ≡ is_of number (get nat_cmp old place)
 
-  -- All wait before this place.
-  abbrev pub IsBehind : (place : ℕ) → BTreeMap ℕ (Request Dir) → Type 0
-  IsBehind place waiting = AllByRecursion (λ other. other < place) (keys waiting)
+  -- All wait below this place.
+  abbrev pub IsAbove : (place : ℕ) → BTreeMap ℕ (Request Dir) → Type 0
+  IsAbove place waiting = AllByRecursion (λ other. other < place) (keys waiting)
 
-  -- .. behind it
-  abbrev pub IsBefore : (place : ℕ) → BTreeMap ℕ (Request Dir) → Type 0
-  IsBefore place waiting = AllByRecursion (λ other. place < other) (keys waiting)
+  -- .. above it
+  abbrev pub IsBelow : (place : ℕ) → BTreeMap ℕ (Request Dir) → Type 0
+  IsBelow place waiting = AllByRecursion (λ other. place < other) (keys waiting)
 
   -- the requests by place, with a change of the one at this place
   abbrev pub changed_at : (place : ℕ) → (Request Dir → Request Dir) → List (ℕ × Request Dir) → List (ℕ × Request Dir)

@@ -1,23 +1,26 @@
 //! Requests for a final block's payload, in the order in which they came, each with the ancestry that it was fed.
 //!
-//! Each that waits has a place, and the places rise in the order of the requests. A tree has the requests by place, and a second one the
-//! places by number. So whatever is done to the requests of a number costs the logarithm of how many wait, for each of them.
+//! Each that waits has a place, and a tree has the requests by place, a second one the places by number. So whatever is done to the
+//! requests of a number costs the logarithm of how many wait, for each of them. A tree is looked through from its front, and what is done
+//! is mostly done to a new request, whose number mostly is the greatest: so places fall in the order of the requests, and the greatest
+//! number is the first.
 ghost use Rattle.std.specs.Prelude.{◌≡◌, ◌+◌, ◌^◌, ◌<◌, ◌++◌, ◌∷◌, [], OnOk, OnErr, IfOk, IfSome, IfNone, None, filter, length, map};
 ghost use Rattle.std.specs.BTreeMap.{IsOrdered, get, insert_entry, values};
 ghost use Rattle.std.specs.Ordering.{nat_cmp};
 ghost use Rattle.dkg_artifact.specs.Requested.{ended_for, fed_for, is_other};
-ghost use Rattle.dkg_artifact.specs.Places.{AreKnown, IsBefore, IsBehind, IsNext, changed_at, KeepsNumbers};
+ghost use Rattle.dkg_artifact.specs.Places.{AreKnown, IsAbove, IsBelow, IsNext, changed_at, KeepsNumbers};
 
 use dkg_ceremony::Mem;
 use dkg_infos::Directory;
 use dkg_types::Block;
 use dkg_values::{NoMemory, Value};
 use std::alloc::Global;
+use std::cmp::Reverse;
 use std::collections::{BTreeMap, BTreeSet};
 use std::marker::Model;
 use std::ops::Bound;
 
-/// The place of a request where no other waits. Later ones get places behind it, and those that are put back get places before it.
+/// The place of a request where no other waits. Later ones get places below it, and those that are put back get places above it.
 const MIDDLE: u64 = 1 << 63;
 
 /// Blocks in the order in which they were fed, each the parent of the one before.
@@ -100,28 +103,28 @@ impl<Dir: Directory + Drop> Request<Dir> {
 /// Requests that wait, the first first.
 #[derive(Drop)]
 pub struct Requests<Dir: Directory> {
-    /// By their places.
+    /// By their places, the newest first.
     waiting: BTreeMap<u64, Request<Dir>>,
-    /// The number and the place of each.
-    numbers: BTreeSet<(u64, u64)>,
+    /// The number and the place of each, the greatest number first.
+    numbers: BTreeSet<(Reverse<u64>, u64)>,
 }
 
 impl<Dir: Directory> Model for Requests<Dir> {
-    ghost use Rattle.std.specs.Prelude.{List};
+    ghost use Rattle.std.specs.Prelude.{List, reverse};
     ghost use Rattle.std.specs.BTreeMap.{values};
     ghost use Rattle.dkg_artifact.specs.Requested.{Request as Seen};
     ghost use Rattle.dkg_artifact.specs.Places.{AreKnown};
 
     ghost Value = { List (Seen Dir) };
 
-    ghost view = { λ r. values r.waiting };
+    ghost view = { λ r. reverse (values r.waiting) };
 
     ghost invariant = { λ r. AreKnown r.numbers r.waiting };
 }
 
-/// A place behind all of these. Where no number of 64 bits is left for one, it is as if memory ran out.
-fn behind<Dir: Directory>(waiting: &BTreeMap<u64, Request<Dir>>) -> Mem<u64>
-    ensures { IfOk result (λ place. IsBehind place waiting.now) }
+/// A place above all of these. Where no number of 64 bits is left for one, it is as if memory ran out.
+fn above<Dir: Directory>(waiting: &BTreeMap<u64, Request<Dir>>) -> Mem<u64>
+    ensures { IfOk result (λ place. IsAbove place waiting.now) }
 {
     let Some((last, _)) = waiting.last_key_value() else {
         return Ok(MIDDLE);
@@ -132,9 +135,9 @@ fn behind<Dir: Directory>(waiting: &BTreeMap<u64, Request<Dir>>) -> Mem<u64>
     }
 }
 
-/// .. before all of them
-fn before<Dir: Directory>(waiting: &BTreeMap<u64, Request<Dir>>) -> Mem<u64>
-    ensures { IfOk result (λ place. IsBefore place waiting.now) }
+/// .. below all of them
+fn below<Dir: Directory>(waiting: &BTreeMap<u64, Request<Dir>>) -> Mem<u64>
+    ensures { IfOk result (λ place. IsBelow place waiting.now) }
 {
     let Some((first, _)) = waiting.first_key_value() else {
         return Ok(MIDDLE);
@@ -148,7 +151,7 @@ fn before<Dir: Directory>(waiting: &BTreeMap<u64, Request<Dir>>) -> Mem<u64>
 /// Puts a request at a place where none waits. Where memory runs out all is as before.
 fn put<Dir: Directory + Drop>(
     waiting: &mut BTreeMap<u64, Request<Dir>>,
-    numbers: &mut BTreeSet<(u64, u64)>,
+    numbers: &mut BTreeSet<(Reverse<u64>, u64)>,
     place: u64,
     request: Request<Dir>,
 ) -> Mem<()>
@@ -158,7 +161,7 @@ fn put<Dir: Directory + Drop>(
     ensures err { OnErr result (waiting.new.entries ≡ waiting.old.entries) }
     ensures known { AreKnown numbers.new waiting.new }
 {
-    let pair = (request.number, place);
+    let pair = (Reverse(request.number), place);
     numbers.insert(pair)?;
     match waiting.insert(place, request) {
         Ok(_) => Ok(()),
@@ -170,23 +173,23 @@ fn put<Dir: Directory + Drop>(
 }
 
 /// The first place at which a request of a number waits.
-fn first_of(numbers: &BTreeSet<(u64, u64)>, number: u64) -> Option<u64>
+fn first_of(numbers: &BTreeSet<(Reverse<u64>, u64)>, number: u64) -> Option<u64>
     ensures { IsNext numbers.now number 0 result }
 {
-    match numbers.range((number, 0)..).next() {
-        Some(pair) if pair.0 == number => Some(pair.1),
+    match numbers.range((Reverse(number), 0)..).next() {
+        Some(pair) if pair.0.0 == number => Some(pair.1),
         _ => None,
     }
 }
 
 /// .. behind a place
-fn next_of(numbers: &BTreeSet<(u64, u64)>, number: u64, place: u64) -> Option<u64>
+fn next_of(numbers: &BTreeSet<(Reverse<u64>, u64)>, number: u64, place: u64) -> Option<u64>
     ensures next { IsNext numbers.now number (place + 1) result }
     ensures fits { place < 2 ^ 64 }
 {
-    let from = Bound::Excluded((number, place));
+    let from = Bound::Excluded((Reverse(number), place));
     match numbers.range((from, Bound::Unbounded)).next() {
-        Some(pair) if pair.0 == number => Some(pair.1),
+        Some(pair) if pair.0.0 == number => Some(pair.1),
         _ => None,
     }
 }
@@ -205,7 +208,7 @@ fn end_at<Dir: Directory>(waiting: &mut BTreeMap<u64, Request<Dir>>, place: u64,
 /// Ends the ancestry of each request of a number.
 fn end_each<Dir: Directory>(
     waiting: &mut BTreeMap<u64, Request<Dir>>,
-    numbers: &BTreeSet<(u64, u64)>,
+    numbers: &BTreeSet<(Reverse<u64>, u64)>,
     number: u64,
 )
     requires known { AreKnown numbers.now waiting.old }
@@ -241,7 +244,7 @@ fn feed_at<Dir: Directory + Drop>(
 fn feed_each<Dir: Directory + Drop>(
     alloc: Global,
     waiting: &mut BTreeMap<u64, Request<Dir>>,
-    numbers: &BTreeSet<(u64, u64)>,
+    numbers: &BTreeSet<(Reverse<u64>, u64)>,
     number: u64,
     block: &Block<Dir>,
 ) -> Mem<()>
@@ -260,7 +263,7 @@ fn feed_each<Dir: Directory + Drop>(
 /// Takes each request of a number away.
 fn remove_each<Dir: Directory + Drop>(
     waiting: &mut BTreeMap<u64, Request<Dir>>,
-    numbers: &mut BTreeSet<(u64, u64)>,
+    numbers: &mut BTreeSet<(Reverse<u64>, u64)>,
     number: u64,
 )
     requires known { AreKnown numbers.old waiting.old }
@@ -269,7 +272,7 @@ fn remove_each<Dir: Directory + Drop>(
 {
     while let Some(place) = first_of(numbers, number) {
         waiting.remove(&place);
-        numbers.remove(&(number, place));
+        numbers.remove(&(Reverse(number), place));
     }
 }
 
@@ -289,8 +292,8 @@ impl<Dir: Directory> Requests<Dir> {
         ensures first { IfSome result (λ request. self.old ≡ request ∷ self.new) }
         ensures none { IfNone result ((self.old ≡ []) × (self.new ≡ [])) }
     {
-        let (place, request) = self.waiting.pop_first()?;
-        self.numbers.remove(&(request.number, place));
+        let (place, request) = self.waiting.pop_last()?;
+        self.numbers.remove(&(Reverse(request.number), place));
         Some(request)
     }
 
@@ -315,7 +318,7 @@ impl<Dir: Directory + Drop> Requests<Dir> {
         ensures ok { OnOk result (self.new ≡ self.old ++ request ∷ []) }
         ensures err { OnErr result (self.new ≡ self.old) }
     {
-        let place = behind(&self.waiting)?;
+        let place = below(&self.waiting)?;
         put(&mut self.waiting, &mut self.numbers, place, request)
     }
 
@@ -325,7 +328,7 @@ impl<Dir: Directory + Drop> Requests<Dir> {
         ensures ok { OnOk result (self.new ≡ request ∷ self.old) }
         ensures err { OnErr result (self.new ≡ self.old) }
     {
-        let place = before(&self.waiting)?;
+        let place = above(&self.waiting)?;
         put(&mut self.waiting, &mut self.numbers, place, request)
     }
 

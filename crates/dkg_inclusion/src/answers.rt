@@ -20,7 +20,7 @@ use dkg_artifact::Artifact;
 use dkg_ceremony::encode;
 use dkg_infos::{AnswerLine, Directory, Entry, EpochInfo, Transcript, Why};
 use dkg_life::Stop;
-use dkg_secrets::NumberMap;
+use dkg_rising::RisingMap;
 use dkg_types::Payload;
 use dkg_values::{Blob, Mem, Shared, Value};
 use std::alloc::Global;
@@ -28,7 +28,7 @@ use std::alloc::Global;
 /// Tells that a request has no answer (`answers_none`).
 pub fn answer_none<Dir: Directory + Drop>(
     alloc: Global,
-    told: &mut NumberMap<Told<Dir>>,
+    told: &mut RisingMap<Told<Dir>>,
     request: u64,
     why: Why,
     out: &mut Transcript,
@@ -48,7 +48,7 @@ pub fn answer_none<Dir: Directory + Drop>(
 
 /// Keeps what a request was told (`with_told`).
 fn told_as<Dir: Directory + Drop>(
-    told: &mut NumberMap<Told<Dir>>,
+    told: &mut RisingMap<Told<Dir>>,
     request: u64,
     its: Told<Dir>,
 ) -> Mem<()>
@@ -62,7 +62,7 @@ fn told_as<Dir: Directory + Drop>(
 /// Keeps the log that a request was told, or that there was none.
 pub fn told_log<Dir: Directory + Drop>(
     alloc: Global,
-    told: &mut NumberMap<Told<Dir>>,
+    told: &mut RisingMap<Told<Dir>>,
     request: u64,
     payload: Option<Payload<Dir>>,
 ) -> Mem<()>
@@ -76,7 +76,7 @@ pub fn told_log<Dir: Directory + Drop>(
 /// Keeps the answer that a final-block request was told.
 fn told_info<Dir: Directory + Drop>(
     alloc: Global,
-    told: &mut NumberMap<Told<Dir>>,
+    told: &mut RisingMap<Told<Dir>>,
     request: u64,
     response: EpochInfoResponse<Dir>,
 ) -> Mem<()>
@@ -117,7 +117,7 @@ pub fn bytes_of<Dir: Directory + Drop>(
 /// Answers a request by an artifact (`answers`).
 pub(crate) fn answer<Dir: Directory + Drop>(
     alloc: Global,
-    told: &mut NumberMap<Told<Dir>>,
+    told: &mut RisingMap<Told<Dir>>,
     request: u64,
     artifact: &Artifact<Dir>,
     out: &mut Transcript,

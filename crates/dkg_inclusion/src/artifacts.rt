@@ -25,8 +25,8 @@ ghost use Rattle.dkg_inclusion.specs.InclusionOf.{artifact_of, cached_of, result
 use dkg_artifact::{Artifact, ArtifactCache, Verified, VerifiedLogs};
 use dkg_ceremony::{Ceremony, Output, Share};
 use dkg_infos::{Directory, EpochInfo, EpochOutcome, Fault, ParticipantsCause};
-use dkg_life::{Stop, Terms};
 use dkg_journal::Disk;
+use dkg_life::{Stop, Terms};
 use dkg_store::{Devices, SecretStore, Store};
 use dkg_types::ParticipantsProvider;
 use dkg_values::{Epoch, Key, Mem, NoMemory, Set, Value};

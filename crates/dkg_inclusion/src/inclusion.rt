@@ -10,7 +10,7 @@ use crate::told::Told;
 use dkg_artifact::{ArtifactCache, Request, Requests, Scan, Verification};
 use dkg_ceremony::Ceremony;
 use dkg_infos::Directory;
-use dkg_secrets::NumberMap;
+use dkg_rising::RisingMap;
 use dkg_values::{Height, Mem};
 use std::alloc::Global;
 
@@ -34,7 +34,7 @@ pub struct Inclusion<C: Ceremony, Dir: Directory> {
     /// The request that the running verification answers.
     pub waiter: Option<u64>,
     pub cache: ArtifactCache<Dir>,
-    pub told: NumberMap<Told<Dir>>,
+    pub told: RisingMap<Told<Dir>>,
 }
 
 impl<C: Ceremony + Drop, Dir: Directory + Drop> Inclusion<C, Dir> {
@@ -50,7 +50,7 @@ impl<C: Ceremony + Drop, Dir: Directory + Drop> Inclusion<C, Dir> {
             verification: Verification::new(),
             waiter: None,
             cache: ArtifactCache::new(),
-            told: NumberMap::new(alloc),
+            told: RisingMap::new(alloc),
         }
     }
 

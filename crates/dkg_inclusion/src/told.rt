@@ -3,7 +3,7 @@ ghost use Rattle.std.specs.Prelude.{◌≡◌, ◌↔◌, IfOk, IsTrue, OnErr, O
 ghost use Rattle.dkg_inclusion.specs.InclusionOf.{posted_in};
 
 use dkg_infos::{Directory, Why};
-use dkg_secrets::NumberMap;
+use dkg_rising::RisingMap;
 use dkg_types::Payload;
 use dkg_values::{Mem, Shared, Value};
 use std::alloc::Global;
@@ -93,7 +93,7 @@ impl<Dir: Directory + Drop> Value for Told<Dir> {
 }
 
 /// A request was made. One that has an answer keeps it, until it is told another.
-pub(crate) fn post<Dir: Directory + Drop>(told: &mut NumberMap<Told<Dir>>, request: u64) -> Mem<()>
+pub(crate) fn post<Dir: Directory + Drop>(told: &mut RisingMap<Told<Dir>>, request: u64) -> Mem<()>
     ensures done { OnOk result (told.new ≡ posted_in request told.old) }
     ensures same { OnErr result (told.new ≡ told.old) }
 {

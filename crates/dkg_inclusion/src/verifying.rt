@@ -40,9 +40,9 @@ use crate::told::Told;
 use dkg_artifact::{ArtifactCache, Dealings, Job, VerifiedLogs, verify_logs};
 use dkg_ceremony::{Ceremony, DealerLog, Round, finishes_agree};
 use dkg_infos::{Directory, Transcript};
-use dkg_life::{Life, Stop, Terms};
 use dkg_journal::Disk;
-use dkg_secrets::NumberMap;
+use dkg_life::{Life, Stop, Terms};
+use dkg_rising::RisingMap;
 use dkg_store::{Devices, SecretStore, Store};
 use dkg_types::ParticipantsProvider;
 use dkg_values::{Epoch, Height, Key, Map, Mem, Value};
@@ -204,7 +204,7 @@ pub(crate) fn answer_by<
     store: &mut Store<Dir>,
     devices: &mut Devices<'_, D, X>,
     cache: &mut ArtifactCache<Dir>,
-    told: &mut NumberMap<Told<Dir>>,
+    told: &mut RisingMap<Told<Dir>>,
     request: u64,
     verified: &VerifiedLogs<C>,
     out: &mut Transcript,

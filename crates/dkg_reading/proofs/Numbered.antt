@@ -1,6 +1,6 @@
 -- Numbers of blocks, and of requests, by their tests.
 use Rattle.std.proofs.Common.{◌≡◌, ℕ, ◌<◌, ◌==◌, Bool, true, false, ◌||◌, List, [], ◌∷◌, ◌++◌, Option, Some, is_some, cond, refl, sym, ◌∙◌, arith, nat_lt}
-use Rattle.std.specs.Prelude.{All, IsTrue, ◌↔◌}
+use Rattle.std.specs.Prelude.{All, IsTrue, ◌↔◌, ⊤}
 use Rattle.std.specs.List.{list_any}
 use Rattle.std.specs.Ordering.{is_eq, nat_cmp}
 use Rattle.std.proofs.lemmas.Bool.{and_parts, lt-ltb, ltb-true}
@@ -31,13 +31,13 @@ blocks_value false blocks ns is = by_case (are_blocks blocks ns) refl
     by_case true each = is.1 (are_all blocks ns each)
     by_case false other = refl
 
-same_test : (k q : ℕ) → is_eq (nat_cmp k q) ≡ (k == q)
+same_test : (k q : ℕ) → is_eq (nat_cmp q k) ≡ (k == q)
 same_test k q = grind (arith, nat_tests)
 
-pub added : (k q : ℕ) (o : Option ℕ) → is_some (cond (is_eq (nat_cmp k q)) (Some 0) o) ≡ (k == q || is_some o)
+pub added : (k q : ℕ) (o : Option ⊤) → is_some (cond (is_eq (nat_cmp q k)) (Some tt) o) ≡ (k == q || is_some o)
 added k q o = rw (same_test k q) (by_case (k == q))
   where
-    by_case : (b : Bool) → is_some (cond b (Some 0) o) ≡ (b || is_some o)
+    by_case : (b : Bool) → is_some (cond b (Some tt) o) ≡ (b || is_some o)
     by_case true = refl
     by_case false = refl
 

@@ -61,6 +61,7 @@ fn below(limit: u64, text: &[u8]) -> Option<u64>
     if value < limit { Some(value) } else { None }
 }
 
+#[inline(always)]
 fn parted(text: &[u8], at: u8) -> Option<(&[u8], &[u8])>
     ensures { MatchOption result (All (λ b. b ≢ at) text.now) (λ parts. IsCutAt at text.now parts.0.now parts.1.now) }
 {
@@ -69,6 +70,7 @@ fn parted(text: &[u8], at: u8) -> Option<(&[u8], &[u8])>
 }
 
 /// What stands before and after the first such byte.
+#[inline(always)]
 pub(crate) fn cut(text: &[u8], at: u8) -> Option<(&[u8], &[u8])>
     ensures value { MatchOption result (cut_of at text.now ≡ None) (λ parts. cut_of at text.now ≡ Some (parts.0.now, parts.1.now)) }
     ensures shorter { IfSome result (λ parts. length parts.1.now < length text.now) }
@@ -149,6 +151,7 @@ impl<'a> Fields<'a> {
     }
 
     /// The next field.
+    #[inline(always)]
     pub(crate) fn next(&mut self) -> Option<&'a [u8]>
         ensures { MatchOption result ((self.old ≡ []) × (self.new ≡ [])) (λ field. self.old ≡ field.now ∷ self.new) }
     {
@@ -332,6 +335,7 @@ fn one<T: Field>(alloc: Global, fields: &mut Fields<'_>) -> Mem<Option<T>>
 }
 
 /// What all fields spell.
+#[inline(always)]
 pub(crate) fn whole<T: Row + Drop>(alloc: Global, mut fields: Fields<'_>) -> Mem<Option<T>>
     ensures { IfOk result (λ made. made ≡ whole_of (T.spells fields.entry)) }
 {
@@ -360,6 +364,7 @@ impl Row for u64 {
 
     ghost spells = { field_row decimal_of };
 
+    #[inline]
     fn read(alloc: Global, fields: &mut Fields<'_>) -> Mem<Option<u64>> {
         one(alloc, fields)
     }
@@ -370,6 +375,7 @@ impl Row for Height {
 
     ghost spells = { field_row decimal_of };
 
+    #[inline]
     fn read(alloc: Global, fields: &mut Fields<'_>) -> Mem<Option<Height>> {
         one(alloc, fields)
     }
@@ -381,6 +387,7 @@ impl Row for u32 {
 
     ghost spells = { field_row (number_below (2 ^ 32)) };
 
+    #[inline]
     fn read(alloc: Global, fields: &mut Fields<'_>) -> Mem<Option<u32>> {
         one(alloc, fields)
     }
@@ -412,6 +419,7 @@ impl<A: Field + Drop, B: Field + Drop> Row for (A, B) {
 
     ghost spells = { two A.of B.of };
 
+    #[inline]
     fn read(alloc: Global, fields: &mut Fields<'_>) -> Mem<Option<(A, B)>> {
         let Some(first) = one(alloc, fields)? else {
             return Ok(None);

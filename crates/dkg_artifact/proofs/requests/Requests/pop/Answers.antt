@@ -8,5 +8,5 @@ pub invariant_of-self-2 : goal.invariant_of-self-2
 invariant_of-self-2 g c =
     let number = c.request.inside.number in
     let of_number = ap (is_of number) c.in_ok-place.ensures.value ∙ ap (λ (r : Request g.row.Dir.Denot). r.number == number) (sym c.request.view_is) ∙ same_self number in
-    known_taken c.self.inside.numbers c.self.inside.waiting c.self.invariant c.remove.new.self c.pop_first.new.self number c.in_ok-place.place of_number c.remove.ensures.updates.0
-    c.in_ok-place.ensures.updates.0 c.pop_first.ensures.ordered
+    known_taken c.self.inside.numbers c.self.inside.waiting c.self.invariant c.remove.new.self c.pop_last.new.self number c.in_ok-place.place of_number c.remove.ensures.updates.0
+    c.in_ok-place.ensures.updates.0 c.pop_last.ensures.ordered

@@ -1,14 +1,15 @@
-use Rattle.std.proofs.Common.{◌∙◌, ◌++◌, ◌∷◌, [], List, ap}
+use Rattle.std.proofs.Common.{◌∙◌, ◌++◌, ◌∷◌, [], List, ap, reverse}
+use Rattle.std.specs.BTreeMap.{values}
 use Rattle.std.specs.Map.{values_of}
 use Rattle.dkg_artifact.specs.Requested.{Request}
-use Rattle.dkg_artifact.proofs.Waiting.{free_behind, on_ok_as, values_behind}
+use Rattle.dkg_artifact.proofs.Waiting.{free_below, on_ok_as, reverse_cons, values_below}
 use Rattle.dkg_artifact.proofs.requests.Requests.push.Goals as goal
 
 pub put-requires-clause-free : goal.put-requires-clause-free
-put-requires-clause-free g c = free_behind c.self.inside.waiting.entries c.in_ok-place.place c.in_ok-place.ensures
+put-requires-clause-free g c = free_below c.self.inside.waiting.entries c.in_ok-place.place c.in_ok-place.ensures
 
 pub returns-clause-ok : goal.returns-clause-ok
 returns-clause-ok g c = on_ok_as c.put.result (λ is.
-    ap values_of is
-    ∙ values_behind c.self.inside.waiting.entries c.in_ok-place.place c.args.request c.in_ok-place.ensures
+    ap reverse (ap values_of is ∙ values_below c.self.inside.waiting.entries c.in_ok-place.place c.args.request c.in_ok-place.ensures)
+    ∙ reverse_cons c.args.request (values c.self.inside.waiting)
     ∙ ap (λ (l : List (Request g.row.Dir.Denot)). l ++ c.args.request ∷ []) c.self.view_is) c.put.ensures.ok

@@ -1,0 +1,13 @@
+use Rattle.std.proofs.Common.{◌∙◌, List, ap, map, reverse}
+use Rattle.std.specs.BTreeMap.{values}
+use Rattle.dkg_artifact.specs.Requested.{Request, fed_for}
+use Rattle.dkg_artifact.proofs.Waiting.{on_ok_as, reverse_map}
+use Rattle.dkg_artifact.proofs.requests.Requests.feed.Goals as goal
+
+pub returns : goal.returns
+returns g c = record {
+  ok = on_ok_as c.feed_each.result (λ is.
+      ap reverse is
+      ∙ reverse_map (fed_for c.args.number c.args.block.now) (values c.self.inside.waiting)
+      ∙ ap (λ (l : List (Request g.row.Dir.Denot)). map (fed_for c.args.number c.args.block.now) l) c.self.view_is) c.feed_each.ensures.values;
+}
