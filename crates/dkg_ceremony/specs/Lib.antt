@@ -2,6 +2,7 @@ pub mod AckLaws
 pub mod Acks
 pub mod Agreement
 pub mod AgreementTest
+pub mod Coefficients
 pub mod DealLaws
 pub mod Dealings
 pub mod Deals
@@ -35,6 +36,7 @@ pub mod ShareLaws
 pub mod SharingGrammar
 pub mod SharingLimits
 pub mod Sharings
+pub mod ShortRows
 pub mod SumLaws
 pub mod Thresholds
 pub mod ValidLogLaws

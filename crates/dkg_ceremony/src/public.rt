@@ -4,6 +4,7 @@
 ghost use Rattle.std.specs.Prelude.{◌≡◌, ◌↔◌, ℕ, ◌+◌, ◌*◌, ◌<◌, ◌≤◌, ◌^◌, ◌++◌, IfOk, IsTrue, OnErr, OnOk, length, slice_index, vec_len};
 ghost use Rattle.dkg_values.specs.Codec.{StandsInFront};
 ghost use Rattle.dkg_values.specs.Lists.{public_spelling, PublicFits};
+ghost use Rattle.dkg_ceremony.specs.Coefficients.{coefficients};
 ghost use Rattle.dkg_ceremony.specs.Publics.{IsPublic};
 
 use bytes::{BufMut, BytesMut};
@@ -14,20 +15,48 @@ use dkg_values::{
 use std::alloc::Global;
 use std::marker::Model;
 
+/// The most coefficients that lie beside the count of those that share them. With them that takes 24 bytes, which is the least that an allocation takes.
+const FEW: usize = 6;
+
+/// So many coefficients, and zeros behind them.
+#[derive(Debug, Drop)]
+struct Short {
+    count: u8,
+    elements: [Element; 6],
+}
+
+impl Model for Short {
+    ghost use Rattle.std.specs.Prelude.{List, ℕ, ◌≤◌, take};
+
+    ghost Value = { List ℕ };
+
+    ghost view = { λ s. take s.count s.elements };
+
+    ghost invariant = { λ s. s.count ≤ 6 };
+}
+
+/// Where the coefficients lie: few of them in their place, and many apart.
+#[derive(Debug, Drop)]
+enum Form {
+    Few(Short),
+    Many(Shared<Vec<Element>>),
+}
+
 /// The coefficients of a polynomial, from the constant one on: at least one and fewer than 2^32, which contracts see as a list. They lie apart, in memory that copies share.
 #[derive(Debug, Drop)]
-pub struct Public(Shared<Vec<Element>>);
+pub struct Public(Shared<Form>);
 
 impl Model for Public {
     ghost use Rattle.std.specs.Prelude.{List, ℕ};
 
     ghost Value = { List ℕ };
 
+    ghost use Rattle.dkg_ceremony.specs.Coefficients.{coefficients};
     ghost use Rattle.dkg_ceremony.specs.Publics.{IsPublic};
 
-    ghost view = { λ p. p.0.items };
+    ghost view = { λ p. coefficients p.0 };
 
-    ghost invariant = { λ p. IsPublic p.0.items };
+    ghost invariant = { λ p. IsPublic (coefficients p.0) };
 }
 
 /// Each element is below 65,521: to know it, each is read.
@@ -39,12 +68,90 @@ fn known(elements: &[Element])
     }
 }
 
+fn zero() -> Element
+    ensures { result ≡ 0 }
+{
+    match Element::new(0) {
+        Some(element) => element,
+        None => unreachable!(),
+    }
+}
+
+/// The element at a place, and zero behind the last.
+#[tactic(auto, using(std::proofs::lemmas::List::get_or_past))]
+fn coefficient(elements: &[Element], place: usize) -> Element
+    ensures { result ≡ slice_index elements.now place }
+{
+    if place < elements.len() {
+        elements[place]
+    } else {
+        zero()
+    }
+}
+
+impl Short {
+    fn of(elements: &[Element]) -> Short
+        requires { length elements.now ≤ 6 }
+        ensures { result ≡ elements.now }
+    {
+        Short {
+            count: elements.len() as u8,
+            elements: [
+                coefficient(elements, 0),
+                coefficient(elements, 1),
+                coefficient(elements, 2),
+                coefficient(elements, 3),
+                coefficient(elements, 4),
+                coefficient(elements, 5),
+            ],
+        }
+    }
+
+    fn as_slice(&self) -> &[Element]
+        ensures items { result.now ≡ self.now }
+        ensures few { length result.now ≤ 6 }
+    {
+        let (elements, _zeros) = self.elements.split_at(self.count as usize);
+        elements
+    }
+}
+
+impl Form {
+    fn of(alloc: Global, elements: Vec<Element>) -> Mem<Form>
+        ensures { IfOk result (λ form. coefficients form ≡ elements.items) }
+    {
+        if elements.len() <= FEW {
+            return Ok(Form::Few(Short::of(&elements)));
+        }
+        Ok(Form::Many(Shared::of(alloc, elements)?))
+    }
+
+    fn as_slice(&self) -> &[Element]
+        ensures { result.now ≡ coefficients self.now }
+    {
+        match self {
+            Form::Few(short) => short.as_slice(),
+            Form::Many(elements) => elements.get().as_slice(),
+        }
+    }
+}
+
+/// The polynomial of coefficients that lie somewhere.
+fn formed(form: Shared<Form>) -> Public
+    requires { IsPublic (coefficients form) }
+    ensures { result ≡ coefficients form }
+{
+    Public(form)
+}
+
 /// The polynomial of these coefficients.
 fn public_of(alloc: Global, elements: Vec<Element>) -> Mem<Public>
     requires { IsPublic elements.items }
     ensures { IfOk result (λ made. made ≡ elements.items) }
 {
-    Ok(Public(Shared::of(alloc, elements)?))
+    let lying = Form::of(alloc, elements)?;
+    let form = Shared::of(alloc, lying)?;
+    Ok(formed(form))
 }
 
 /// Whether both are the same coefficients.
@@ -107,7 +214,8 @@ impl Public {
 
 impl Value for Public {
     fn copy(&self, _alloc: Global) -> Mem<Public> {
-        Ok(Public(self.0.share()?))
+        let form = self.0.share()?;
+        Ok(formed(form))
     }
 
     fn same(&self, other: &Public) -> bool {
