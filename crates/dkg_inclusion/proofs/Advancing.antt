@@ -8,7 +8,7 @@ use Rattle.dkg_core.specs.Courses.{Course, Goes, bind}
 use Rattle.dkg_core.specs.Fixed.{Fixed}
 use Rattle.dkg_core.specs.Including.{Fed, Need, Found, Lacks, advances, advanced, fed, is_need, read_of, reads_first, reads_first_in}
 use Rattle.dkg_core.specs.Live.{Live, Stage, Deals, Includes, Follows, Ends, Request, Job, with_queue}
-use Rattle.dkg_inclusion.specs.Including.{answers_first, behind_first, goes_on, reads_next}
+use Rattle.dkg_verifying.specs.Including.{answers_first, behind_first, goes_on, reads_next}
 use Rattle.dkg_life.proofs.Offered.{bind_again, bind_goes}
 
 module _ {Dir : Type 0} (c : Fixed Dir) where

@@ -14,18 +14,18 @@ use Rattle.dkg_core.specs.Fixed.{Fixed}
 use Rattle.dkg_core.specs.Including as including
 use Rattle.dkg_core.specs.Live as core
 use Rattle.dkg_core.specs.Live.{Live}
-use Rattle.dkg_inclusion.specs.declared.inclusion.Hand.{Hand}
-use Rattle.dkg_inclusion.specs.declared.inclusion.Inclusion.{Inclusion}
+use Rattle.dkg_verifying.specs.declared.inclusion.Hand.{Hand}
+use Rattle.dkg_verifying.specs.declared.inclusion.Inclusion.{Inclusion}
 use Rattle.dkg_life.specs.declared.life.Life.{Life}
 use Rattle.dkg_life.specs.declared.life.Stage.{Stage}
 use Rattle.dkg_life.specs.declared.life.Stage.TheVariants.{Dealing, Including, Following}
-use Rattle.dkg_inclusion.specs.declared.told.Told.{Told}
-use Rattle.dkg_inclusion.specs.Including.{unless_of}
-use Rattle.dkg_inclusion.specs.InclusionOf.{IsInHand, IsReadyInclusion, IsSeen, IsSettledInclusion, posted_in}
+use Rattle.dkg_verifying.specs.declared.told.Told.{Told}
+use Rattle.dkg_verifying.specs.Including.{unless_of}
+use Rattle.dkg_verifying.specs.InclusionOf.{IsInHand, IsReadyInclusion, IsSeen, IsSettledInclusion, posted_in}
 use Rattle.dkg_life.specs.LiveOf.{Beside, live_of, stage_of}
 use Rattle.dkg_life.specs.Rules.{CheckLogOf, DealingOf, FinishOf}
 use Rattle.dkg_inclusion.proofs.Asking.{seen_more, seen_others, seen_posted}
-use Rattle.dkg_inclusion.proofs.Included.{ready_as, seen_as}
+use Rattle.dkg_verifying.proofs.Included.{ready_as, seen_as}
 
 -- IT IS MADE
 

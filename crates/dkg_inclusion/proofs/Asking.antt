@@ -32,27 +32,27 @@ use Rattle.dkg_core.specs.Including as including
 use Rattle.dkg_core.specs.Including.{advanced, advances, asks_for}
 use Rattle.dkg_core.specs.Live as core
 use Rattle.dkg_core.specs.Live.{Live, with_told}
-use Rattle.dkg_inclusion.specs.declared.inclusion.Hand.{Hand}
-use Rattle.dkg_inclusion.specs.declared.inclusion.Inclusion.{Inclusion}
+use Rattle.dkg_verifying.specs.declared.inclusion.Hand.{Hand}
+use Rattle.dkg_verifying.specs.declared.inclusion.Inclusion.{Inclusion}
 use Rattle.dkg_life.specs.declared.life.Life.{Life}
 use Rattle.dkg_life.specs.declared.life.Stage.TheVariants as stage
 use Rattle.dkg_life.specs.declared.stop.Stop.{Stop}
-use Rattle.dkg_inclusion.specs.declared.told.EpochInfoResponse.TheVariants.{Available}
-use Rattle.dkg_inclusion.specs.declared.told.Told.{Told}
-use Rattle.dkg_inclusion.specs.declared.told.Told.TheVariants.{Info}
+use Rattle.dkg_verifying.specs.declared.told.EpochInfoResponse.TheVariants.{Available}
+use Rattle.dkg_verifying.specs.declared.told.Told.{Told}
+use Rattle.dkg_verifying.specs.declared.told.Told.TheVariants.{Info}
 use Rattle.dkg_life.specs.Ends.{by_stop, ends_in}
-use Rattle.dkg_inclusion.specs.Including.{EndsCaching, behind_first, caching, fed_of, goes_on, on_fed, reads_next, telling, unless_of}
-use Rattle.dkg_inclusion.specs.InclusionOf.{IsSeen, answer_or, artifact_of, cached_of, in_front, job_of, kept_of, posted_in, request_of, result_of}
+use Rattle.dkg_verifying.specs.Including.{EndsCaching, behind_first, caching, fed_of, goes_on, on_fed, reads_next, telling, unless_of}
+use Rattle.dkg_verifying.specs.InclusionOf.{IsSeen, answer_or, artifact_of, cached_of, in_front, job_of, kept_of, posted_in, request_of, result_of}
 use Rattle.dkg_life.specs.LiveOf.{Beside, EndsWith, live_of, stage_of}
 use Rattle.dkg_life.specs.Made.{Makes, Tells}
 use Rattle.dkg_inclusion.proofs.Advancing.{ReadsFirst, Waits, WaitsBy, advances_next, advances_over, goes_by, next_is, waits_advances, waits_next}
 use Rattle.dkg_life.proofs.Burning.{makes_nothing}
 use Rattle.dkg_life.proofs.Chained.{early_makes, early_told, then_makes, then_told}
 use Rattle.dkg_life.proofs.Committing.{goes_told}
-use Rattle.dkg_inclusion.proofs.Keeping.{cached_none, cached_some, kept_none, kept_some}
+use Rattle.dkg_verifying.proofs.Keeping.{cached_none, cached_some, kept_none, kept_some}
 use Rattle.dkg_inclusion.proofs.Requesting.{seen_queue}
-use Rattle.dkg_inclusion.proofs.Telling.{ends_with, got_then, seen_told}
-use Rattle.dkg_inclusion.proofs.Within.{NoMore}
+use Rattle.dkg_verifying.proofs.Telling.{ends_with, got_then, seen_told}
+use Rattle.dkg_verifying.proofs.Within.{NoMore}
 
 -- COURSES THAT WERE MADE, over devices or by their lines alone
 

@@ -21,16 +21,16 @@ use Rattle.dkg_core.specs.Fixed.{Fixed}
 use Rattle.dkg_core.specs.Including as including
 use Rattle.dkg_core.specs.Live as core
 use Rattle.dkg_core.specs.Live.{Live, Includes}
-use Rattle.dkg_inclusion.specs.declared.inclusion.Hand.{Hand}
-use Rattle.dkg_inclusion.specs.declared.inclusion.Inclusion.{Inclusion}
+use Rattle.dkg_verifying.specs.declared.inclusion.Hand.{Hand}
+use Rattle.dkg_verifying.specs.declared.inclusion.Inclusion.{Inclusion}
 use Rattle.dkg_life.specs.declared.life.Life.{Life}
 use Rattle.dkg_life.specs.declared.life.Stage.{Stage}
 use Rattle.dkg_life.specs.declared.life.Stage.TheVariants as stage
-use Rattle.dkg_inclusion.specs.Including.{IsHandOf, behind_answer, ends_hand, fed_of, feeds_hand, goes_on}
-use Rattle.dkg_inclusion.specs.InclusionOf.{IsInHand, IsReadyInclusion, IsSeen, IsSettledInclusion, in_front, job_of, request_of, tip_of}
+use Rattle.dkg_verifying.specs.Including.{IsHandOf, behind_answer, ends_hand, fed_of, feeds_hand, goes_on}
+use Rattle.dkg_verifying.specs.InclusionOf.{IsInHand, IsReadyInclusion, IsSeen, IsSettledInclusion, in_front, job_of, request_of, tip_of}
 use Rattle.dkg_life.specs.LiveOf.{Beside, IsPlaced, awaited_of, live_of, stage_of}
 use Rattle.dkg_life.specs.Rules.{CheckLogOf, DealingOf, FinishOf}
-use Rattle.dkg_inclusion.specs.Scanned.{IsFed, fed_all}
+use Rattle.dkg_verifying.specs.Scanned.{IsFed, fed_all}
 use Rattle.dkg_inclusion.proofs.Advancing.{ReadsFirst, Waits, WaitsBy, goes_as, waits_advances}
 use Rattle.dkg_inclusion.proofs.Scans.{closed_by, fed_behind, feeds_awaits, read_is, read_more, read_on, read_short}
 

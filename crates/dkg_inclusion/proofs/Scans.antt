@@ -27,9 +27,9 @@ use Rattle.dkg_core.specs.Including.{Fed, Need, Found, Lacks}
 use Rattle.dkg_core.specs.Live.{Live}
 use Rattle.dkg_core.specs.Logs.{filled_by, is_accepted}
 use Rattle.dkg_core.specs.Sources as placed
-use Rattle.dkg_inclusion.specs.Including.{fed_of}
-use Rattle.dkg_inclusion.specs.InclusionOf.{tip_of}
-use Rattle.dkg_inclusion.specs.Scanned.{IsFed, fed_all}
+use Rattle.dkg_verifying.specs.Including.{fed_of}
+use Rattle.dkg_verifying.specs.InclusionOf.{tip_of}
+use Rattle.dkg_verifying.specs.Scanned.{IsFed, fed_all}
 
 -- BLOCKS, ONE BEHIND ANOTHER
 

@@ -16,22 +16,22 @@ use Rattle.dkg_artifact.specs.declared.scan.Fed.TheVariants as fed
 use Rattle.dkg_store.specs.declared.devices.Devices.{Devices}
 use Rattle.dkg_core.specs.Fixed.{Fixed}
 use Rattle.dkg_life.specs.declared.config.Terms.{Terms}
-use Rattle.dkg_inclusion.specs.declared.inclusion.Hand.{Hand}
-use Rattle.dkg_inclusion.specs.declared.inclusion.Inclusion.{Inclusion}
+use Rattle.dkg_verifying.specs.declared.inclusion.Hand.{Hand}
+use Rattle.dkg_verifying.specs.declared.inclusion.Inclusion.{Inclusion}
 use Rattle.dkg_life.specs.declared.life.Life.{Life}
 use Rattle.dkg_life.specs.declared.life.Stage.TheVariants as stage
 use Rattle.dkg_life.specs.declared.stop.Stop.{Stop}
 use Rattle.dkg_life.specs.declared.stop.Stop.TheVariants.{Fault as Faulted}
-use Rattle.dkg_inclusion.specs.declared.told.Told.{Told}
+use Rattle.dkg_verifying.specs.declared.told.Told.{Told}
 use Rattle.dkg_life.specs.Ready.{IsReadyLife}
 use Rattle.dkg_life.specs.Ends.{IsCaused}
-use Rattle.dkg_inclusion.specs.Including.{behind_answer}
-use Rattle.dkg_inclusion.specs.InclusionOf.{IsReadyInclusion, IsRunnable, IsSettledInclusion, tip_of}
+use Rattle.dkg_verifying.specs.Including.{behind_answer}
+use Rattle.dkg_verifying.specs.InclusionOf.{IsReadyInclusion, IsRunnable, IsSettledInclusion, tip_of}
 use Rattle.dkg_life.specs.LiveOf.{IsPlaced, awaited_of}
 use Rattle.dkg_life.specs.Moved.{IsFirm}
 use Rattle.dkg_life.proofs.Blamed.{caused_more}
 use Rattle.dkg_life.specs.Rules.{AckOf, CheckAckOf, CheckLogOf, DealOf, DealingOf, FinishOf, IncludesBy, OutcomeOf, SameProvided}
-use Rattle.dkg_inclusion.specs.Scanned.{IsFed}
+use Rattle.dkg_verifying.specs.Scanned.{IsFed}
 
 -- A life on devices whose disk is as it was.
 pub ready_on : {Dir D X : Type 0} (tells : Bool) (files : D → Files) (image : D → Files → Type 0) (ack_of : AckOf) (deal_of : DealOf) (check_ack_of : CheckAckOf) (terms : Terms) (old new : Life Dir) (before now : Devices D X)

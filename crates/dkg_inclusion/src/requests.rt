@@ -15,15 +15,11 @@ ghost use Rattle.dkg_life.specs.LiveOf.{Beside, EndsWith, live_of};
 ghost use Rattle.dkg_life.specs.Made.{Makes, Tells};
 ghost use Rattle.dkg_life.specs.Moved.{Moved};
 ghost use Rattle.dkg_life.specs.Rules.{IncludesBy, IsRuledBy};
-ghost use Rattle.dkg_inclusion.specs.Including.{EndsHand, FeedsHand, IsHandOf, behind_answer, fed_of, goes_on, unless_of};
-ghost use Rattle.dkg_inclusion.specs.InclusionOf.{IsReadyInclusion, IsSeen, IsSettledInclusion, result_of};
-ghost use Rattle.dkg_inclusion.specs.Looks.{OnlyLooks};
+ghost use Rattle.dkg_verifying.specs.Including.{EndsHand, FeedsHand, IsHandOf, behind_answer, fed_of, goes_on, unless_of};
+ghost use Rattle.dkg_verifying.specs.InclusionOf.{IsReadyInclusion, IsSeen, IsSettledInclusion, result_of};
+ghost use Rattle.dkg_verifying.specs.Looks.{OnlyLooks};
 
-use crate::answers::answer_none;
-use crate::inclusion::Inclusion;
 use crate::scanning::{advance, take_answer};
-use crate::told::post;
-use crate::verifying::end_verifying;
 use dkg_artifact::{Fed, Path, Request, VerifiedLogs};
 use dkg_ceremony::Ceremony;
 use dkg_infos::{Directory, Transcript, Why};
@@ -32,6 +28,7 @@ use dkg_life::{Life, Stage, Stop, Terms};
 use dkg_store::{Devices, SecretStore};
 use dkg_types::{Block, ParticipantsProvider};
 use dkg_values::Mem;
+use dkg_verifying::{Inclusion, answer_none, end_verifying, post};
 use std::alloc::Global;
 
 /// Puts a request behind those that wait (`queued`).

@@ -19,14 +19,11 @@ ghost use Rattle.dkg_life.specs.Moved.{Moved};
 ghost use Rattle.dkg_life.specs.Rules.{IncludesBy, IsRuledBy};
 ghost use Rattle.dkg_life.specs.Steps.{AreBoundsAt};
 ghost use Rattle.dkg_life.specs.declared.life.Stage.TheVariants.{Including};
-ghost use Rattle.dkg_inclusion.specs.Including.{fed_of, behind_first, on_fed, reads_next};
-ghost use Rattle.dkg_inclusion.specs.Scanned.{IsFed, fed_all};
-ghost use Rattle.dkg_inclusion.specs.InclusionOf.{IsReadyInclusion, IsSeen, IsSettledInclusion, request_of, tip_of};
-ghost use Rattle.dkg_inclusion.specs.Looks.{OnlyLooks};
+ghost use Rattle.dkg_verifying.specs.Including.{fed_of, behind_first, on_fed, reads_next};
+ghost use Rattle.dkg_verifying.specs.Scanned.{IsFed, fed_all};
+ghost use Rattle.dkg_verifying.specs.InclusionOf.{IsReadyInclusion, IsSeen, IsSettledInclusion, request_of, tip_of};
+ghost use Rattle.dkg_verifying.specs.Looks.{OnlyLooks};
 
-use crate::answers::{answer, answer_none};
-use crate::inclusion::{Hand, Inclusion};
-use crate::verifying::{answer_by, canonical, start_verifying};
 use dkg_artifact as artifact;
 use dkg_artifact::{Fed, Request, Scan};
 use dkg_ceremony::{Bounds, Ceremony, DealerLog, Epocher, Round};
@@ -36,6 +33,7 @@ use dkg_life::{Life, Stage, Stop, Terms, Tip, awaited};
 use dkg_store::{Devices, SecretStore};
 use dkg_types::ParticipantsProvider;
 use dkg_values::{Map, Mem, NoMemory, Value};
+use dkg_verifying::{Hand, Inclusion, answer, answer_by, answer_none, canonical, start_verifying};
 use std::alloc::Global;
 
 /// The bounds of the epoch that is awaited while inclusion lasts.

@@ -17,8 +17,8 @@ use Rattle.dkg_artifact.specs.declared.scan.Fed as declared
 use Rattle.dkg_artifact.specs.declared.scan.Fed.TheVariants as answer
 use Rattle.dkg_artifact.specs.declared.scan.Tip.{Tip}
 use Rattle.dkg_artifact.proofs.Standing.{begun, feed_says}
-use Rattle.dkg_inclusion.specs.Scanned.{fed_all}
-use Rattle.dkg_inclusion.specs.InclusionOf.{tip_of}
+use Rattle.dkg_verifying.specs.Scanned.{fed_all}
+use Rattle.dkg_verifying.specs.InclusionOf.{tip_of}
 use Rattle.dkg_inclusion.proofs.Scans.{closed_by, fed_done, read_is}
 use Rattle.dkg_core.specs.Fixed.{Fixed}
 use Rattle.dkg_core.specs.Including.{Fed, Need, Found, Lacks, final_height, read_of}

@@ -16,7 +16,7 @@ use Rattle.dkg_types.specs.PayloadCodes.{its_log}
 use Rattle.dkg_infos.specs.declared.directory.Unit as directory
 use Rattle.dkg_artifact.specs.Scans.{above}
 use Rattle.dkg_artifact.specs.declared.scan.Tip.{Tip}
-use Rattle.dkg_inclusion.specs.InclusionOf.{tip_of}
+use Rattle.dkg_verifying.specs.InclusionOf.{tip_of}
 use Rattle.dkg_text.specs.declared.script.Event.{Event}
 use Rattle.dkg_text.specs.declared.script.Event.TheVariants as event
 use Rattle.dkg_store.specs.Acts.{Held}

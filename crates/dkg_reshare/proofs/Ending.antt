@@ -6,7 +6,7 @@ use Rattle.dkg_life.specs.declared.config.Terms.{Terms}
 use Rattle.dkg_life.specs.Rules.{AckOf, CheckAckOf, DealOf}
 use Rattle.dkg_reshare.specs.declared.actor.State.{State}
 use Rattle.dkg_reshare.specs.declared.actor.State.TheVariants.{New, Living, Failed as HadFailed}
-use Rattle.dkg_inclusion.specs.declared.inclusion.Inclusion.{Inclusion}
+use Rattle.dkg_verifying.specs.declared.inclusion.Inclusion.{Inclusion}
 use Rattle.dkg_life.specs.declared.life.Life.{Life}
 use Rattle.dkg_life.specs.declared.stop.Stop.{Stop}
 use Rattle.dkg_life.specs.Ready.{IsReadyLife}

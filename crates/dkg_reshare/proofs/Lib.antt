@@ -1,14 +1,3 @@
-pub mod Alike
-pub mod Answering
-pub mod Applied
-pub mod Applying
-pub mod Blaming
-pub mod Concluding
 pub mod Ending
-pub mod Logged
-pub mod Observed
-pub mod PassingOn
-pub mod Readying
-pub mod Standing
 pub mod Stopping
 pub mod Taking

@@ -5,7 +5,7 @@ use Rattle.dkg_life.specs.declared.stop.Stop.{Stop}
 use Rattle.dkg_life.specs.declared.stop.Stop.TheVariants.{Cut, Failed, Fault as Faulted}
 use Rattle.dkg_reshare.specs.declared.actor.State.{State}
 use Rattle.dkg_reshare.specs.declared.actor.State.TheVariants.{Living}
-use Rattle.dkg_inclusion.specs.declared.inclusion.Inclusion.{Inclusion}
+use Rattle.dkg_verifying.specs.declared.inclusion.Inclusion.{Inclusion}
 use Rattle.dkg_life.specs.declared.life.Life.{Life}
 use Rattle.dkg_reshare.specs.Actors.{HasFailed, IfIncluding}
 use Rattle.dkg_life.specs.Ends.{IsCausedBy, IsCausedInStep}

@@ -24,7 +24,7 @@ use Rattle.dkg_life.specs.declared.life.Stage.TheVariants.{Dealing, Including, F
 use Rattle.dkg_life.specs.declared.tip.Judged.{Judged}
 use Rattle.dkg_life.specs.declared.tip.Judged.TheVariants.{New, Again}
 use Rattle.dkg_life.specs.declared.stop.Stop.TheVariants.{Fault as Faulted}
-use Rattle.dkg_reshare.specs.Actors.{IsApplied, is_early_in, is_in_window_by}
+use Rattle.dkg_blocks.specs.Applied.{IsApplied, is_early_in, is_in_window_by}
 use Rattle.dkg_life.specs.Ends.{IsCaused, by_stop, cause_in}
 use Rattle.dkg_life.specs.Judged.{judged, judged_over}
 use Rattle.dkg_life.specs.LiveOf.{Beside, live_of, stage_of}

@@ -1,20 +1,14 @@
 -- An actor between two calls, by its state.
-use Rattle.std.specs.Prelude.{List, ◌≡◌, ◌==◌, ◌&&◌, not, nat_lt, ℕ, ⊤, Option, None, Bool, true, Result, Ok, Err, IsErrOf, IsTrue}
+use Rattle.std.specs.Prelude.{List, ◌≡◌, ℕ, Option, None, Bool, Result, Ok, Err, IsErrOf, IsTrue, ⊤}
 use Rattle.std.specs.declared.num.NonZeroU32.{NonZeroU32}
 use Rattle.std.specs.declared.num.NonZeroU64.{NonZeroU64}
-use Rattle.dkg_ceremony.specs.Schedule.{epoch_of, midpoint}
 use Rattle.dkg_ceremony.specs.declared.mode.Mode.{Mode}
 use Rattle.dkg_ceremony.specs.declared.mode.ModeVersion.{ModeVersion}
 use Rattle.dkg_ceremony.specs.declared.mode.Reveal.{Reveal}
-use Rattle.dkg_journal.specs.DeviceCall.{DeviceCall}
 use Rattle.dkg_journal.specs.Names.{Files}
-use Rattle.dkg_journal.specs.declared.disk.Op.{Op}
 use Rattle.dkg_store.specs.Acts.{Ended, went, broken, by_want, held_in}
 use Rattle.dkg_secrets.specs.Secrets.{Secrets}
-use Rattle.dkg_secrets.specs.declared.secrets.SecretOp.{SecretOp}
-use Rattle.dkg_store.specs.Corrupt.{AreFit}
 use Rattle.dkg_store.specs.declared.devices.Devices.{Devices}
-use Rattle.dkg_types.specs.Blocks.{Block}
 use Rattle.dkg_infos.specs.declared.fault.Fault.{Fault}
 use Rattle.dkg_core.specs.Agreeing.{AreAgreed}
 use Rattle.dkg_core.specs.Live as core
@@ -22,23 +16,18 @@ use Rattle.dkg_core.specs.Live.{Live, Sent}
 use Rattle.dkg_reshare.specs.declared.actor.State.{State}
 use Rattle.dkg_reshare.specs.declared.actor.State.TheVariants.{New, Living, Failed as HadFailed}
 use Rattle.dkg_life.specs.declared.config.Terms.{Terms}
-use Rattle.dkg_inclusion.specs.declared.inclusion.Inclusion.{Inclusion}
+use Rattle.dkg_verifying.specs.declared.inclusion.Inclusion.{Inclusion}
 use Rattle.dkg_life.specs.declared.life.Life.{Life}
-use Rattle.dkg_life.specs.declared.life.Stage.{Stage}
-use Rattle.dkg_life.specs.declared.life.Stage.TheVariants as stage
 use Rattle.dkg_reshare.specs.declared.message.Message.{Message}
 use Rattle.dkg_reshare.specs.declared.message.Message.TheVariants as message
 use Rattle.dkg_life.specs.declared.stop.Stop.{Stop}
-use Rattle.dkg_inclusion.specs.declared.told.Told.{Told}
+use Rattle.dkg_verifying.specs.declared.told.Told.{Told}
 use Rattle.dkg_artifact.specs.declared.job.Job.{Job}
 use Rattle.std.specs.FinMap as maps
 use Rattle.dkg_life.specs.declared.stop.Stop.TheVariants.{Failed}
 use Rattle.dkg_life.specs.Ends.{by_stop}
-use Rattle.dkg_life.specs.declared.tip.Judged.TheVariants.{New as IsNewBlock}
-use Rattle.dkg_reshare.specs.CarriedLogs.{CarriesWithin}
-use Rattle.dkg_life.specs.Judged.{judged}
+use Rattle.dkg_blocks.specs.CarriedLogs.{CarriesWithin}
 use Rattle.dkg_life.specs.LiveOf.{records_of}
-use Rattle.dkg_life.specs.Moved.{Moved}
 use Rattle.dkg_life.specs.Ready.{IsReadyLife}
 use Rattle.dkg_life.specs.Rules.{AckOf, DealOf, CheckAckOf, SameProvided}
 
@@ -119,13 +108,6 @@ pub record ActorStays {C Dir Signer Cfg : Type 0} (old new : State C Dir Signer 
   pub rest : same
   pub provider : IsTrue tells → SameProvided participants participants_now directory directory_now
 
--- .. and of a life and its devices over a part of a step: its random word, what is lent, and that no record which a crash leaves is out of its grammar, or past this limit.
-pub record MovesOn {D X Dir : Type 0} (was now : Life Dir) (tells : Bool) (made_disk : D → D → List (DeviceCall Op) → Type 0) (made_secrets : X → X → List (DeviceCall SecretOp) → Type 0)
-    (disk_faults : D → ℕ) (secret_faults : X → ℕ) (image : D → Files → Type 0) (limit : ℕ) (old new : Devices D X) : Type 0 where
-  pub word : now.word ≡ was.word
-  pub moved : Moved tells made_disk made_secrets disk_faults secret_faults old new
-  pub fit : IsTrue tells → AreFit limit (image old.disk.now) → AreFit limit (image new.disk.now)
-
 -- MESSAGES
 
 abbrev pub message_of : {Dir Cfg : Type 0} → Message Dir Cfg → core.Message Dir
@@ -143,21 +125,6 @@ message_of message.Work = Sent (core.Work None)
 abbrev pub BringsWithin : {Dir Cfg : Type 0} → (limit : ℕ) → Message Dir Cfg → Type 0
 BringsWithin limit (message.Finalized b) = CarriesWithin limit b
 BringsWithin limit its = ⊤
-
--- A life without a tip takes a block of its epoch and window, and any while it follows.
-abbrev pub is_in_window_by : Stage → (of_epoch early : Bool) → Bool
-is_in_window_by stage.Dealing of_epoch early = of_epoch && early
-is_in_window_by stage.Including of_epoch early = of_epoch && not early
-is_in_window_by stage.Following of_epoch early = true
-
--- a block below the midpoint of its epoch
-abbrev pub is_early_in : (blocks height : ℕ) → Bool
-is_early_in blocks height = nat_lt height (midpoint blocks (epoch_of blocks height))
-
--- The block is applied: it is new over the tip, or without one in the window.
-pub record IsApplied {Dir : Type 0} (blocks : ℕ) (life : Life Dir) (b : Block Dir) : Type 0 where
-  pub is_new : judged life.tip b.height b.digest b.parent ≡ Ok IsNewBlock
-  pub in_window : life.tip ≡ None → is_in_window_by life.stage (epoch_of blocks b.height == life.epoch) (is_early_in blocks b.height) ≡ true
 
 -- TERMS
 

@@ -19,24 +19,26 @@ ghost use Rattle.dkg_life.specs.Moved.{Moved, StaysAbove};
 ghost use Rattle.dkg_life.specs.Opened.{IsInGrammar, IsOpeningOf, OpensReadable, epoch_at};
 ghost use Rattle.dkg_life.specs.Rules.{IncludesBy, IsRuledBy, SameProvided};
 ghost use Rattle.dkg_life.specs.Planless.{IsBareOpening};
-ghost use Rattle.dkg_inclusion.specs.InclusionOf.{IsSeen, IsSettledInclusion, result_of};
-ghost use Rattle.dkg_reshare.specs.Actors.{ActorStays, AreTerms, BringsWithin, EndsAt, FailsStop, IfIncluding, IfLiving, IsAgreed, IsOpenedOn, IsNew, MovesOn, lives, message_of, running_in, told_in};
-ghost use Rattle.dkg_reshare.specs.CarriedLogs.{CarriesWithin};
+ghost use Rattle.dkg_verifying.specs.InclusionOf.{IsSeen, IsSettledInclusion, result_of};
+ghost use Rattle.dkg_blocks.specs.Applied.{MovesOn};
+ghost use Rattle.dkg_reshare.specs.Actors.{ActorStays, AreTerms, BringsWithin, EndsAt, FailsStop, IfIncluding, IfLiving, IsAgreed, IsOpenedOn, IsNew, lives, message_of, running_in, told_in};
+ghost use Rattle.dkg_blocks.specs.CarriedLogs.{CarriesWithin};
 
 use crate::blocks::take_block;
-use crate::logs::{release, serve};
 use crate::message::Message;
 use dkg_artifact::{Job, VerifiedLogs};
+use dkg_blocks::{release, serve};
 use dkg_ceremony::{Ceremony, Signer};
 use dkg_dealing::hear_peer;
 use dkg_fence::Fence;
-use dkg_inclusion::{Inclusion, Told, ask, cancel, end, feed, work};
+use dkg_inclusion::{ask, cancel, end, feed, work};
 use dkg_infos::{Directory, Fault, Transcript};
 use dkg_journal::Disk;
 use dkg_life::{Config, Life, Stop, Terms, check_config};
 use dkg_setup::{BlockSource, open_life};
 use dkg_store::{Devices, SecretStore};
 use dkg_types::{Block, ParticipantsProvider, Registrar};
+use dkg_verifying::{Inclusion, Told};
 use std::alloc::Global;
 
 /// Where an actor stands in its life.

@@ -7,12 +7,10 @@
 
 mod actor;
 mod blocks;
-mod final_block;
-mod logs;
 mod message;
 
 pub use actor::Actor;
-pub use dkg_inclusion::{EpochInfoResponse, Told};
 pub use dkg_life::{Config, Stop, Tip, check_config};
 pub use dkg_setup::{BlockSource, Processed, dealer_for_phase, recovered_share, startup};
+pub use dkg_verifying::{EpochInfoResponse, Told};
 pub use message::Message;

@@ -3,11 +3,11 @@ use Rattle.std.proofs.Common.{◌≡◌, ℕ, None, Result, Ok, Err, OnOk}
 use Rattle.dkg_types.specs.Blocks.{Block}
 use Rattle.dkg_reshare.specs.declared.actor.State.{State}
 use Rattle.dkg_reshare.specs.declared.actor.State.TheVariants.{New, Living, Failed}
-use Rattle.dkg_inclusion.specs.declared.inclusion.Inclusion.{Inclusion}
+use Rattle.dkg_verifying.specs.declared.inclusion.Inclusion.{Inclusion}
 use Rattle.dkg_life.specs.declared.life.Life.{Life}
 use Rattle.dkg_life.specs.declared.stop.Stop.{Stop}
 use Rattle.dkg_reshare.specs.Actors.{EndsAt, IfIncluding}
-use Rattle.dkg_reshare.specs.CarriedLogs.{CarriesWithin}
+use Rattle.dkg_blocks.specs.CarriedLogs.{CarriesWithin}
 
 module _ {C Dir Signer Cfg : Type 0} where
   -- It is so again, or the actor has failed.

@@ -1,6 +1,6 @@
 //! The first blocks of a chain, and a source that holds one.
 ghost use Rattle.std.specs.Prelude.{◌≡◌, ℕ, IfOk, None};
-ghost use Rattle.dkg_reshare.specs.CarriedLogs.{CarriesWithin};
+ghost use Rattle.dkg_blocks.specs.CarriedLogs.{CarriesWithin};
 
 use dkg_ceremony::{ModeVersion, decode_cfg};
 use dkg_infos::Unit;

@@ -1,8 +1,8 @@
 //! The actor's calls, each of which says of the actor what the next one asks for.
 ghost use Rattle.std.specs.Int.NonZero.{non_zero_u32_get, non_zero_u64_get};
-ghost use Rattle.dkg_inclusion.specs.InclusionOf.{IsSettledInclusion};
+ghost use Rattle.dkg_verifying.specs.InclusionOf.{IsSettledInclusion};
 ghost use Rattle.dkg_reshare.specs.Actors.{BringsWithin, IfIncluding, IsOpenedOn, IsNew};
-ghost use Rattle.dkg_reshare.specs.CarriedLogs.{CarriesWithin};
+ghost use Rattle.dkg_blocks.specs.CarriedLogs.{CarriesWithin};
 
 use dkg_artifact::VerifiedLogs;
 use dkg_ceremony::Ceremony;

@@ -1,7 +1,7 @@
 //! A life that opens, hears a dealing, takes a block, and is ended by a block that doesn't fit.
 ghost use Rattle.std.specs.Prelude.{ℕ, IfOk, OnOk};
 ghost use Rattle.std.specs.Int.NonZero.{non_zero_u64_get};
-ghost use Rattle.dkg_inclusion.specs.InclusionOf.{IsSettledInclusion};
+ghost use Rattle.dkg_verifying.specs.InclusionOf.{IsSettledInclusion};
 ghost use Rattle.dkg_reshare.specs.Actors.{BringsWithin, IfIncluding, IsOpenedOn, IsNew};
 
 use crate::actors::{Counted, plain_actor};

@@ -1,7 +1,7 @@
 //! Requests at an epoch's midpoint: for a final block's info, which is answered behind a verification, and for a log.
 ghost use Rattle.std.specs.Prelude.{OnOk};
 ghost use Rattle.std.specs.Int.NonZero.{non_zero_u64_get};
-ghost use Rattle.dkg_inclusion.specs.InclusionOf.{IsSettledInclusion};
+ghost use Rattle.dkg_verifying.specs.InclusionOf.{IsSettledInclusion};
 ghost use Rattle.dkg_reshare.specs.Actors.{IfIncluding, IsOpenedOn, IsNew};
 
 use crate::actors::plain_actor;
@@ -9,7 +9,6 @@ use crate::blocks::first_source;
 use crate::calls::{open, step, work};
 use dkg_ceremony::Ceremony;
 use dkg_fence::Fence;
-use dkg_inclusion::{EpochInfoResponse, Told};
 use dkg_infos::{Transcript, Unit};
 use dkg_journal::{Disk, Fuse, MemoryDisk};
 use dkg_reshare::{Actor, Message};
@@ -17,6 +16,7 @@ use dkg_setup::BlockSource;
 use dkg_store::{Devices, MemorySecrets, SecretStore};
 use dkg_types::{Block, ParticipantsProvider, Payload, Registrar};
 use dkg_values::{Height, Mem, Value};
+use dkg_verifying::{EpochInfoResponse, Told};
 use std::alloc::Global;
 use std::test::Fail;
 

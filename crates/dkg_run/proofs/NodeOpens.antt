@@ -33,7 +33,7 @@ use Rattle.dkg_life.specs.Ready.{IsFoundAt}
 use Rattle.dkg_reshare.specs.Actors.{AreTerms, EndsAt, IfIncluding, lives}
 use Rattle.dkg_life.specs.Ends.{IsCaused, by_stop}
 use Rattle.dkg_life.specs.Given.{AreGivenFrom, HasRead, IsLent, IsOf, reading}
-use Rattle.dkg_inclusion.specs.InclusionOf.{IsSeen}
+use Rattle.dkg_verifying.specs.InclusionOf.{IsSeen}
 use Rattle.dkg_life.specs.LiveOf.{Beside, EndsBeside, live_of, nothing_beside}
 use Rattle.dkg_life.specs.Made.{MakesAt, Speaks, Tells, UnlessBroken}
 use Rattle.dkg_life.specs.Moved.{StaysAbove}

@@ -54,17 +54,17 @@ use Rattle.dkg_core.proofs.Splitting.{came_to}
 use Rattle.dkg_core.proofs.StepThrough.{steps_come_through}
 use Rattle.dkg_life.specs.Ready.{IsReadyLife}
 use Rattle.dkg_reshare.specs.Actors.{AreTerms, BringsWithin, EndsAt, FailsStop, HasFailed, IfIncluding, IfLiving, IsLiving, lives, message_of}
-use Rattle.dkg_reshare.specs.CarriedLogs.{CarriesWithin}
+use Rattle.dkg_blocks.specs.CarriedLogs.{CarriesWithin}
 use Rattle.dkg_life.specs.Ends.{IsCaused, IsCausedBy, IsCausedInStep}
 use Rattle.dkg_life.specs.Given.{IsIn, IsOf, ReadsPlanless}
-use Rattle.dkg_inclusion.specs.InclusionOf.{IsSeen, IsSettledInclusion}
+use Rattle.dkg_verifying.specs.InclusionOf.{IsSeen, IsSettledInclusion}
 use Rattle.dkg_life.specs.LiveOf.{Beside, EndsWith, live_of}
 use Rattle.dkg_life.specs.Made.{Burns, MakesAt, Speaks, Tells}
 use Rattle.dkg_life.specs.Rules.{IncludesBy, IsRuledBy}
 use Rattle.dkg_reshare.specs.declared.actor.State.{State}
 use Rattle.dkg_reshare.specs.declared.actor.State.TheVariants.{New, Living, Failed as HadFailed}
 use Rattle.dkg_life.specs.declared.config.Terms.{Terms}
-use Rattle.dkg_inclusion.specs.declared.inclusion.Inclusion as inclusion
+use Rattle.dkg_verifying.specs.declared.inclusion.Inclusion as inclusion
 use Rattle.dkg_life.specs.declared.life.Life as reshare
 use Rattle.dkg_reshare.specs.declared.message.Message as declared
 use Rattle.dkg_reshare.specs.declared.message.Message.TheVariants as message

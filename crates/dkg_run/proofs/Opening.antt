@@ -38,7 +38,7 @@ use Rattle.dkg_laws.proofs.Openings.{openings_lead}
 use Rattle.dkg_reshare.specs.Actors.{EndsAt, IfIncluding, IsLiving, lives}
 use Rattle.dkg_life.specs.Ends.{by_cause, by_stop, cause_in}
 use Rattle.dkg_life.specs.Given.{IsLent, IsOf, reading}
-use Rattle.dkg_inclusion.specs.InclusionOf.{IsSeen}
+use Rattle.dkg_verifying.specs.InclusionOf.{IsSeen}
 use Rattle.dkg_life.specs.LiveOf.{Beside, live_of, nothing_beside}
 use Rattle.dkg_life.specs.Made.{Burns, MakesAt, Speaks, Tells, UnlessBroken}
 use Rattle.dkg_life.specs.Opened.{IsInGrammar, IsOpeningOf, epoch_at}
@@ -46,7 +46,7 @@ use Rattle.dkg_life.specs.Planless.{IsBareOpening, seen_planless}
 use Rattle.dkg_reshare.specs.declared.actor.State.{State}
 use Rattle.dkg_reshare.specs.declared.actor.State.TheVariants.{New, Living, Failed as HadFailed}
 use Rattle.dkg_life.specs.declared.config.Terms.{Terms}
-use Rattle.dkg_inclusion.specs.declared.inclusion.Inclusion.{Inclusion}
+use Rattle.dkg_verifying.specs.declared.inclusion.Inclusion.{Inclusion}
 use Rattle.dkg_life.specs.declared.life.Life as reshare
 use Rattle.dkg_life.specs.declared.stop.Stop.{Stop}
 use Rattle.dkg_life.specs.declared.stop.Stop.TheVariants as stops

@@ -12,7 +12,7 @@ use Rattle.dkg_text.specs.declared.script.Life.{Life}
 use Rattle.dkg_script.specs.Inclusion.{IsEventIn}
 use Rattle.dkg_store.specs.Acts.{went}
 use Rattle.dkg_core.specs.Live.{Live, NodeStop}
-use Rattle.dkg_reshare.specs.CarriedLogs.{CarriesWithin}
+use Rattle.dkg_blocks.specs.CarriedLogs.{CarriesWithin}
 use Rattle.dkg_life.specs.Planless.{seen_planless}
 use Rattle.dkg_life.specs.declared.stop.Stop.{Stop}
 use Rattle.dkg_lives.specs.Epochs.{IsAt, IsLifeInForm, MayStep}

@@ -20,8 +20,8 @@ use Rattle.dkg_reshare.specs.declared.message.Message.{Message}
 use Rattle.dkg_reshare.specs.declared.message.Message.TheVariants as message
 use Rattle.dkg_reshare.specs.Actors.{IfIncluding, IfLiving, IsOpenedOn, IsLiving, message_of}
 use Rattle.dkg_life.specs.Given.{IsOf}
-use Rattle.dkg_reshare.specs.CarriedLogs.{CarriesWithin}
-use Rattle.dkg_inclusion.specs.InclusionOf.{IsSeen, IsSettledInclusion}
+use Rattle.dkg_blocks.specs.CarriedLogs.{CarriesWithin}
+use Rattle.dkg_verifying.specs.InclusionOf.{IsSeen, IsSettledInclusion}
 use Rattle.dkg_life.specs.LiveOf.{Beside, live_of}
 use Rattle.dkg_life.specs.declared.life.Life as reshare
 use Rattle.dkg_life.specs.declared.stop.Stop.{Stop}

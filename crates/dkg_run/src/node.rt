@@ -12,7 +12,7 @@ ghost use Rattle.dkg_script.specs.Players.{epochs_of};
 ghost use Rattle.dkg_core.specs.Live.{Delivers, Feed, Live, Reshare};
 ghost use Rattle.dkg_core.specs.Node.{node_opening, node_step};
 ghost use Rattle.dkg_life.specs.Ready.{IsFoundAt};
-ghost use Rattle.dkg_reshare.specs.CarriedLogs.{CarriesWithin};
+ghost use Rattle.dkg_blocks.specs.CarriedLogs.{CarriesWithin};
 ghost use Rattle.dkg_life.specs.Ends.{StopsReading};
 ghost use Rattle.dkg_life.specs.Given.{AreGivenFrom, HasRead};
 ghost use Rattle.dkg_life.specs.Made.{Makes, Tells, UnlessBroken};

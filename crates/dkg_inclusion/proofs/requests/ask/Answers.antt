@@ -7,8 +7,8 @@ use Rattle.dkg_infos.specs.declared.entry.Why.TheVariants.{Following as Follows}
 use Rattle.dkg_core.specs.Including as including
 use Rattle.dkg_core.specs.Live.{GaveNone}
 use Rattle.dkg_life.specs.LiveOf.{live_of}
-use Rattle.dkg_inclusion.specs.declared.told.EpochInfoResponse.TheVariants.{Unavailable}
-use Rattle.dkg_inclusion.specs.declared.told.Told.TheVariants.{Info}
+use Rattle.dkg_verifying.specs.declared.told.EpochInfoResponse.TheVariants.{Unavailable}
+use Rattle.dkg_verifying.specs.declared.told.Told.TheVariants.{Info}
 use Rattle.dkg_inclusion.proofs.Asked.{asked_beside, asks_dealing, asks_following, asks_including, ready_including, seen_asked, seen_used, settled_dealing, used_beside}
 use Rattle.dkg_inclusion.proofs.Asking.{MakesOver, TellsOver, joined_as, told_ends}
 use Rattle.dkg_life.proofs.Burning.{makes_none, makes_nothing, speaks_makes}
@@ -16,9 +16,9 @@ use Rattle.dkg_life.proofs.Committing.{goes_told, in_any}
 use Rattle.dkg_life.proofs.Kept.{moved_none}
 use Rattle.dkg_life.proofs.Said.{said_none, speaks_tells}
 use Rattle.dkg_inclusion.proofs.Staying.{settled_answered, want_blames}
-use Rattle.dkg_inclusion.proofs.Telling.{ends_beside, ends_with}
-use Rattle.dkg_inclusion.proofs.Within.{within_as, within_behind}
-use Rattle.dkg_inclusion.proofs.Looking.{looked}
+use Rattle.dkg_verifying.proofs.Telling.{ends_beside, ends_with}
+use Rattle.dkg_verifying.proofs.Within.{within_as, within_behind}
+use Rattle.dkg_verifying.proofs.Looking.{looked}
 use Rattle.dkg_inclusion.proofs.requests.ask.Goals as goal
 
 -- NO MEMORY

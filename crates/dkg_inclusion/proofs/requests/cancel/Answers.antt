@@ -6,9 +6,9 @@ use Rattle.dkg_inclusion.proofs.Asking.{MakesOver, TellsOver, joined_as, seen_no
 use Rattle.dkg_life.proofs.Burning.{makes_nothing}
 use Rattle.dkg_life.proofs.Committing.{goes_told}
 use Rattle.dkg_life.proofs.Kept.{moved_none}
-use Rattle.dkg_inclusion.proofs.Telling.{ends_with}
-use Rattle.dkg_inclusion.proofs.Within.{within_as, within_behind}
-use Rattle.dkg_inclusion.proofs.Looking.{looked}
+use Rattle.dkg_verifying.proofs.Telling.{ends_with}
+use Rattle.dkg_verifying.proofs.Within.{within_as, within_behind}
+use Rattle.dkg_verifying.proofs.Looking.{looked}
 use Rattle.dkg_inclusion.proofs.requests.cancel.Goals as goal
 
 -- IT WAITS FOR THE VERIFICATION, which goes on for nobody.

@@ -1,10 +1,10 @@
 use Rattle.std.proofs.Common.{◌≡◌, subst}
 use Rattle.std.specs.Prelude.{map}
 use Rattle.std.specs.Int.NonZero.{non_zero_u64_get}
-use Rattle.dkg_inclusion.specs.Including.{ends_hand}
+use Rattle.dkg_verifying.specs.Including.{ends_hand}
 use Rattle.dkg_inclusion.proofs.Asking.{MakesOver, TellsOver, joined_as}
 use Rattle.dkg_inclusion.proofs.Requesting.{end_answers, end_goes, ending}
-use Rattle.dkg_inclusion.proofs.Within.{within_as, within_behind}
+use Rattle.dkg_verifying.proofs.Within.{within_as, within_behind}
 use Rattle.dkg_inclusion.proofs.requests.end.Goals as goal
 
 pub returns-clause-acts : goal.returns-clause-acts

@@ -4,15 +4,15 @@ use Rattle.std.specs.Prelude.{map}
 use Rattle.std.specs.Int.NonZero.{non_zero_u64_get}
 use Rattle.dkg_store.specs.Acts.{by_want}
 use Rattle.dkg_store.specs.declared.call.StoreError.TheVariants.{NoMemory as Wanting}
-use Rattle.dkg_inclusion.specs.Including.{feeds_hand}
+use Rattle.dkg_verifying.specs.Including.{feeds_hand}
 use Rattle.dkg_inclusion.proofs.Asking.{MakesOver, TellsOver, joined_as}
 use Rattle.dkg_life.proofs.Burning.{makes_none}
 use Rattle.dkg_life.proofs.Kept.{moved_none}
 use Rattle.dkg_inclusion.proofs.Requesting.{block_answers, block_goes, feeding}
 use Rattle.dkg_life.proofs.Said.{said_none}
-use Rattle.dkg_inclusion.proofs.Telling.{ends_beside}
-use Rattle.dkg_inclusion.proofs.Within.{within_as, within_behind}
-use Rattle.dkg_inclusion.proofs.Looking.{looked}
+use Rattle.dkg_verifying.proofs.Telling.{ends_beside}
+use Rattle.dkg_verifying.proofs.Within.{within_as, within_behind}
+use Rattle.dkg_verifying.proofs.Looking.{looked}
 use Rattle.dkg_inclusion.proofs.requests.feed.Goals as goal
 
 pub returns-clause-acts : goal.returns-clause-acts

@@ -2,7 +2,7 @@ use Rattle.std.proofs.Common.{ap, refl}
 use Rattle.std.proofs.lemmas.Result.{err_from_is_err_and}
 use Rattle.std.specs.Int.NonZero.{non_zero_u64_get}
 use Rattle.dkg_artifact.specs.declared.scan.Fed as declared
-use Rattle.dkg_inclusion.specs.Including.{fed_of, goes_on}
+use Rattle.dkg_verifying.specs.Including.{fed_of, goes_on}
 use Rattle.dkg_life.specs.LiveOf.{live_of}
 use Rattle.dkg_inclusion.proofs.Asking.{MakesOver, TellsOver, answer_stopped, answer_then, behind_hand, joined_as, makes_joins, seen_behind, tells_joins}
 use Rattle.dkg_life.proofs.Blamed.{blamed_behind}
@@ -11,9 +11,9 @@ use Rattle.dkg_life.proofs.Committing.{goes_told}
 use Rattle.dkg_life.proofs.Kept.{moved_none, moved_then}
 use Rattle.dkg_inclusion.proofs.Scans.{is_answered}
 use Rattle.dkg_inclusion.proofs.Staying.{behind_ready, includes_on, some_in, some_of}
-use Rattle.dkg_inclusion.proofs.Telling.{ends_beside}
-use Rattle.dkg_inclusion.proofs.Within.{within_as, within_behind, within_then}
-use Rattle.dkg_inclusion.proofs.Looking.{looked, looked_then}
+use Rattle.dkg_verifying.proofs.Telling.{ends_beside}
+use Rattle.dkg_verifying.proofs.Within.{within_as, within_behind, within_then}
+use Rattle.dkg_verifying.proofs.Looking.{looked, looked_then}
 use Rattle.dkg_inclusion.proofs.requests.go_on.Goals as goal
 
 -- IT NEEDS MORE

@@ -4,7 +4,7 @@ use Rattle.std.specs.Prelude.{option_map}
 use Rattle.dkg_artifact.specs.declared.job.Job.{Job}
 use Rattle.dkg_core.specs.Including as including
 use Rattle.dkg_core.specs.Live as core
-use Rattle.dkg_inclusion.specs.InclusionOf.{job_of, result_of}
+use Rattle.dkg_verifying.specs.InclusionOf.{job_of, result_of}
 use Rattle.dkg_life.specs.LiveOf.{live_of}
 use Rattle.dkg_inclusion.proofs.Asking.{MakesOver, TellsOver, joined_as, makes_joins, tells_joins, works_by}
 use Rattle.dkg_life.proofs.Blamed.{blamed_behind}
@@ -12,9 +12,9 @@ use Rattle.dkg_life.proofs.Burning.{makes_nothing}
 use Rattle.dkg_life.proofs.Committing.{goes_told}
 use Rattle.dkg_life.proofs.Kept.{moved_none, moved_then}
 use Rattle.dkg_inclusion.proofs.Staying.{includes_on}
-use Rattle.dkg_inclusion.proofs.Telling.{ends_beside}
-use Rattle.dkg_inclusion.proofs.Within.{within_as, within_then}
-use Rattle.dkg_inclusion.proofs.Looking.{looked, looked_then}
+use Rattle.dkg_verifying.proofs.Telling.{ends_beside}
+use Rattle.dkg_verifying.proofs.Within.{within_as, within_then}
+use Rattle.dkg_verifying.proofs.Looking.{looked, looked_then}
 use Rattle.dkg_inclusion.proofs.requests.work.Goals as goal
 
 -- NONE RUNS

@@ -11,9 +11,9 @@ use Rattle.dkg_life.proofs.Committing.{goes_told}
 use Rattle.dkg_life.proofs.Kept.{moved_none, moved_then}
 use Rattle.dkg_inclusion.proofs.Requesting.{settled_waits}
 use Rattle.dkg_inclusion.proofs.Staying.{includes_on}
-use Rattle.dkg_inclusion.proofs.Telling.{ends_beside}
-use Rattle.dkg_inclusion.proofs.Within.{within_as, within_then}
-use Rattle.dkg_inclusion.proofs.Looking.{looked, looked_then}
+use Rattle.dkg_verifying.proofs.Telling.{ends_beside}
+use Rattle.dkg_verifying.proofs.Within.{within_as, within_then}
+use Rattle.dkg_verifying.proofs.Looking.{looked, looked_then}
 use Rattle.dkg_inclusion.proofs.scanning.advance.Goals as goal
 
 -- NOTHING WAS READ YET

@@ -7,13 +7,13 @@ use Rattle.dkg_core.specs.Fixed.{Fixed}
 use Rattle.dkg_core.specs.Including.{advances}
 use Rattle.dkg_life.specs.Ready.{IsReadyLife}
 use Rattle.dkg_life.specs.Given.{IsOf, ReadsPlanless}
-use Rattle.dkg_inclusion.specs.InclusionOf.{IsReadyInclusion, IsSeen}
+use Rattle.dkg_verifying.specs.InclusionOf.{IsReadyInclusion, IsSeen}
 use Rattle.dkg_life.specs.LiveOf.{Beside, EndsWith, live_of}
 use Rattle.dkg_life.specs.Made.{Makes, Tells}
 use Rattle.dkg_life.specs.Moved.{Moved}
 use Rattle.dkg_life.specs.Rules.{IncludesBy, IsRuledBy}
-use Rattle.dkg_inclusion.specs.Looks.{OnlyLooks}
-use Rattle.dkg_inclusion.proofs.Within.{NoMore}
+use Rattle.dkg_verifying.specs.Looks.{OnlyLooks}
+use Rattle.dkg_verifying.proofs.Within.{NoMore}
 use Rattle.dkg_inclusion.proofs.scanning.advance.Given as goal
 
 abbrev pub invariant-loop-turn : goal.invariant-loop-turn

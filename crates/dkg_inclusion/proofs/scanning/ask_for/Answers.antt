@@ -5,10 +5,10 @@ use Rattle.dkg_ceremony.specs.declared.round.RoundParts.{RoundParts as Round}
 use Rattle.dkg_types.specs.PayloadCodes.{info_payload}
 use Rattle.dkg_core.specs.Including as including
 use Rattle.dkg_core.specs.Live.{GaveInfo}
-use Rattle.dkg_inclusion.specs.InclusionOf.{artifact_of}
+use Rattle.dkg_verifying.specs.InclusionOf.{artifact_of}
 use Rattle.dkg_life.specs.LiveOf.{live_of}
-use Rattle.dkg_inclusion.specs.declared.told.EpochInfoResponse.TheVariants.{Available}
-use Rattle.dkg_inclusion.specs.declared.told.Told.TheVariants.{Info}
+use Rattle.dkg_verifying.specs.declared.told.EpochInfoResponse.TheVariants.{Available}
+use Rattle.dkg_verifying.specs.declared.told.Told.TheVariants.{Info}
 use Rattle.dkg_inclusion.proofs.Asking.{MakesOver, TellsOver, cached_ends, from_cache, from_kept, from_none, joined_as, not_some, told_ends}
 use Rattle.dkg_life.proofs.Beside.{then_well}
 use Rattle.dkg_life.proofs.Burning.{speaks_makes}
@@ -16,8 +16,8 @@ use Rattle.dkg_life.proofs.Committing.{in_any}
 use Rattle.dkg_life.proofs.Kept.{moved_none}
 use Rattle.dkg_life.proofs.Said.{speaks_tells}
 use Rattle.dkg_inclusion.proofs.Staying.{nothing_blames, ready_answered, ready_on, ready_verifying, some_value, verifying_rest, want_blames}
-use Rattle.dkg_inclusion.proofs.Within.{within_as}
-use Rattle.dkg_inclusion.proofs.Looking.{looked}
+use Rattle.dkg_verifying.proofs.Within.{within_as}
+use Rattle.dkg_verifying.proofs.Looking.{looked}
 use Rattle.dkg_inclusion.proofs.scanning.ask_for.Goals as goal
 
 -- FROM THE CACHE

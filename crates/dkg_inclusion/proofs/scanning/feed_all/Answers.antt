@@ -3,7 +3,7 @@ use Rattle.std.proofs.lemmas.List.{take_all, take_more, take-append-drop}
 use Rattle.dkg_types.specs.Blocks.{Block}
 use Rattle.dkg_artifact.specs.declared.scan.Fed as declared
 use Rattle.dkg_artifact.specs.declared.scan.Fed.TheVariants.{Need}
-use Rattle.dkg_inclusion.specs.Scanned.{fed_all}
+use Rattle.dkg_verifying.specs.Scanned.{fed_all}
 use Rattle.dkg_inclusion.proofs.Scans.{fed_more, fed_then, needs_is, not_need}
 use Rattle.dkg_inclusion.proofs.scanning.feed_all.Goals as goal
 

@@ -1,7 +1,7 @@
 use Rattle.std.proofs.Common.{◌≡◌, take}
 use Rattle.dkg_artifact.specs.Scans.{IsAwaiting}
 use Rattle.dkg_artifact.specs.declared.scan.Fed.TheVariants.{Need}
-use Rattle.dkg_inclusion.specs.Scanned.{fed_all}
+use Rattle.dkg_verifying.specs.Scanned.{fed_all}
 use Rattle.dkg_inclusion.proofs.scanning.feed_all.Given as goal
 
 abbrev pub invariant-loop-block : goal.invariant-loop-block

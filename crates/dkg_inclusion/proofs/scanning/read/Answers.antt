@@ -3,7 +3,7 @@ use Rattle.dkg_inclusion.proofs.Scans.{needs_is, open_by}
 use Rattle.dkg_inclusion.proofs.Requesting.{read_by}
 use Rattle.dkg_artifact.specs.declared.scan.Fed.TheVariants.{Need}
 use Rattle.dkg_artifact.specs.declared.scan.Fed as declared
-use Rattle.dkg_inclusion.specs.Including.{fed_of}
+use Rattle.dkg_verifying.specs.Including.{fed_of}
 use Rattle.dkg_inclusion.proofs.Scans.{closed_by}
 use Rattle.std.specs.Int.NonZero.{non_zero_u64_get}
 use Rattle.dkg_inclusion.proofs.scanning.read.Goals as goal

@@ -4,8 +4,8 @@ use Rattle.std.specs.Int.NonZero.{non_zero_u64_get}
 use Rattle.dkg_artifact.specs.Requested as requested
 use Rattle.dkg_store.specs.Acts.{by_want}
 use Rattle.dkg_store.specs.declared.call.StoreError.TheVariants.{NoMemory as Wanting}
-use Rattle.dkg_inclusion.specs.declared.inclusion.Inclusion.{Inclusion}
-use Rattle.dkg_inclusion.specs.Including.{behind_first, fed_of, on_fed}
+use Rattle.dkg_verifying.specs.declared.inclusion.Inclusion.{Inclusion}
+use Rattle.dkg_verifying.specs.Including.{behind_first, fed_of, on_fed}
 use Rattle.dkg_life.specs.LiveOf.{live_of}
 use Rattle.dkg_inclusion.proofs.Advancing.{waits_next}
 use Rattle.dkg_inclusion.proofs.Asking.{MakesOver, TellsOver, answered_next, behind_it, joined_as, needed_next, roundless_next, seen_held, seen_popped, seen_requests}
@@ -16,9 +16,9 @@ use Rattle.dkg_inclusion.proofs.Requesting.{settled_waits}
 use Rattle.dkg_life.proofs.Said.{said_none}
 use Rattle.dkg_inclusion.proofs.Scans.{needs_is}
 use Rattle.dkg_inclusion.proofs.Staying.{at_none, none_of, ready_held, ready_requests, some_is, unless_none}
-use Rattle.dkg_inclusion.proofs.Telling.{ends_beside}
-use Rattle.dkg_inclusion.proofs.Within.{within_as, within_behind}
-use Rattle.dkg_inclusion.proofs.Looking.{looked}
+use Rattle.dkg_verifying.proofs.Telling.{ends_beside}
+use Rattle.dkg_verifying.proofs.Within.{within_as, within_behind}
+use Rattle.dkg_verifying.proofs.Looking.{looked}
 use Rattle.dkg_inclusion.proofs.scanning.read_first.Goals as goal
 
 -- THERE IS NO ROUND

@@ -8,19 +8,19 @@ use Rattle.dkg_artifact.specs.declared.scan.Fed as declared
 use Rattle.dkg_core.specs.Including as including
 use Rattle.dkg_core.specs.Live.{GaveNone}
 use Rattle.dkg_core.specs.Logs.{canonical, filled_by}
-use Rattle.dkg_inclusion.specs.Including.{fed_of, on_fed}
+use Rattle.dkg_verifying.specs.Including.{fed_of, on_fed}
 use Rattle.dkg_life.specs.LiveOf.{live_of}
-use Rattle.dkg_inclusion.specs.declared.told.EpochInfoResponse.TheVariants.{Unavailable}
-use Rattle.dkg_inclusion.specs.declared.told.Told.TheVariants.{Info}
+use Rattle.dkg_verifying.specs.declared.told.EpochInfoResponse.TheVariants.{Unavailable}
+use Rattle.dkg_verifying.specs.declared.told.Told.TheVariants.{Info}
 use Rattle.dkg_inclusion.proofs.Asking.{MakesOver, TellsOver, joined_as, told_ends}
 use Rattle.dkg_life.proofs.Burning.{makes_none, makes_nothing, speaks_makes}
 use Rattle.dkg_life.proofs.Committing.{goes_told, in_any}
 use Rattle.dkg_life.proofs.Kept.{moved_none}
 use Rattle.dkg_life.proofs.Said.{said_none, speaks_tells}
 use Rattle.dkg_inclusion.proofs.Staying.{middle_of, ready_answered, want_blames}
-use Rattle.dkg_inclusion.proofs.Telling.{ends_beside}
-use Rattle.dkg_inclusion.proofs.Within.{within_as}
-use Rattle.dkg_inclusion.proofs.Looking.{looked}
+use Rattle.dkg_verifying.proofs.Telling.{ends_beside}
+use Rattle.dkg_verifying.proofs.Within.{within_as}
+use Rattle.dkg_verifying.proofs.Looking.{looked}
 use Rattle.dkg_inclusion.proofs.scanning.take_answer.Goals as goal
 
 -- IT NEEDS MORE

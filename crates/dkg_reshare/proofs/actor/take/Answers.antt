@@ -9,9 +9,9 @@ use Rattle.dkg_life.specs.declared.life.Life.{Life}
 use Rattle.dkg_life.specs.Ends.{ends_in}
 use Rattle.dkg_life.specs.LiveOf.{live_of}
 use Rattle.dkg_life.proofs.Beside.{none_with, took_none, took_nothing, with_as}
-use Rattle.dkg_reshare.proofs.Blaming.{result_caused, want_caused}
+use Rattle.dkg_blocks.proofs.Blaming.{result_caused, want_caused}
 use Rattle.dkg_life.proofs.Burning.{speaks_makes}
-use Rattle.dkg_inclusion.proofs.Included.{released_live, released_settled, served_settled, stays_settled}
+use Rattle.dkg_verifying.proofs.Included.{released_live, released_settled, served_settled, stays_settled}
 use Rattle.dkg_life.proofs.Kept.{moved_none}
 use Rattle.dkg_dealing.proofs.Read.{heard_bytes, heard_told}
 use Rattle.dkg_life.proofs.Said.{speaks_tells}

@@ -6,9 +6,9 @@ use Rattle.dkg_life.specs.declared.life.Stage.TheVariants.{Dealing, Following}
 use Rattle.dkg_life.specs.LiveOf.{live_of, stage_of}
 use Rattle.dkg_setup.proofs.OpeningCourses.{makes_as, tells_as}
 use Rattle.dkg_life.proofs.Beside.{took_nothing, with_as}
-use Rattle.dkg_reshare.proofs.Blaming.{result_caused}
+use Rattle.dkg_blocks.proofs.Blaming.{result_caused}
 use Rattle.dkg_life.proofs.Seated.{on_ok}
-use Rattle.dkg_reshare.proofs.Standing.{is_early, is_next, its_epoch}
+use Rattle.dkg_blocks.proofs.Standing.{is_early, is_next, its_epoch}
 use Rattle.dkg_reshare.proofs.blocks.apply.Goals as goal
 
 pub apply_dealing-requires-clause-early : goal.apply_dealing-requires-clause-early

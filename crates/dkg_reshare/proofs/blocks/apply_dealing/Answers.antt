@@ -9,14 +9,14 @@ use Rattle.dkg_life.specs.declared.life.Stage.TheVariants.{Dealing, Including}
 use Rattle.dkg_store.specs.Acts.{went}
 use Rattle.dkg_life.specs.Ends.{by_stop, ends_in}
 use Rattle.dkg_life.specs.LiveOf.{live_of}
-use Rattle.dkg_reshare.proofs.Applying.{dealing_ended, ends_offers, goes_on, offered_makes, offered_told, unoffered_makes, unoffered_told, unserving}
+use Rattle.dkg_blocks.proofs.Applying.{dealing_ended, ends_offers, goes_on, offered_makes, offered_told, unoffered_makes, unoffered_told, unserving}
 use Rattle.dkg_setup.proofs.OpeningCourses.{makes_as, tells_as}
 use Rattle.dkg_life.proofs.Beside.{none_with, with_as}
 use Rattle.dkg_life.proofs.Blamed.{blamed_behind}
 use Rattle.dkg_life.proofs.Burning.{speaks_makes}
-use Rattle.dkg_inclusion.proofs.Included.{apart_settled, begun_ready, seen_served}
+use Rattle.dkg_verifying.proofs.Included.{apart_settled, begun_ready, seen_served}
 use Rattle.dkg_life.proofs.Kept.{moved_then}
-use Rattle.dkg_reshare.proofs.Readying.{middle_at, ready_dealing, ready_including, to_sign}
+use Rattle.dkg_blocks.proofs.Readying.{middle_at, ready_dealing, ready_including, to_sign}
 use Rattle.dkg_life.proofs.Said.{speaks_tells}
 use Rattle.dkg_life.proofs.Speaking.{wants_speaks}
 use Rattle.dkg_reshare.proofs.blocks.apply_dealing.Goals as goal

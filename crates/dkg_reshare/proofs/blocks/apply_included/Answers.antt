@@ -13,14 +13,14 @@ use Rattle.dkg_life.specs.declared.life.Stage.TheVariants.{Including, Following}
 use Rattle.dkg_life.specs.LiveOf.{live_of}
 use Rattle.dkg_setup.proofs.OpeningCourses.{makes_as, tells_as}
 use Rattle.dkg_life.proofs.Beside.{none_with, took_nothing, with_as}
-use Rattle.dkg_reshare.proofs.Blaming.{result_caused}
+use Rattle.dkg_blocks.proofs.Blaming.{result_caused}
 use Rattle.dkg_life.proofs.Burning.{makes_none}
-use Rattle.dkg_reshare.proofs.Applied.{is_final, its_round, not_final}
-use Rattle.dkg_inclusion.proofs.Included.{back_idle, back_ready, seen_back}
+use Rattle.dkg_blocks.proofs.Applied.{is_final, its_round, not_final}
+use Rattle.dkg_verifying.proofs.Included.{back_idle, back_ready, seen_back}
 use Rattle.dkg_life.proofs.Kept.{moved_none}
 use Rattle.dkg_life.proofs.Said.{said_none}
 use Rattle.dkg_life.proofs.Seated.{on_ok}
-use Rattle.dkg_reshare.proofs.Standing.{next_inside}
+use Rattle.dkg_blocks.proofs.Standing.{next_inside}
 use Rattle.dkg_reshare.proofs.blocks.apply_included.Goals as goal
 
 pub returns-in_err-put_back-clause-acts : goal.returns-in_err-put_back-clause-acts

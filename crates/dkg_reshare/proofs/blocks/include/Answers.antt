@@ -12,11 +12,11 @@ use Rattle.dkg_life.specs.LiveOf.{awaited_of, live_of}
 use Rattle.dkg_setup.proofs.OpeningCourses.{makes_as, tells_as}
 use Rattle.dkg_life.proofs.Beside.{none_with, with_as}
 use Rattle.dkg_life.proofs.Blamed.{blamed_behind}
-use Rattle.dkg_reshare.proofs.Applied.{behind_log, log_behind, still_served, unserved_seen, unserving_at}
-use Rattle.dkg_inclusion.proofs.Included.{moved_ready, ready_as}
+use Rattle.dkg_blocks.proofs.Applied.{behind_log, log_behind, still_served, unserved_seen, unserving_at}
+use Rattle.dkg_verifying.proofs.Included.{moved_ready, ready_as}
 use Rattle.dkg_life.proofs.Kept.{moved_then}
-use Rattle.dkg_reshare.proofs.Readying.{ready_at}
-use Rattle.dkg_reshare.proofs.Standing.{placed_included}
+use Rattle.dkg_blocks.proofs.Readying.{ready_at}
+use Rattle.dkg_blocks.proofs.Standing.{placed_included}
 use Rattle.dkg_life.proofs.Chained.{early_makes, early_told, then_makes, then_told}
 use Rattle.dkg_reshare.proofs.blocks.include.Goals as goal
 

@@ -1,7 +1,7 @@
 use Rattle.std.specs.Int.NonZero.{non_zero_u64_get}
 use Rattle.dkg_reshare.proofs.Ending.{stands_again}
 use Rattle.dkg_life.specs.Ready.{IsReadyLife}
-use Rattle.dkg_inclusion.specs.InclusionOf.{IsSettledInclusion}
+use Rattle.dkg_verifying.specs.InclusionOf.{IsSettledInclusion}
 use Rattle.dkg_reshare_calls.proofs.Settled.{again}
 use Rattle.dkg_reshare_calls.proofs.calls.deliver.Goals as goal
 

@@ -1,6 +1,6 @@
 use Rattle.std.specs.Int.NonZero.{non_zero_u64_get}
 use Rattle.dkg_reshare.proofs.Ending.{stands_again}
-use Rattle.dkg_inclusion.specs.InclusionOf.{IsSeen, IsSettledInclusion}
+use Rattle.dkg_verifying.specs.InclusionOf.{IsSeen, IsSettledInclusion}
 use Rattle.dkg_core.specs.Core.{no_inclusion}
 use Rattle.dkg_reshare_calls.proofs.Settled.{first_of}
 use Rattle.dkg_reshare_calls.proofs.calls.open.Goals as goal

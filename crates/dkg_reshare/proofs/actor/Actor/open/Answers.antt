@@ -2,7 +2,7 @@ use Rattle.std.proofs.Common.{refl}
 use Rattle.std.specs.Int.NonZero.{non_zero_u64_get}
 use Rattle.dkg_life.specs.declared.life.Life.{Life}
 use Rattle.dkg_life.proofs.Burning.{by_stop_alike}
-use Rattle.dkg_inclusion.proofs.Included.{empty_settled}
+use Rattle.dkg_verifying.proofs.Included.{empty_settled}
 use Rattle.dkg_reshare.proofs.actor.Actor.open.Goals as goal
 
 pub returns-in-Err-clause-acts : goal.returns-in-Err-clause-acts

@@ -6,7 +6,7 @@ use Rattle.dkg_ceremony.specs.Finishes as finishes
 use Rattle.dkg_ceremony.specs.ValidLogs as logs
 use Rattle.dkg_infos.specs.declared.directory.Unit as directory
 use Rattle.dkg_core.specs.Core.{no_inclusion}
-use Rattle.dkg_inclusion.specs.InclusionOf.{IsSeen, IsSettledInclusion}
+use Rattle.dkg_verifying.specs.InclusionOf.{IsSeen, IsSettledInclusion}
 use Rattle.dkg_life.specs.declared.life.Life as reshare
 use Rattle.dkg_around.specs.Orchestrator.{IsSettled}
 use Rattle.dkg_around.specs.declared.players.Players as players

@@ -1,0 +1,11 @@
+pub mod Alike
+pub mod Answering
+pub mod Applied
+pub mod Applying
+pub mod Blaming
+pub mod Concluding
+pub mod Logged
+pub mod Observed
+pub mod PassingOn
+pub mod Readying
+pub mod Standing

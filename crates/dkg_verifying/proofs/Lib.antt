@@ -1,0 +1,12 @@
+pub mod Caching
+pub mod Completed
+pub mod Completing
+pub mod Derived
+pub mod Deriving
+pub mod Included
+pub mod Keeping
+pub mod Looking
+pub mod Posted
+pub mod Telling
+pub mod Verified
+pub mod Within
