@@ -3,17 +3,10 @@ pub mod Behind
 pub mod Empty
 pub mod Going
 pub mod Lasting
-pub mod Naming
-pub mod NodeOpens
-pub mod Noding
 pub mod Opened
-pub mod Opening
-pub mod OwnFaults
-pub mod Passing
 pub mod RecordsFound
 pub mod Reported
 pub mod Running
-pub mod Shutting
 pub mod Starting
 pub mod StepsOn
 pub mod Turns

@@ -32,7 +32,7 @@ use Rattle.dkg_lives.specs.Ways.{StaysHeld, by_worlds}
 use Rattle.dkg_lives.proofs.Checked.{life_in_form}
 use Rattle.dkg_lives.proofs.LivesStand.{opened_at, worlds_lead}
 use Rattle.dkg_around.proofs.Stepping.{worlds_go}
-use Rattle.dkg_run.proofs.Shutting.{grammar_or, shut_holds, unsaid_stop}
+use Rattle.dkg_node.proofs.Shutting.{grammar_or, shut_holds, unsaid_stop}
 use Rattle.dkg_run.proofs.Turns.{cut_over, ran_stopped, ran_told, ran_unheld, ran_untold}
 
 -- a cut is the fuse's

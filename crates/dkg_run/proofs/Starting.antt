@@ -36,11 +36,11 @@ use Rattle.dkg_lives.specs.Epochs.{IsAt, IsChecked, IsLifeInForm}
 use Rattle.dkg_lives.specs.Given.{AreBytes, IsUnplanned, Lived, at_step, blocks_in, lived}
 use Rattle.dkg_lives.specs.Lives.{LivesSo, TakesAll, fuse_for}
 use Rattle.dkg_lives.specs.Moving.{StepBlames, StopBlames, Went}
-use Rattle.dkg_run.specs.Nodes.{HasOpened, IsOfLife, IsStepHere, IsView, ViewedNew}
+use Rattle.dkg_node.specs.Nodes.{HasOpened, IsOfLife, IsStepHere, IsView, ViewedNew}
 use Rattle.dkg_around.specs.Sources.{IsToOpen, anchor_numbers}
 use Rattle.dkg_lives.specs.Ways.{ReadsSomething, by_lines, trace}
 use Rattle.dkg_around.specs.declared.held.HeldBlocks.{HeldBlocks}
-use Rattle.dkg_run.specs.declared.node.Node.{Node}
+use Rattle.dkg_node.specs.declared.node.Node.{Node}
 use Rattle.dkg_lives.proofs.Living.{step_blames_around, step_stop_cause}
 use Rattle.dkg_lives.proofs.Checked.{life_in_form}
 use Rattle.dkg_lives.proofs.LivesStand.{lines_lead, opened_at}

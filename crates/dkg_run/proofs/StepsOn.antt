@@ -18,9 +18,9 @@ use Rattle.dkg_life.specs.declared.stop.Stop.{Stop}
 use Rattle.dkg_lives.specs.Epochs.{IsAt, IsLifeInForm, MayStep}
 use Rattle.dkg_lives.specs.Given.{AreBytes, Lived, at_step, blocks_in, step_of}
 use Rattle.dkg_lives.specs.Lives.{Steps, fuse_for}
-use Rattle.dkg_run.specs.Nodes.{GoesIn, IsEventOfBlocks, IsOfLife, IsStepHere, IsView}
+use Rattle.dkg_node.specs.Nodes.{GoesIn, IsEventOfBlocks, IsOfLife, IsStepHere, IsView}
 use Rattle.dkg_lives.specs.Ways.{Way}
-use Rattle.dkg_run.specs.declared.node.Node.{Node}
+use Rattle.dkg_node.specs.declared.node.Node.{Node}
 use Rattle.dkg_lives.proofs.Awaiting.{IsBefore, IsReached, before_all, reached_lit}
 use Rattle.dkg_lives.proofs.Former.{IsMadeOf, event_in_form, live_at, made_of, through_at}
 use Rattle.dkg_lives.proofs.LivesStand.{LeadsAlong, before_suc, stepped_at}

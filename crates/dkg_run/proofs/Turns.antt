@@ -37,12 +37,12 @@ use Rattle.dkg_lives.specs.Ended.{by_node_stop}
 use Rattle.dkg_lives.specs.Lives.{Steps, fuse_for}
 use Rattle.dkg_life.specs.Ends.{IsCausedBy}
 use Rattle.dkg_lives.specs.Moving.{world_of}
-use Rattle.dkg_run.specs.Nodes.{IsEventHere, IsEventOfBlocks, IsReadyNode}
+use Rattle.dkg_node.specs.Nodes.{IsEventHere, IsEventOfBlocks, IsReadyNode}
 use Rattle.dkg_around.specs.declared.held.HeldBlocks.{HeldBlocks}
 use Rattle.dkg_lives.specs.Given.{Lived}
 use Rattle.dkg_lives.specs.Ways.{Trace, Way, by_lines, by_worlds, trace}
-use Rattle.dkg_run.specs.declared.node.Node.{Node}
-use Rattle.dkg_run.proofs.Noding.{NodeState, living_in}
+use Rattle.dkg_node.specs.declared.node.Node.{Node}
+use Rattle.dkg_node.proofs.Noding.{NodeState, living_in}
 use Rattle.dkg_around.proofs.Stepping.{lines_go, step_cut, step_stops, step_told, step_untold, uncut, worlds_go}
 
 -- NOTHING IS LOOSE on the devices of a node that goes on

@@ -1,5 +1,4 @@
 pub mod Again
 pub mod Command
 pub mod Fresh
-pub mod Nodes
 pub mod Reports

@@ -7,7 +7,6 @@ mod again;
 mod command;
 mod lives;
 mod memory;
-mod node;
 
 pub use again::{acknowledges_as_before, runs_again};
 pub use command::{Status, run_command};

@@ -25,17 +25,17 @@ ghost use Rattle.dkg_lives.specs.Epochs.{IsAt, IsChecked, IsLifeInForm, MayStep}
 ghost use Rattle.dkg_lives.specs.Given.{AreBytes, Lived, blocks_in, limits_of, lived, step_of};
 ghost use Rattle.dkg_lives.specs.Lives.{AnyFiles, BeganNone, EndsLife, LivesHere, LivesSo, RunsAllSo, Steps, TakesAll, TellsEnd, fuse_for};
 ghost use Rattle.dkg_lives.specs.Moving.{Blames, StepBlames, StopBlames, Went, world_of};
-ghost use Rattle.dkg_run.specs.Nodes.{GoesIn, HasOpened, IsEventOfBlocks, IsOfLife, IsReadyNode, IsStepHere, IsView};
+ghost use Rattle.dkg_node.specs.Nodes.{GoesIn, HasOpened, IsEventOfBlocks, IsOfLife, IsReadyNode, IsStepHere, IsView};
 ghost use Rattle.dkg_promises.specs.Over.{over};
 ghost use Rattle.dkg_promises.specs.Promised.{DoesRun, Promised, SaysRun};
 ghost use Rattle.dkg_lives.specs.Stopped.{picks_at_end};
 ghost use Rattle.dkg_lives.specs.Ways.{by_lines, by_worlds, trace};
 
-use crate::node::Node;
 use dkg_around::{HeldBlocks, blocks_of};
 use dkg_ceremony::{Mem, Value};
 use dkg_infos::{Entry, Fault, Transcript, Unit};
 use dkg_journal::{Disk, Fuse};
+use dkg_node::Node;
 use dkg_reshare::{Stop, check_config};
 use dkg_script::{Cut, Event, Life, Script};
 use dkg_store::{Devices, SecretStore};

@@ -8,7 +8,7 @@ use Rattle.dkg_infos.specs.declared.entry.Entry.TheVariants as entry
 use Rattle.dkg_lives.specs.Given.{step_of}
 use Rattle.dkg_lives.specs.Lives.{Steps, TakesAll, fuse_for}
 use Rattle.dkg_lives.specs.Moving.{world_of}
-use Rattle.dkg_run.specs.Nodes.{IsView}
+use Rattle.dkg_node.specs.Nodes.{IsView}
 use Rattle.dkg_lives.specs.Ways.{by_lines, by_worlds, trace}
 use Rattle.dkg_run.proofs.Going.{went_none, went_then}
 use Rattle.dkg_lives.proofs.LivesStand.{lines_lead, worlds_lead}

@@ -8,7 +8,7 @@ use Rattle.dkg_core.specs.Live.{Live}
 use Rattle.dkg_lives.specs.Epochs.{IsAt, IsLifeInForm}
 use Rattle.dkg_lives.specs.Given.{Lived}
 use Rattle.dkg_lives.specs.Moving.{Went, world_of}
-use Rattle.dkg_run.specs.Nodes.{IsOfLife, IsReadyNode, IsStepHere, IsView}
+use Rattle.dkg_node.specs.Nodes.{IsOfLife, IsReadyNode, IsStepHere, IsView}
 use Rattle.dkg_lives.specs.Ways.{by_lines, by_worlds, trace}
 use Rattle.dkg_around.proofs.Stepping.{TakenOn}
 use Rattle.dkg_run.proofs.StepsOn.{IsHere}

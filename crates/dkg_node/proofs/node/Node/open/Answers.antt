@@ -29,12 +29,12 @@ use Rattle.dkg_life.proofs.Kept.{above_itself, moved_none}
 use Rattle.dkg_setup.proofs.Openings.{was_readable}
 use Rattle.dkg_life.proofs.Said.{nothing_held}
 use Rattle.dkg_lives.specs.Given.{starts_above}
-use Rattle.dkg_run.specs.Nodes.{ended_new}
+use Rattle.dkg_node.specs.Nodes.{ended_new}
 use Rattle.dkg_lives.proofs.Checked.{not_refused}
-use Rattle.dkg_run.proofs.NodeOpens.{above_from, are_of, ended_acts, ended_lines, found_as, found_nothing, given_ended, given_halted, given_opened, half_as, halted_acts, halted_lines, its, lent_is, life_with, number_is, opened_acts, opened_lines, opening_is, ready_is, planless_is}
-use Rattle.dkg_run.proofs.Noding.{NodeInclusion, at_rules, including_both, of_terms, ready_node, unsaid}
-use Rattle.dkg_run.proofs.Shutting.{grammar_as, readable_ended, unopened}
-use Rattle.dkg_run.proofs.node.Node.open.Goals as goal
+use Rattle.dkg_node.proofs.NodeOpens.{above_from, are_of, ended_acts, ended_lines, found_as, found_nothing, given_ended, given_halted, given_opened, half_as, halted_acts, halted_lines, its, lent_is, life_with, number_is, opened_acts, opened_lines, opening_is, ready_is, planless_is}
+use Rattle.dkg_node.proofs.Noding.{NodeInclusion, at_rules, including_both, of_terms, ready_node, unsaid}
+use Rattle.dkg_node.proofs.Shutting.{grammar_as, readable_ended, unopened}
+use Rattle.dkg_node.proofs.node.Node.open.Goals as goal
 
 pub returns-in_err-config-clause-acts : goal.returns-in_err-config-clause-acts
 returns-in_err-config-clause-acts g c = λ disk secrets grammar.

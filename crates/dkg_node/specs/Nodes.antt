@@ -31,7 +31,7 @@ use Rattle.dkg_lives.specs.Epochs.{IsAt as StandsAt, IsLifeInForm, MayStep}
 use Rattle.dkg_lives.specs.Given.{AreBytes, Lived, at_step, blocks_in}
 use Rattle.dkg_around.specs.Orchestrator.{HasHalf, IsSettled}
 use Rattle.dkg_around.specs.declared.held.HeldBlocks.{HeldBlocks}
-use Rattle.dkg_run.specs.declared.node.Node.{Node}
+use Rattle.dkg_node.specs.declared.node.Node.{Node}
 
 -- A NODE
 

@@ -3,8 +3,8 @@ use Rattle.std.specs.Int.NonZero.{non_zero_u32_get}
 use Rattle.std.specs.Prelude.{slice_get}
 use Rattle.dkg_types.specs.Blocks.{Block}
 use Rattle.dkg_infos.specs.declared.directory.Unit as directory
-use Rattle.dkg_run.proofs.Noding.{block_made, block_said, feed_made, feed_said, within_source}
-use Rattle.dkg_run.proofs.node.Node.step.Goals as goal
+use Rattle.dkg_node.proofs.Noding.{block_made, block_said, feed_made, feed_said, within_source}
+use Rattle.dkg_node.proofs.node.Node.step.Goals as goal
 
 -- A MESSAGE of the dealing channel
 

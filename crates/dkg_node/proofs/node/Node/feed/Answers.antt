@@ -3,8 +3,8 @@ use Rattle.std.proofs.lemmas.Result.{err_from_is_err_and}
 use Rattle.dkg_store.specs.Acts.{by_want}
 use Rattle.dkg_life.proofs.Burning.{makes_none}
 use Rattle.dkg_life.proofs.Kept.{moved_none}
-use Rattle.dkg_run.proofs.Noding.{unsaid}
-use Rattle.dkg_run.proofs.node.Node.feed.Goals as goal
+use Rattle.dkg_node.proofs.Noding.{unsaid}
+use Rattle.dkg_node.proofs.node.Node.feed.Goals as goal
 
 pub returns-in_err-block-clause-ready : goal.returns-in_err-block-clause-ready
 returns-in_err-block-clause-ready g c = let p = err_from_is_err_and c.from_residual.result c.from_residual.ensures.1 in rw p.1 tt

@@ -21,7 +21,7 @@ ghost use Rattle.dkg_life.specs.Opened.{IsInGrammar, OpensReadable};
 ghost use Rattle.dkg_life.specs.Planless.{seen_planless};
 ghost use Rattle.dkg_lives.specs.Epochs.{MayStep};
 ghost use Rattle.dkg_lives.specs.Given.{IsUnplanned, Lived, at_step, blocks_in, limits_of, lived, starts_above, step_of};
-ghost use Rattle.dkg_run.specs.Nodes.{GoesIn, IsEventHere, IsMail, IsOfLife, IsReadyNode, IsView, Viewed, ViewedNew, ended_new, sent_event};
+ghost use Rattle.dkg_node.specs.Nodes.{GoesIn, IsEventHere, IsMail, IsOfLife, IsReadyNode, IsView, Viewed, ViewedNew, ended_new, sent_event};
 ghost use Rattle.dkg_around.specs.Sources.{IsToOpen};
 
 use dkg_around::{Half, HeldBlocks, Players};
@@ -38,7 +38,7 @@ use std::num::NonZeroU64;
 
 /// A node between two steps of a life.
 #[derive(Drop)]
-pub(crate) struct Node<'a> {
+pub struct Node<'a> {
     actor: Actor<StandCeremony, Players<'a>, NoopRegistrar, (), Unit>,
     fence: Fence,
     half: Half,

@@ -78,13 +78,13 @@ use Rattle.dkg_lives.specs.Epochs.{MayStep, any_shares}
 use Rattle.dkg_lives.specs.Given.{IsUnplanned, Lived, at_step, blocks_in, step_of}
 use Rattle.dkg_lives.specs.Lives.{never}
 use Rattle.dkg_around.specs.Orchestrator.{HasHalf, IsSettled, MayGoOn, MayPass, with_half}
-use Rattle.dkg_run.specs.Nodes.{IsEventHere, IsMail, IsOfLife, IsReadyNode, IsView, Viewed, event_of, sent_event}
+use Rattle.dkg_node.specs.Nodes.{IsEventHere, IsMail, IsOfLife, IsReadyNode, IsView, Viewed, event_of, sent_event}
 use Rattle.dkg_around.specs.declared.half.Half.{Half}
 use Rattle.dkg_around.specs.declared.held.HeldBlocks.{HeldBlocks}
-use Rattle.dkg_run.specs.declared.node.Node.{Node}
+use Rattle.dkg_node.specs.declared.node.Node.{Node}
 use Rattle.dkg_lives.proofs.Former.{lacks_nobody, unplanned_at}
-use Rattle.dkg_run.proofs.Naming.{node_ends, node_goes, node_says, node_says_early}
-use Rattle.dkg_run.proofs.Passing.{may_pass}
+use Rattle.dkg_node.proofs.Naming.{node_ends, node_goes, node_says, node_says_early}
+use Rattle.dkg_node.proofs.Passing.{may_pass}
 
 -- THE STATES of an actor of a script's lives
 

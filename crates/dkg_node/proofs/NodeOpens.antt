@@ -50,13 +50,13 @@ use Rattle.dkg_core.specs.Endings.{first_epoch}
 use Rattle.dkg_lives.specs.Epochs.{IsChecked, IsLifeInForm}
 use Rattle.dkg_lives.specs.Given.{IsUnplanned, Lived, anchor_in, at_step, blocks_in, limits_of, lived, numbered, starts_above, unsealed}
 use Rattle.dkg_around.specs.Orchestrator.{IsFenceReady, IsHalfGiven, MayEnter, ends_half}
-use Rattle.dkg_run.specs.Nodes.{ViewedNew, ended_new}
+use Rattle.dkg_node.specs.Nodes.{ViewedNew, ended_new}
 use Rattle.dkg_around.specs.Sources.{IsSourceOf}
 use Rattle.dkg_around.specs.declared.held.HeldBlocks.{HeldBlocks}
-use Rattle.dkg_run.specs.declared.node.Node.{Node}
+use Rattle.dkg_node.specs.declared.node.Node.{Node}
 use Rattle.dkg_lives.proofs.Checked.{life_in_form}
-use Rattle.dkg_run.proofs.Noding.{at_oneshot, is_of, made_there, went_burns}
-use Rattle.dkg_run.proofs.Opening.{Lives, end_of, ended_makes, ended_says, epoch_is, fence_ready, half_given, halted_makes, halted_says, lent_at, lives_at, lives_err, may_enter, may_enter_made, opened_made, opened_says, opened_view, opening_of, living_there, lives_went, number_at, planless_at, reading_as, seen_empty, unless_named}
+use Rattle.dkg_node.proofs.Noding.{at_oneshot, is_of, made_there, went_burns}
+use Rattle.dkg_node.proofs.Opening.{Lives, end_of, ended_makes, ended_says, epoch_is, fence_ready, half_given, halted_makes, halted_says, lent_at, lives_at, lives_err, may_enter, may_enter_made, opened_made, opened_says, opened_view, opening_of, living_there, lives_went, number_at, planless_at, reading_as, seen_empty, unless_named}
 use Rattle.dkg_around.proofs.Sourced.{source_is}
 
 -- the terms that a script's configuration comes to

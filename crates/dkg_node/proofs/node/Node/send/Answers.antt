@@ -4,8 +4,8 @@ use Rattle.dkg_ceremony.specs.Deals as deals
 use Rattle.dkg_infos.specs.declared.directory.Unit as directory
 use Rattle.dkg_life.specs.Ready.{IsReadyLife}
 use Rattle.dkg_life.specs.declared.life.Life as reshare
-use Rattle.dkg_run.proofs.Noding.{at_includes, mail_within, not_failed, of_again, ready_on, sends, sends_said}
-use Rattle.dkg_run.proofs.node.Node.send.Goals as goal
+use Rattle.dkg_node.proofs.Noding.{at_includes, mail_within, not_failed, of_again, ready_on, sends, sends_said}
+use Rattle.dkg_node.proofs.node.Node.send.Goals as goal
 
 pub step-requires-clause-at : goal.step-requires-clause-at
 step-requires-clause-at g c = c.requires.ready.at

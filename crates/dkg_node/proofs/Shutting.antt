@@ -25,7 +25,7 @@ use Rattle.dkg_life.specs.declared.stop.Stop.{Stop}
 use Rattle.dkg_life.specs.declared.stop.Stop.TheVariants.{Cut, Failed, Fault as FaultOf}
 use Rattle.dkg_lives.specs.Ended.{by_node_stop}
 use Rattle.dkg_lives.specs.Ways.{IsBroken, StaysHeld}
-use Rattle.dkg_run.proofs.OwnFaults.{IsOutside, own_or_outside}
+use Rattle.dkg_node.proofs.OwnFaults.{IsOutside, own_or_outside}
 
 shut_none : (image : Files → Type 0) (held : Secrets) → StaysShut image image held held
 shut_none image held = record { images = record { each = λ c here. (c, here, record { plan = refl; same = refl }) }; same = refl }

@@ -55,11 +55,11 @@ use Rattle.dkg_lives.specs.Ended.{by_node_stop}
 use Rattle.dkg_lives.specs.Epochs.{IsLifeInForm}
 use Rattle.dkg_lives.specs.Given.{Lived, at_step, limits_of, seen_at, source_at}
 use Rattle.dkg_around.specs.Orchestrator.{IsFenceReady, IsHalfGiven, MayEnter, with_half}
-use Rattle.dkg_run.specs.Nodes.{IsView, ViewedNew}
-use Rattle.dkg_run.specs.declared.node.Node.{Node}
-use Rattle.dkg_run.proofs.Naming.{node_ends, node_goes, node_says, node_says_early}
+use Rattle.dkg_node.specs.Nodes.{IsView, ViewedNew}
+use Rattle.dkg_node.specs.declared.node.Node.{Node}
+use Rattle.dkg_node.proofs.Naming.{node_ends, node_goes, node_says, node_says_early}
 use Rattle.dkg_lives.proofs.Former.{form_at, lacks_nobody}
-use Rattle.dkg_run.proofs.Noding.{speaks_makes, speaks_says, unless_reshare}
+use Rattle.dkg_node.proofs.Noding.{speaks_makes, speaks_says, unless_reshare}
 
 -- WHERE A LIFE STARTS, the fence is ready and a scheme is registered
 

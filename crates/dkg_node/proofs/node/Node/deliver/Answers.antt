@@ -6,8 +6,8 @@ use Rattle.dkg_infos.specs.declared.directory.Unit as directory
 use Rattle.dkg_life.specs.Ready.{IsReadyLife}
 use Rattle.dkg_life.specs.declared.life.Life as reshare
 use Rattle.dkg_lives.specs.Given.{at_step}
-use Rattle.dkg_run.proofs.Noding.{at_includes, half_length, half_settled, halves_on, may_pass_behind, not_failed, of_again, ready_behind, refuses, refuses_said, takes, takes_said}
-use Rattle.dkg_run.proofs.node.Node.deliver.Goals as goal
+use Rattle.dkg_node.proofs.Noding.{at_includes, half_length, half_settled, halves_on, may_pass_behind, not_failed, of_again, ready_behind, refuses, refuses_said, takes, takes_said}
+use Rattle.dkg_node.proofs.node.Node.deliver.Goals as goal
 
 pub deliver-requires-clause-at : goal.deliver-requires-clause-at
 deliver-requires-clause-at g c = c.requires.ready.at
