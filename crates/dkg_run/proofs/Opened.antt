@@ -32,6 +32,7 @@ use Rattle.dkg_lives.specs.Ways.{StaysHeld, by_worlds}
 use Rattle.dkg_lives.proofs.Checked.{life_in_form}
 use Rattle.dkg_lives.proofs.LivesStand.{opened_at, worlds_lead}
 use Rattle.dkg_around.proofs.Stepping.{worlds_go}
+use Rattle.dkg_run.specs.Untold.{IsUntold}
 use Rattle.dkg_node.proofs.Shutting.{grammar_or, shut_holds, unsaid_stop}
 use Rattle.dkg_run.proofs.Turns.{cut_over, ran_stopped, ran_told, ran_unheld, ran_untold}
 
@@ -123,3 +124,19 @@ module _ {D X : Type 0} (files : D → Files) (image : D → Files → Type 0) (
         told_ran how w told is takes = inl (ran_told files image held old begun same_disk same_secrets stands (entry.Step 0) life.cut 0 lit course out (Next how w)
             new now c here end (acts_over (went end) new now acts) how w
             (subst (λ (l : List Line). TakesAll by_worlds its 1 life.events end (world_of held new l c) how w) is takes))
+
+    -- It went, and its line found no memory, or its steps came then.
+    pub went_ran : (new : Devices D X) (now : List Line) (c : Files) (here : image new.disk.now c) (end : Live directory.Unit) (acts : Acted (went end) begun.disk new now)
+        (how : Result (Unit {0}) Stop) (last : Devices D X) (lines : List Line) (left : Files) → image last.disk.now left
+        → IsUntold how new last now lines ⊎ TakesAll by_worlds its 1 life.events end (world_of held new (now ++ entry.Step 0 ∷ []) c) how (world_of held last lines left)
+        → LivesRan how last lines left
+    went_ran new now c here end acts how last lines left image_is (inr takes) = told_ran new now c here end acts how (world_of held last lines left) (now ++ entry.Step 0 ∷ []) refl takes
+    went_ran new now c here end acts how last lines left image_is (inl none) =
+        subst (λ (r : Result (Unit {0}) Stop). LivesRan r last lines left) (sym none.want)
+        (subst (λ (l : List Line). LivesRan (Err (FaultOf NoMemory)) last l left) (sym none.untold)
+        (subst (λ (d : Devices D X). image d.disk.now left → LivesRan (Err (FaultOf NoMemory)) d now left) (sym none.same) (λ its. untold_ran new now left its end acts) image_is))
+
+-- one of two, the second of which goes on
+pub or_then : {A B C : Type 0} → A ⊎ B → (B → C) → A ⊎ C
+or_then (inl a) f = inl a
+or_then (inr b) f = inr (f b)

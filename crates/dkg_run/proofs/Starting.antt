@@ -1,5 +1,5 @@
 -- A life from its opening on, by what its calls answered: over the lines; and what it blames.
-use Rattle.std.proofs.Common.{MutBor, ◌≡◌, inl, ℕ, ◌<◌, ◌++◌, ◌∷◌, [], List, Some, None, Result, Ok, Err, refl, sym, ◌∙◌, ap, subst, append-nil, arith}
+use Rattle.std.proofs.Common.{MutBor, ◌≡◌, ◌⊎◌, inl, inr, ℕ, ◌<◌, ◌++◌, ◌∷◌, [], List, Some, None, Result, Ok, Err, refl, sym, ◌∙◌, ap, subst, append-nil, arith}
 use Rattle.std.specs.Prelude.{⊤, Bool, IfErr, slice_get}
 use Rattle.std.specs.Int.NonZero.{non_zero_u32_get}
 use Rattle.dkg_journal.specs.Burn.{Burn}
@@ -36,6 +36,7 @@ use Rattle.dkg_lives.specs.Epochs.{IsAt, IsChecked, IsLifeInForm}
 use Rattle.dkg_lives.specs.Given.{AreBytes, IsUnplanned, Lived, at_step, blocks_in, lived}
 use Rattle.dkg_lives.specs.Lives.{LivesSo, TakesAll, fuse_for}
 use Rattle.dkg_lives.specs.Moving.{StepBlames, StopBlames, Went}
+use Rattle.dkg_run.specs.Untold.{IsUntold}
 use Rattle.dkg_node.specs.Nodes.{HasOpened, IsOfLife, IsStepHere, IsView, ViewedNew}
 use Rattle.dkg_around.specs.Sources.{IsToOpen, anchor_numbers}
 use Rattle.dkg_lives.specs.Ways.{ReadsSomething, by_lines, trace}
@@ -137,6 +138,16 @@ module _ (script : Script) (number : ℕ) (life : Life) (files : Files) (out : L
                   (subst (λ (l : List Line). TakesAll by_lines its 1 life.events (read.so).0 (trace l picks) how (trace now_then picks)) is
                   (takes its (read.so).0 picks over_it step_of_it (read.so).1 at_first))),
             )
+
+            -- .. one of both
+            pub went_first : {D X : Type 0} (mid last : Devices D X) (how : Result (Unit {0}) Stop) (now_then : List Line)
+                → IsUntold how mid last now now_then ⊎ ((g : Lived) (st : Live directory.Unit) (picks : List ℕ) → IsLifeInForm g → IsStepHere g node blocks life → IsView node st → IsAt g 0 st
+                → TakesAll by_lines g 1 life.events st (trace (now ++ entry.Step 0 ∷ []) picks) how (trace now_then picks))
+                → LinesSo script number life out how now_then files
+            went_first mid last how now_then (inr takes) = told_first how (now ++ entry.Step 0 ∷ []) now_then refl takes
+            went_first mid last how now_then (inl none) =
+                subst (λ (r : Result (Unit {0}) Stop). LinesSo script number life out r now_then files) (sym none.want)
+                (subst (λ (l : List Line). LinesSo script number life out (Err (FaultOf NoMemory)) l files) (sym none.untold) untold_first)
 
 -- the same files of a disk whose fuse was set
 pub lines_over : {D : Type 0} (files : D → Files) (old begun : MutBor D) → begun ≡ old → (script : Script) (number : ℕ) (life : Life) (out : List Line) (how : Result (Unit {0}) Stop) (now : List Line)

@@ -25,6 +25,7 @@ ghost use Rattle.dkg_lives.specs.Epochs.{IsAt, IsChecked, IsLifeInForm, MayStep}
 ghost use Rattle.dkg_lives.specs.Given.{AreBytes, Lived, blocks_in, limits_of, lived, step_of};
 ghost use Rattle.dkg_lives.specs.Lives.{AnyFiles, BeganNone, EndsLife, LivesHere, LivesSo, RunsAllSo, Steps, TakesAll, TellsEnd, fuse_for};
 ghost use Rattle.dkg_lives.specs.Moving.{Blames, StepBlames, StopBlames, Went, world_of};
+ghost use Rattle.dkg_run.specs.Untold.{IsUntold};
 ghost use Rattle.dkg_node.specs.Nodes.{GoesIn, HasOpened, IsEventOfBlocks, IsOfLife, IsReadyNode, IsStepHere, IsView};
 ghost use Rattle.dkg_promises.specs.Over.{over};
 ghost use Rattle.dkg_promises.specs.Promised.{DoesRun, Promised, SaysRun};
@@ -172,6 +173,37 @@ fn take_steps<D: Disk, X: SecretStore>(
     Ok(())
 }
 
+/// Tells that the opening is complete, and takes the steps of the life's events, unless there is no memory to tell it.
+fn go_on<D: Disk, X: SecretStore>(
+    alloc: Global,
+    node: &mut Node<'_>,
+    source: &mut HeldBlocks<'_>,
+    life: &Life,
+    devices: &mut Devices<'_, D, X>,
+    out: &mut Transcript,
+) -> Result<(), Stop>
+    requires here { HasOpened node.old source.old.blocks.now life.now }
+    requires begun { (f : Burn) × (fuse_for life.now.cut 0 ≡ Some f) }
+    requires ready { IsReadyNode D.tells D.files D.image node.old devices.old }
+    ensures lines { IsUntold result devices.old devices.new out.old.entries out.new.entries
+        ⊎ ((g : Lived) (st : Live directory.Unit) (picks : List ℕ) → IsLifeInForm g → IsStepHere g node.old source.old.blocks.now life.now
+        → IsView node.old st → IsAt g 0 st
+        → TakesAll by_lines g 1 life.now.events st (trace (out.old.entries ++ entry.Step 0 ∷ []) picks) result (trace out.new.entries picks)) }
+    ensures run { IsUntold result devices.old devices.new out.old.entries out.new.entries
+        ⊎ (IsTrue D.tells → IsTrue X.tells → (g : Lived) (st : Live directory.Unit) → IsLifeInForm g
+        → IsStepHere g node.old source.old.blocks.now life.now → IsView node.old st → IsAt g 0 st → (c : Files) → D.image devices.new.disk.now c
+        → TakesAll by_worlds g 1 life.now.events st
+        (world_of X.held devices.old (out.old.entries ++ entry.Step 0 ∷ []) (D.files devices.old.disk.now)) result (world_of X.held devices.new out.new.entries c)) }
+    ensures firm { OnOk result (IsTrue D.tells → Lands (D.files devices.new.disk.now) (D.image devices.new.disk.now)) }
+    ensures went { Went D.tells D.made X.made D.faults X.faults devices.old devices.new [] }
+    ensures causes { IfErr result (StepBlames D.tells D.faults X.faults devices.old devices.new) }
+    ensures fit { IsTrue D.tells → AreFit (non_zero_u32_get node.old.actor.terms.limit) (D.image devices.old.disk.now)
+        → AreFit (non_zero_u32_get node.old.actor.terms.limit) (D.image devices.new.disk.now) }
+{
+    out.push(Entry::Step { step: 0 })?;
+    take_steps(alloc, node, source, life, devices, out)
+}
+
 /// Opens a node, where the life is not cut before it, and takes the steps of its life.
 fn live<D: Disk, X: SecretStore>(
     alloc: Global,
@@ -205,8 +237,7 @@ fn live<D: Disk, X: SecretStore>(
     begin_step(devices, &life.cut, 0)?;
     let mut source = HeldBlocks::new(alloc, blocks, life)?;
     let mut node = Node::open(alloc, script, number, life, &source, devices, out)?;
-    out.push(Entry::Step { step: 0 })?;
-    take_steps(alloc, &mut node, &mut source, life, devices, out)
+    go_on(alloc, &mut node, &mut source, life, devices, out)
 }
 
 /// Stops both devices, each with this pick.
