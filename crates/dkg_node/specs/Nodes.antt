@@ -30,6 +30,7 @@ use Rattle.dkg_script.specs.Players.{players_at}
 use Rattle.dkg_lives.specs.Epochs.{IsAt as StandsAt, IsLifeInForm, MayStep}
 use Rattle.dkg_lives.specs.Given.{AreBytes, Lived, at_step, blocks_in}
 use Rattle.dkg_around.specs.Orchestrator.{HasHalf, IsSettled}
+use Rattle.dkg_around.specs.declared.half.Half.{Half}
 use Rattle.dkg_around.specs.declared.held.HeldBlocks.{HeldBlocks}
 use Rattle.dkg_node.specs.declared.node.Node.{Node}
 
@@ -81,6 +82,11 @@ ViewedNew (Err stop) P = P (by_node_stop stop)
 abbrev pub ended_new : Result Node Stop → Ended NodeStop Node
 ended_new (Ok node) = went node
 ended_new (Err stop) = by_node_stop stop
+
+-- how an opening of both halves ended, as one of the node that is made of them
+abbrev pub node_of : Result Half Stop → (Half → Node) → Result Node Stop
+node_of (Ok half) made = Ok (made half)
+node_of (Err stop) made = Err stop
 
 -- .. and its source has the blocks of the life's script.
 pub record IsStepHere (g : Lived) (node : Node) (blocks : List (Block directory.Unit)) (life : Life) : Type 0 where

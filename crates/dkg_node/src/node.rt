@@ -15,13 +15,15 @@ ghost use Rattle.dkg_life.specs.Ready.{IsFoundAt};
 ghost use Rattle.dkg_blocks.specs.CarriedLogs.{CarriesWithin};
 ghost use Rattle.dkg_life.specs.Ends.{StopsReading};
 ghost use Rattle.dkg_life.specs.Given.{AreGivenFrom, HasRead};
+ghost use Rattle.dkg_life.specs.LiveOf.{no_fence};
 ghost use Rattle.dkg_life.specs.Made.{Makes, Tells, UnlessBroken};
 ghost use Rattle.dkg_life.specs.Moved.{Moved, StaysAbove};
 ghost use Rattle.dkg_life.specs.Opened.{IsInGrammar, OpensReadable};
 ghost use Rattle.dkg_life.specs.Planless.{seen_planless};
+ghost use Rattle.dkg_reshare.specs.Actors.{AreTerms, IsNew};
 ghost use Rattle.dkg_lives.specs.Epochs.{MayStep};
 ghost use Rattle.dkg_lives.specs.Given.{IsUnplanned, Lived, at_step, blocks_in, limits_of, lived, starts_above, step_of};
-ghost use Rattle.dkg_node.specs.Nodes.{GoesIn, IsEventHere, IsMail, IsOfLife, IsReadyNode, IsView, Viewed, ViewedNew, ended_new, sent_event};
+ghost use Rattle.dkg_node.specs.Nodes.{GoesIn, IsEventHere, IsMail, IsOfLife, IsReadyNode, IsView, Viewed, ViewedNew, ended_new, node_of, sent_event};
 ghost use Rattle.dkg_around.specs.Sources.{IsToOpen};
 
 use dkg_around::{Half, HeldBlocks, Players};
@@ -77,6 +79,60 @@ fn copied(alloc: Global, bytes: &[u8]) -> Mem<Blob>
     Ok(Blob::new(Vec::from_slice(alloc, bytes)?))
 }
 
+/// Opens the actor's half of a life, and then the orchestrator's behind it.
+fn open_halves<'a, D: Disk, X: SecretStore>(
+    alloc: Global,
+    actor: &mut Actor<StandCeremony, Players<'a>, NoopRegistrar, (), Unit>,
+    fence: &mut Fence,
+    script: &Script,
+    number: u64,
+    life: &Life,
+    source: &HeldBlocks<'_>,
+    devices: &mut Devices<'_, D, X>,
+    out: &mut Transcript,
+) -> Result<Half, Stop>
+    requires here { IsToOpen script.now number life.now source.now }
+    requires new { IsNew actor.old.state }
+    requires are { AreTerms actor.old.terms script.now.config.me script.now.config.blocks_per_epoch script.now.config.limit script.now.config.max_mode
+        script.now.config.mode V1 script.now.config.namespace }
+    requires players { actor.old.provider.lines.now ≡ script.now.config.players }
+    requires fresh { fence.old ≡ no_fence }
+    // What is said of a node is said of the one that is made of what was opened.
+    ensures ready { IfOk (node_of result
+        (λ half. record { actor = actor.new; fence = fence.new; half = half; blocks_per_epoch = script.now.config.blocks_per_epoch }))
+        (λ node. IsReadyNode D.tells D.files D.image node devices.new) }
+    ensures of { IfOk (node_of result
+        (λ half. record { actor = actor.new; fence = fence.new; half = half; blocks_per_epoch = script.now.config.blocks_per_epoch }))
+        (λ node. (g : Lived) → g.script ≡ script.now → g.life ≡ life.now → IsUnplanned g.seen → IsOfLife g node) }
+    ensures acts { IsTrue D.tells → IsTrue X.tells → IsInGrammar (limits_of script.now).limit (D.files devices.old.disk.now)
+        → ViewedNew (node_of result
+        (λ half. record { actor = actor.new; fence = fence.new; half = half; blocks_per_epoch = script.now.config.blocks_per_epoch }))
+        (λ ended. Makes D.files D.image X.held
+        (node_opening (at_step (lived script.now number life.now seen_planless (D.files devices.old.disk.now)) 0))
+        ended devices.old devices.new out.old.entries out.new.entries) }
+    ensures tells { HasRead (λ s. UnlessBroken (ended_new (node_of result
+        (λ half. record { actor = actor.new; fence = fence.new; half = half; blocks_per_epoch = script.now.config.blocks_per_epoch })))
+        (IsTrue D.tells → IsTrue X.tells
+        → AreGivenFrom (starts_above script.now number life.now) s.dealings (D.image devices.new.disk.now) (X.held devices.new.secrets.now)))
+        (λ s. ViewedNew (node_of result
+        (λ half. record { actor = actor.new; fence = fence.new; half = half; blocks_per_epoch = script.now.config.blocks_per_epoch }))
+        (λ ended. Tells (node_opening (at_step (lived script.now number life.now (λ h. s) (D.files devices.old.disk.now)) 0))
+        ended out.old.entries out.new.entries)) }
+    ensures readable { IsTrue D.tells → OpensReadable (IsInGrammar (limits_of script.now).limit (D.files devices.old.disk.now)) result
+        out.old.entries out.new.entries
+        (D.image devices.old.disk.now) (D.image devices.new.disk.now) (X.held devices.old.secrets.now) (X.held devices.new.secrets.now) }
+    ensures moved { Moved D.tells D.made X.made D.faults X.faults devices.old devices.new }
+    ensures causes { IfErr result (λ stop. IsFoundAt (limits_of script.now).limit D.tells (D.files devices.new.disk.now) stop
+        (Rose (D.faults devices.old.disk.now) (D.faults devices.new.disk.now)) (Rose (X.faults devices.old.secrets.now) (X.faults devices.new.secrets.now))
+        (Reached devices.old.fuse devices.new.fuse)) }
+    ensures loose { IsTrue D.tells → StaysAbove (starts_above script.now number life.now) (D.image devices.old.disk.now) (D.image devices.new.disk.now)
+        (X.held devices.old.secrets.now) (X.held devices.new.secrets.now) }
+{
+    actor.open(alloc, devices, source, number, life.word, fence, out)?;
+    let half = Half::open(script.config.blocks_per_epoch, source, fence, out)?;
+    Ok(half)
+}
+
 impl<'a> Node<'a> {
     /// Opens the life of a number: the actor's half, and then the orchestrator's.
     pub fn open<D: Disk, X: SecretStore>(
@@ -119,14 +175,14 @@ impl<'a> Node<'a> {
         let config = config_of(alloc, &script.config)?;
         let mut actor = Actor::new(config)?;
         let mut fence = Fence::new();
-        actor.open(alloc, devices, source, number, life.word, &mut fence, out)?;
-        let blocks_per_epoch = script.config.blocks_per_epoch;
-        let half = Half::open(blocks_per_epoch, source, &mut fence, out)?;
+        let half = open_halves(
+            alloc, &mut actor, &mut fence, script, number, life, source, devices, out,
+        )?;
         Ok(Node {
             actor,
             fence,
             half,
-            blocks_per_epoch,
+            blocks_per_epoch: script.config.blocks_per_epoch,
         })
     }
 
