@@ -18,6 +18,7 @@ pub struct Players<'a> {
 }
 
 impl<'a> Players<'a> {
+    /// The provider of these lines.
     pub fn new(lines: &'a [PlayerLine]) -> Players<'a>
         requires rising { rises (epochs_of lines.now) ≡ true }
         ensures { result.lines.now ≡ lines.now }

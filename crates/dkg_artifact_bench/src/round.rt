@@ -23,6 +23,7 @@ fn first_keys(alloc: Global, count: u32) -> Option<Set> {
     Set::from_sorted(keys).ok()
 }
 
+/// A map of these pairs, if they are no more than the most of a round.
 pub fn map_of<V: Drop>(alloc: Global, pairs: Vec<(Key, V)>) -> Option<Map<V>> {
     if pairs.len() > MOST {
         return None;

@@ -12,6 +12,7 @@ pub struct Count {
 }
 
 impl Count {
+    /// No case yet.
     pub fn new() -> Count {
         Count {
             cases: 0,

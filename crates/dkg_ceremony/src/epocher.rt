@@ -53,6 +53,7 @@ fn phase_of(midpoint: Height, height: Height) -> Phase
 }
 
 impl Epocher {
+    /// Epochs of so many blocks each; the first begins at height 0.
     pub fn new(blocks: NonZeroU64) -> Epocher
         ensures { result ≡ non_zero_u64_get blocks }
     {
@@ -77,6 +78,7 @@ impl Epocher {
         })
     }
 
+    /// The height of the epoch's first block. None where its last height has no u64.
     pub fn first(&self, epoch: Epoch) -> Option<Height>
         ensures { result ≡ in_range self.now epoch (schedule.first self.now epoch) }
     {
@@ -84,6 +86,7 @@ impl Epocher {
         Some(Height(last.0 - (self.blocks.get() - 1)))
     }
 
+    /// The height of the epoch's block halfway, half its blocks (rounded down) above its first. None where its last height has no u64.
     pub fn midpoint(&self, epoch: Epoch) -> Option<Height>
         ensures { result ≡ in_range self.now epoch (schedule.midpoint self.now epoch) }
     {

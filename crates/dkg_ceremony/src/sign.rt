@@ -100,6 +100,7 @@ impl Model for StandSigner {
 }
 
 impl StandSigner {
+    /// The signer of a key.
     pub fn new(key: Key) -> StandSigner
         ensures { result ≡ key }
     {

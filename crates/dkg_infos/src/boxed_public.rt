@@ -18,12 +18,14 @@ impl Model for BoxedPublic {
 }
 
 impl BoxedPublic {
+    /// A public half, moved into memory of its own.
     pub fn of(alloc: Global, public: Public) -> Mem<BoxedPublic>
         ensures { IfOk result (λ made. made ≡ public) }
     {
         Ok(BoxedPublic(Box::new(alloc, public)?))
     }
 
+    /// The public half.
     pub fn get(&self) -> &Public
         ensures { result.now ≡ self.now }
     {

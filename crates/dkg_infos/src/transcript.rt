@@ -24,6 +24,7 @@ impl Model for Transcript {
 }
 
 impl Transcript {
+    /// A transcript without entries.
     pub fn new(alloc: Global) -> Transcript
         ensures { result.entries ≡ [] }
     {
@@ -52,6 +53,7 @@ impl Transcript {
         Ok(())
     }
 
+    /// The entries, in the order in which they came.
     pub fn entries(&self) -> &[Entry]
         ensures { result.now ≡ self.now.entries }
     {

@@ -30,6 +30,7 @@ impl<V> Model for BySection<V> {
 }
 
 impl<V: Drop> BySection<V> {
+    /// No section has a value.
     pub fn new(alloc: Global) -> BySection<V>
         ensures { result ≡ map.empty }
     {
@@ -38,12 +39,14 @@ impl<V: Drop> BySection<V> {
         }
     }
 
+    /// The value of a section, if it has one.
     pub fn get(&self, section: u64) -> Option<&V>
         ensures { option_copied result ≡ map.get self.now section }
     {
         self.values.get(&section)
     }
 
+    /// Puts a value in the place of the section's. Where memory runs out all is as before.
     pub fn insert(&mut self, section: u64, value: V) -> Mem<()>
         ensures done { OnOk result (self.new ≡ map.insert self.old section value) }
         ensures kept { OnErr result (self.new ≡ self.old) }

@@ -162,6 +162,7 @@ impl File {
         }
     }
 
+    /// The bytes as they are read now, loose ones too.
     pub fn bytes(&self) -> &[u8]
         ensures { result.now ≡ self.now.bytes }
     {

@@ -32,6 +32,7 @@ fn u32_at(bytes: &[u8]) -> Option<(u32, &[u8])>
     Some((number, rest))
 }
 
+/// The number in the first eight bytes, and the bytes behind it. None of fewer bytes.
 #[tactic(auto, unfolding(crate::specs::Records::read64))]
 pub fn u64_at(bytes: &[u8]) -> Option<(u64, &[u8])>
     ensures found { IfSome result (λ x. (8 ≤ length bytes.now) × (x.0 ≡ read64 bytes.now) × (x.1.now ≡ drop 8 bytes.now)) }

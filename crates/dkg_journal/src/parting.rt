@@ -50,6 +50,7 @@ impl Piece {
         Ok(())
     }
 
+    /// A copy of the piece's bytes.
     pub fn copy(&self, alloc: Global) -> Result<Vec<u8>, AllocError>
         ensures { IfOk result (λ bytes. bytes.items ≡ self.now) }
     {

@@ -47,6 +47,7 @@ fn crash_one(name: Name, file: &mut File, pick: u64, but: Option<Name>, count: u
 }
 
 impl Table {
+    /// A table without files.
     pub fn new(alloc: Global) -> Table
         ensures { result ≡ [] }
     {

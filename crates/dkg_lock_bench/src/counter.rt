@@ -24,6 +24,7 @@ fn worked(mut seed: u64, rounds: u64) -> u64 {
 }
 
 impl Counter {
+    /// A counter at 0, each of whose calls works so many rounds.
     pub fn new(rounds: u64) -> Counter {
         Counter {
             count: 0,

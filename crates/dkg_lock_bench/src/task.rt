@@ -19,6 +19,7 @@ pub enum Threads {
 }
 
 impl Threads {
+    /// The number of threads.
     pub fn count(self) -> u64 {
         match self {
             Threads::One => 1,

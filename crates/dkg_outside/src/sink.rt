@@ -89,6 +89,7 @@ pub struct SureSink {
 }
 
 impl SureSink {
+    /// A sink that holds nothing, and is not full.
     pub fn new(alloc: Global) -> SureSink
         ensures { (result.bytes.items ≡ []) × (result.is_full ≡ false) }
     {

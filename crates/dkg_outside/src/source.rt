@@ -114,6 +114,7 @@ pub struct SureSource {
 }
 
 impl SureSource {
+    /// The source of these bytes, from the first.
     pub fn new(bytes: Vec<u8>) -> SureSource
         ensures { (result.bytes ≡ bytes) × (result.place ≡ 0) }
     {

@@ -15,6 +15,7 @@ pub struct StdSource<R> {
 }
 
 impl<R: io::Read> StdSource<R> {
+    /// The source over a reader.
     pub fn new(reader: R) -> StdSource<R>
         ensures { result ≡ record { reader = reader; faults = 0 } }
     {
@@ -83,6 +84,7 @@ pub struct StdSink<W> {
 }
 
 impl<W: io::Write> StdSink<W> {
+    /// The sink over a writer.
     pub fn new(writer: W) -> StdSink<W>
         ensures { result ≡ record { writer = writer; faults = 0 } }
     {

@@ -47,12 +47,14 @@ impl Awaited {
         }
     }
 
+    /// The height of the block that is awaited.
     pub fn height(&self) -> Height
         ensures { result ≡ self.now.height }
     {
         self.height
     }
 
+    /// The finalization from which the search goes on.
     pub fn floor(&self) -> &Finalization
         ensures { result.now ≡ self.now.floor }
     {

@@ -37,6 +37,7 @@ pub struct Mailbox<'a, T: Turn> {
 }
 
 impl<'a, T: Turn> Mailbox<'a, T> {
+    /// A mailbox of what is behind this lock.
     pub fn new(lock: &'a TurnLock<T>) -> Mailbox<'a, T>
         ensures { result.lock.now ≡ lock.now }
     {

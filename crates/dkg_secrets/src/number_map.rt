@@ -28,6 +28,7 @@ impl<V> Model for NumberMap<V> {
 }
 
 impl<V: Drop> NumberMap<V> {
+    /// A map without keys.
     pub fn new(alloc: Global) -> NumberMap<V>
         ensures { result ≡ map.empty }
     {
@@ -36,12 +37,14 @@ impl<V: Drop> NumberMap<V> {
         }
     }
 
+    /// The value of a key, if it has one.
     pub fn get(&self, key: u64) -> Option<&V>
         ensures { option_copied result ≡ map.get self.now key }
     {
         self.values.get(&key)
     }
 
+    /// Puts a value in the place of what was there. Where memory runs out all is as before.
     pub fn insert(&mut self, key: u64, value: V) -> Result<(), AllocFailed<(u64, V)>>
         ensures done { OnOk result (self.new ≡ map.insert self.old key value) }
         ensures kept { OnErr result (self.new ≡ self.old) }
@@ -50,6 +53,7 @@ impl<V: Drop> NumberMap<V> {
         Ok(())
     }
 
+    /// Takes the key's value away, if it has one.
     pub fn remove(&mut self, key: u64)
         ensures { self.new ≡ map.remove self.old key }
     {

@@ -29,6 +29,7 @@ impl<V> Model for PairMap<V> {
 }
 
 impl<V: Drop> PairMap<V> {
+    /// A map without keys.
     pub fn new(alloc: Global) -> PairMap<V>
         ensures { result ≡ map.empty }
     {
@@ -97,6 +98,7 @@ impl<V: Drop> PairMap<V> {
         self.insert_at(epoch.0, dealer.0, value)
     }
 
+    /// Takes the value of a pair away, if it has one.
     pub fn remove(&mut self, epoch: Epoch, dealer: Key)
         ensures { self.new ≡ map.remove self.old (epoch, dealer) }
     {

@@ -28,6 +28,7 @@ impl<V> Model for KeyMap<V> {
 }
 
 impl<V: Drop> KeyMap<V> {
+    /// A map without keys.
     pub fn new(alloc: Global) -> KeyMap<V>
         ensures { result ≡ map.empty }
     {
@@ -56,6 +57,7 @@ impl<V: Drop> KeyMap<V> {
         self.values.remove(&key);
     }
 
+    /// The value of a key, if it has one.
     pub fn get(&self, key: Key) -> Option<&V>
         ensures { option_copied result ≡ map.get self.now key }
     {
@@ -70,6 +72,7 @@ impl<V: Drop> KeyMap<V> {
         self.insert_at(key.0, value)
     }
 
+    /// Takes the key's value away, if it has one.
     pub fn remove(&mut self, key: Key)
         ensures { self.new ≡ map.remove self.old key }
     {

@@ -30,6 +30,7 @@ impl<'a> Model for MessageBytes<'a> {
 }
 
 impl<'a> MessageBytes<'a> {
+    /// Bytes that it owns.
     pub fn new(bytes: Blob) -> MessageBytes<'a>
         ensures { result ≡ bytes }
     {
@@ -47,6 +48,7 @@ impl<'a> MessageBytes<'a> {
         }
     }
 
+    /// The bytes, owned or lent.
     pub fn as_slice(&self) -> &[u8]
         ensures { result.now ≡ self.now }
     {
@@ -73,6 +75,7 @@ impl<'a> Model for Ancestry<'a> {
 }
 
 impl<'a> Ancestry<'a> {
+    /// Numbers that it owns.
     pub fn new(numbers: Indexes) -> Ancestry<'a>
         ensures { result ≡ numbers }
     {
@@ -90,6 +93,7 @@ impl<'a> Ancestry<'a> {
         }
     }
 
+    /// The numbers, owned or lent.
     pub fn as_slice(&self) -> &[u32]
         ensures { result.now ≡ self.now }
     {

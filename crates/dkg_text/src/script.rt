@@ -170,12 +170,14 @@ impl Model for PlayerLines {
 }
 
 impl PlayerLines {
+    /// These lines, in their order.
     pub fn new(lines: Vec<PlayerLine>) -> PlayerLines
         ensures { result ≡ lines.items }
     {
         PlayerLines(lines)
     }
 
+    /// The lines, in their order.
     pub fn as_slice(&self) -> &[PlayerLine]
         ensures { result.now ≡ self.now }
     {
@@ -193,12 +195,14 @@ impl Model for BlockLines {
 }
 
 impl BlockLines {
+    /// These lines, in their order.
     pub fn new(lines: Vec<BlockLine>) -> BlockLines
         ensures { result ≡ lines.items }
     {
         BlockLines(lines)
     }
 
+    /// The lines, in their order.
     pub fn as_slice(&self) -> &[BlockLine]
         ensures { result.now ≡ self.now }
     {
@@ -216,12 +220,14 @@ impl Model for Lives {
 }
 
 impl Lives {
+    /// These lives, in their order.
     pub fn new(lives: Vec<Life>) -> Lives
         ensures { result ≡ lives.items }
     {
         Lives(lives)
     }
 
+    /// The lives, in their order.
     pub fn as_slice(&self) -> &[Life]
         ensures { result.now ≡ self.now }
     {
@@ -238,12 +244,14 @@ impl Model for Indexes {
 }
 
 impl Indexes {
+    /// These numbers, in their order.
     pub fn new(numbers: Vec<u32>) -> Indexes
         ensures { result ≡ numbers.items }
     {
         Indexes(numbers)
     }
 
+    /// The numbers, in their order.
     pub fn as_slice(&self) -> &[u32]
         ensures { result.now ≡ self.now }
     {

@@ -12,6 +12,7 @@ pub struct KeptSource<S> {
 }
 
 impl<S: Source> KeptSource<S> {
+    /// A source behind which nothing was given back yet.
     pub fn new(source: S) -> KeptSource<S>
         ensures source { result.source ≡ source }
         ensures kept { result.kept ≡ None }

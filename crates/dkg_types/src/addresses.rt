@@ -217,6 +217,7 @@ fn all_known(pairs: &[(Key, Address)])
 }
 
 impl Addresses {
+    /// The directory of a map from peers to addresses.
     pub fn from_map(map: Map<Address>) -> Addresses
         ensures { result ≡ map }
     {
@@ -233,6 +234,7 @@ impl Addresses {
         Ok(Addresses { addresses })
     }
 
+    /// The address of a peer, if the directory has one.
     pub fn get(&self, peer: Key) -> Option<&Address>
         ensures { option_copied result ≡ lookup peer self.now }
     {
@@ -247,6 +249,7 @@ impl Addresses {
         self.addresses.fits_limits();
     }
 
+    /// The map from peers to addresses.
     pub fn into_inner(self) -> Map<Address>
         ensures { result ≡ self }
     {

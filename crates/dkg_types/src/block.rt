@@ -241,6 +241,7 @@ fn parts_of<Dir: Directory + Drop>(
 }
 
 impl<Dir: Directory + Drop> Block<Dir> {
+    /// A block of these parts, whose digest is reckoned here.
     pub fn new(
         alloc: Global,
         context: Context,
@@ -310,6 +311,7 @@ impl<Dir: Directory> Parts<Dir> {
 }
 
 impl<Dir: Directory> Block<Dir> {
+    /// The context in which the block was proposed.
     pub fn context(&self) -> Context
         ensures { result ≡ self.now.context }
     {
@@ -325,6 +327,7 @@ impl<Dir: Directory> Block<Dir> {
         parts.parent
     }
 
+    /// The height of the block.
     pub fn height(&self) -> Height
         ensures { result ≡ self.now.height }
     {
@@ -332,6 +335,7 @@ impl<Dir: Directory> Block<Dir> {
         parts.height
     }
 
+    /// The digest of the block.
     pub fn digest(&self) -> Digest
         ensures { result ≡ self.now.digest }
     {

@@ -161,6 +161,7 @@ fn certify(
 }
 
 impl StandScheme {
+    /// The scheme of an identity.
     pub fn new(identity: Key) -> StandScheme
         ensures { result.identity ≡ identity }
     {

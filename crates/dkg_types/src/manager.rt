@@ -116,6 +116,7 @@ pub struct KeyOnlyManager<M> {
 }
 
 impl<M: PeerManager> KeyOnlyManager<M> {
+    /// The manager over a network.
     pub fn new(manager: M) -> KeyOnlyManager<M>
         ensures { result.manager ≡ manager }
     {
@@ -164,6 +165,7 @@ pub struct AddressableManager<M> {
 }
 
 impl<M: AddressedPeerManager> AddressableManager<M> {
+    /// The manager over a network.
     pub fn new(manager: M) -> AddressableManager<M>
         ensures { result.manager ≡ manager }
     {

@@ -39,6 +39,7 @@ pub struct StaticParticipants<Dir> {
 }
 
 impl<Dir> StaticParticipants<Dir> {
+    /// The provider of these participants and this directory.
     pub fn new(participants: Set, directory: Dir) -> StaticParticipants<Dir>
         ensures participants { result.participants ≡ participants }
         ensures directory { result.directory ≡ directory }

@@ -33,13 +33,14 @@ impl<T: Drop> Shared<T> {
 }
 
 impl<T> Shared<T> {
+    /// The value.
     pub fn get(&self) -> &T
         ensures { result.now ≡ self.now }
     {
         &self.held
     }
 
-    /// The same value once more. Memory is wanted only past 2^64 of them.
+    /// The same value once more. Memory is wanted only past 2^63 of them.
     pub fn share(&self) -> Mem<Shared<T>>
         ensures { IfOk result (λ made. made ≡ self.now) }
     {
