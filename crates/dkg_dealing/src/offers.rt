@@ -244,6 +244,8 @@ fn offer_all<C: Ceremony, Dir: Directory + Drop, D: Disk, X: SecretStore>(
 }
 
 /// Offers the dealing to the players that have not acknowledged it, where this node deals (`deals`).
+///
+/// LocalState: another dealing of its own is recorded.
 pub fn deal<C: Ceremony, Dir: Directory + Drop, D: Disk, X: SecretStore>(
     alloc: Global,
     ceremony: &C,

@@ -1,6 +1,6 @@
 //! What a reshare actor has in memory between two calls of one life, why a call stops, and what is said of calls over two devices.
 //!
-//! Dealing and inclusion are both parts of such a life, and stand on it beside each other.
+//! Setups, dealing and verifications are parts of such a life, and stand on it beside one another.
 #![tactic(auto)]
 
 mod config;

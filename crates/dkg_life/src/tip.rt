@@ -58,6 +58,8 @@ fn judge_over(tip: &Tip, height: Height, digest: Digest, parent: Digest) -> Resu
 }
 
 /// Judges a block that is delivered at this position. Without one it is new: whoever calls has looked at its window.
+///
+/// ConflictingBlock: another block stands at its height. SkippedHeight: it is more than one above. DetachedBlock: it is no child of the position's.
 #[tactic(auto, unfolding(crate::specs::Judged::judged))]
 pub fn judge<Dir: Directory + Drop>(tip: &Option<Tip>, block: &Block<Dir>) -> Result<Judged, Fault>
     ensures { result ≡ judged tip.now block.now.height block.now.digest block.now.parent }

@@ -111,7 +111,7 @@ fn begin<Dir: Directory + Drop, B: BlockSource<Dir>>(
     }
 }
 
-/// Opens a life (`opening`).
+/// Opens the life of a number, whose fresh seeds come of its random word (`opening`): reads what the store kept, and sets the epoch up in which it starts.
 pub fn open_life<
     C: Ceremony,
     R: Registrar,

@@ -1,7 +1,7 @@
 //! Setup of an epoch: its info, share and seed, their commit and registration, the prune, and this node's parts in the round.
 //!
 //! Each function here is a part of the relation's `setup`, and names it.
-ghost use Rattle.std.specs.Prelude.{◌≡◌, ◌<◌, ◌≤◌, ◌-◌, ◌^◌, ◌++◌, ◌∷◌, ◌&&◌, ◌||◌, [], ⊤, ℕ, Contains, IfErr, IfOk, IfSome, IsSome, IsTrue, List, Option, Some, None, OnErr, OnOk, Ok, is_none, is_some, option_map, true};
+ghost use Rattle.std.specs.Prelude.{◌≡◌, ◌<◌, ◌≤◌, ◌-◌, ◌^◌, ◌++◌, ◌∷◌, ◌⊎◌, ◌&&◌, ◌||◌, [], ⊤, ℕ, Contains, IfErr, IfOk, IfSome, IsSome, IsTrue, List, Option, Some, None, OnErr, OnOk, Ok, is_none, is_some, option_map, true};
 ghost use Rattle.std.specs.FinMap as maps;
 ghost use Rattle.std.specs.FinMap.{FinMap};
 ghost use Rattle.std.specs.Int.NonZero.{non_zero_u32_get, non_zero_u64_get};
@@ -288,6 +288,8 @@ fn register<Dir: Directory + Drop, R: Registrar>(
     ensures marked { OnOk result (fence.new ≡ marked info.now.epoch fence.old) }
     ensures unmarked { OnErr result (fence.new ≡ fence.old) }
     ensures taken { OnOk result (IsTrue R.tells → R.taken registrar.new ≡ R.taken registrar.old ++ scheme_by me info.now share ∷ []) }
+    ensures untaken { OnErr result (IsTrue R.tells → (R.taken registrar.new ≡ R.taken registrar.old)
+        ⊎ (R.taken registrar.new ≡ R.taken registrar.old ++ scheme_by me info.now share ∷ [])) }
     ensures speaks { (c : Fixed Dir) → c.me ≡ me → (life : Life Dir) (beside : Beside Dir)
         → Speaks (setup.registers c info.now share (live_of beside fence.old life))
         (ends_in (live_of (with_scheme_of me info.now share beside) fence.new life) result) out.old.entries out.new.entries }
@@ -304,7 +306,8 @@ fn register<Dir: Directory + Drop, R: Registrar>(
     Ok(())
 }
 
-/// Commits an info, and registers its scheme.
+/// Commits an info, registers its scheme, and marks its epoch on the fence (`commits`, `registers`). Where that fails the fence is as it was, and what the
+/// registrar took is that scheme of the info that is committed by then.
 pub fn commit_and_register<R: Registrar, Dir: Directory + Drop, D: Disk, X: SecretStore>(
     alloc: Global,
     registrar: &mut R,
@@ -329,6 +332,9 @@ pub fn commit_and_register<R: Registrar, Dir: Directory + Drop, D: Disk, X: Secr
         (λ st. setup.registers c info.now secrets.now.share st))
         (ends_in (live_of (with_scheme_of me info.now secrets.now.share beside) fence.new life.new) result) out.old.entries out.new.entries }
     ensures taken { OnOk result (IsTrue R.tells → R.taken registrar.new ≡ R.taken registrar.old ++ scheme_by me info.now secrets.now.share ∷ []) }
+    ensures unmarked { OnErr result (fence.new ≡ fence.old) }
+    ensures untaken { OnErr result (IsTrue R.tells → (R.taken registrar.new ≡ R.taken registrar.old)
+        ⊎ ((R.taken registrar.new ≡ R.taken registrar.old ++ scheme_by me info.now secrets.now.share ∷ []) × (life.new.store.current ≡ Some info.now))) }
     ensures moved { Moved D.tells D.made X.made D.faults X.faults devices.old devices.new }
     ensures causes { IfErr result (λ stop. IsOutside stop × IsCaused stop ⊥ (Rose (X.faults devices.old.secrets.now) (X.faults devices.new.secrets.now))
         (Reached devices.old.fuse devices.new.fuse)) }
@@ -854,6 +860,9 @@ pub(crate) fn set_up<
 }
 
 /// Sets the awaited epoch up by its info, which is the current one (`setup`, where the info of the epoch is committed).
+///
+/// HeightRange: its last height has no u64. InvalidParticipants: its players make no round. LocalState: the share of its output is refused, or a stored
+/// dealing is.
 pub fn set_up_committed<C: Ceremony, R: Registrar, Dir: Directory + Drop, D: Disk, X: SecretStore>(
     alloc: Global,
     ceremony: &C,

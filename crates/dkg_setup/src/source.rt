@@ -34,15 +34,19 @@ pub trait BlockSource<Dir: Directory> {
     fn anchor(&self) -> Option<&Block<Dir>>
         ensures { option_copied result ≡ option_map (λ a. a.block) (answers self.now).anchor };
 
+    /// The finalized block of a height, where it is held.
     fn block(&self, height: Height) -> Option<&Block<Dir>>
         ensures { option_copied result ≡ (answers self.now).block height };
 
+    /// The block of a digest, where it is held, finalized or not.
     fn by_digest(&self, digest: &Digest) -> Option<&Block<Dir>>
         ensures { option_copied result ≡ (answers self.now).by_digest digest.now };
 
+    /// The finalization of a height, where it is held.
     fn finalization(&self, height: Height) -> Mem<Option<Finalization>>
         ensures { IfOk result (λ found. found ≡ (answers self.now).finalization height) };
 
+    /// The finalization of the highest block that has one.
     fn latest(&self) -> Mem<Option<Finalization>>
         ensures { IfOk result (λ found. found ≡ (answers self.now).latest) };
 }

@@ -34,6 +34,7 @@ pub fn answer_none<Dir: Directory + Drop>(
     out: &mut Transcript,
 ) -> Result<(), Stop>
     ensures told { OnOk result (told.new ≡ maps.insert told.old request (ToldInfo (Unavailable why))) }
+    ensures same { OnErr result (told.new ≡ told.old) }
     ensures speaks { (st : Live Dir) → Speaks (including.answers_none request why st) (ends_in (with_told request (GaveNone why) st) result)
         out.old.entries out.new.entries }
     ensures memory { IfErr result (λ stop. stop ≡ Faulted OutOfMemory) }
@@ -123,6 +124,7 @@ pub fn answer<Dir: Directory + Drop>(
     out: &mut Transcript,
 ) -> Result<(), Stop>
     ensures told { OnOk result (told.new ≡ maps.insert told.old request (ToldInfo (Available (option_map info_payload artifact.now.info)))) }
+    ensures same { OnErr result (told.new ≡ told.old) }
     ensures speaks { (c : Fixed Dir) (st : Live Dir) → c.directories.spelling ≡ Dir.spelling
         → Speaks (including.answers c request (artifact_of artifact.now) st)
         (ends_in (with_told request (GaveInfo (option_map info_payload artifact.now.info)) st) result) out.old.entries out.new.entries }

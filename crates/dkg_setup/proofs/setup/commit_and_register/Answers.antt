@@ -1,3 +1,4 @@
+use Rattle.std.proofs.Common.{inl, refl}
 use Rattle.std.proofs.lemmas.Result.{err_from_is_err_and}
 use Rattle.dkg_core.specs.Setup as setup
 use Rattle.dkg_life.specs.Ends.{ends_in}
@@ -6,6 +7,7 @@ use Rattle.dkg_life.proofs.Burning.{speaks_makes}
 use Rattle.dkg_life.proofs.Chained.{early_makes, early_told, then_makes, then_told}
 use Rattle.dkg_life.proofs.Committing.{in_any, of_memory}
 use Rattle.dkg_life.proofs.Said.{speaks_tells}
+use Rattle.dkg_setup.proofs.Standings.{of_committed}
 use Rattle.dkg_setup.proofs.setup.commit_and_register.Goals as goal
 
 pub returns-in_err-commit-clause-acts : goal.returns-in_err-commit-clause-acts
@@ -42,3 +44,17 @@ returns-clause-causes g c = of_memory _ _ _ c.register.result c.register.ensures
 
 pub returns-clause-halves : goal.returns-clause-halves
 returns-clause-halves g c = in_any c.register.result c.in_ok-commit.ensures.halves
+
+-- WHAT OUTLIVES A FAILURE
+
+pub returns-in_err-commit-clause-unmarked : goal.returns-in_err-commit-clause-unmarked
+returns-in_err-commit-clause-unmarked g c = let p = err_from_is_err_and c.from_residual.result c.from_residual.ensures.1 in rw p.1 refl
+
+pub returns-in_err-commit-clause-untaken : goal.returns-in_err-commit-clause-untaken
+returns-in_err-commit-clause-untaken g c = let p = err_from_is_err_and c.from_residual.result c.from_residual.ensures.1 in rw p.1 (λ told. inl refl)
+
+pub returns-clause-unmarked : goal.returns-clause-unmarked
+returns-clause-unmarked g c = c.register.ensures.unmarked
+
+pub returns-clause-untaken : goal.returns-clause-untaken
+returns-clause-untaken g c = of_committed _ _ _ c.register.result c.register.ensures.untaken c.in_ok-commit.ensures.current
