@@ -371,6 +371,31 @@ fn halves_are_spelled(rt: HostRuntime) -> Result<(), Fail> {
     Ok(())
 }
 
+/// The value at a place's point of the polynomial whose coefficients are one, two, three and so on, so many of them.
+fn value_of_rising(alloc: Global, count: u16, place: u32) -> Result<u32, Fail> {
+    let mut elements = Vec::new(alloc);
+    for number in 1..=count {
+        elements.push(Element::new(number).ok_or("no element")?)?;
+    }
+    if elements.is_empty() || elements.len() > 100 {
+        return Err(Fail::from("no polynomial"));
+    }
+    let polynomial = Public::new(alloc, elements)?;
+    Ok(value_of(&polynomial, place))
+}
+
+#[test]
+fn polynomials_have_their_values(rt: HostRuntime) -> Result<(), Fail> {
+    let alloc = rt.alloc();
+    is(&rt, value_of_rising(alloc, 1, 4)?, 1);
+    is(&rt, value_of_rising(alloc, 6, 4)?, 22461);
+    is(&rt, value_of_rising(alloc, 7, 4)?, 794);
+    is(&rt, value_of_rising(alloc, 8, 4)?, 36105);
+    is(&rt, value_of_rising(alloc, 19, 4)?, 24232);
+    is(&rt, value_of_rising(alloc, 16, 70000)?, 2245);
+    Ok(())
+}
+
 /// An output that is written and read again, where the limits allow it.
 fn read_again(
     alloc: Global,

@@ -5,4 +5,4 @@ use Rattle.dkg_ceremony.specs.declared.public.Form.TheVariants.{Few, Many}
 
 abbrev pub coefficients : Form → List ℕ
 coefficients (Few short) = short
-coefficients (Many elements) = elements.items
+coefficients (Many elements) = elements.value.items

@@ -1,5 +1,5 @@
 -- Polynomials modulo the prime, as lists of their coefficients from the constant one on.
-use Rattle.std.specs.Prelude.{ℕ, ◌+◌, ◌*◌, ◌%◌, List, [], ◌∷◌}
+use Rattle.std.specs.Prelude.{ℕ, zero, suc, ◌+◌, ◌*◌, ◌%◌, List, [], ◌∷◌}
 
 abbrev pub prime : ℕ
 prime = 65521
@@ -8,3 +8,12 @@ prime = 65521
 unfoldable pub value_at : List ℕ → ℕ → ℕ
 value_at [] x = 0
 value_at (c ∷ cs) x = (c + x * value_at cs x) % prime
+
+-- a power of a point, modulo the prime but for the first, which is 1
+unfoldable pub power : ℕ → ℕ → ℕ
+power x zero = 1
+power x (suc k) = (power x k * x) % prime
+
+-- its powers from the first to the eighth
+abbrev pub eight_powers : ℕ → List ℕ
+eight_powers x = power x 1 ∷ power x 2 ∷ power x 3 ∷ power x 4 ∷ power x 5 ∷ power x 6 ∷ power x 7 ∷ power x 8 ∷ []

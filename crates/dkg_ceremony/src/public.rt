@@ -39,10 +39,11 @@ impl Model for Short {
 #[derive(Debug, Drop)]
 enum Form {
     Few(Short),
-    Many(Shared<Vec<Element>>),
+    Many(Box<Vec<Element>>),
 }
 
-/// The coefficients of a polynomial, from the constant one on: at least one and fewer than 2^32, which contracts see as a list. They lie apart, in memory that copies share.
+/// The coefficients of a polynomial, from the constant one on: at least one and fewer than 2^32, which contracts see as a list.
+/// They lie apart, in memory that copies share.
 #[derive(Debug, Drop)]
 pub struct Public(Shared<Form>);
 
@@ -123,7 +124,7 @@ impl Form {
         if elements.len() <= FEW {
             return Ok(Form::Few(Short::of(&elements)));
         }
-        Ok(Form::Many(Shared::of(alloc, elements)?))
+        Ok(Form::Many(Box::new(alloc, elements)?))
     }
 
     fn as_slice(&self) -> &[Element]
@@ -131,7 +132,7 @@ impl Form {
     {
         match self {
             Form::Few(short) => short.as_slice(),
-            Form::Many(elements) => elements.get().as_slice(),
+            Form::Many(elements) => elements.as_slice(),
         }
     }
 }
