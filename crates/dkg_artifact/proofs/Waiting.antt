@@ -135,11 +135,11 @@ module _ {X : Type 0} where
   pub reverse_cons : (x : X) (xs : List X) → reverse (x ∷ xs) ≡ reverse xs ++ x ∷ []
   reverse_cons x xs = reverse-append (x ∷ []) xs
 
-  pub reverse_map : (f : X → X) (xs : List X) → reverse (map f xs) ≡ map f (reverse xs)
-  reverse_map f [] = refl
-  reverse_map f (x ∷ xs) =
-      reverse_cons (f x) (map f xs)
-      ∙ ap (λ (l : List X). l ++ f x ∷ []) (reverse_map f xs)
+  pub reverse_map : {Y : Type 0} (f : X → Y) (xs : List X) → reverse (map f xs) ≡ map f (reverse xs)
+  reverse_map {Y} f [] = refl
+  reverse_map {Y} f (x ∷ xs) =
+      reverse-append (f x ∷ []) (map f xs)
+      ∙ ap (λ (l : List Y). l ++ f x ∷ []) (reverse_map f xs)
       ∙ sym (ap (map f) (reverse_cons x xs) ∙ map-append f (reverse xs) (x ∷ []))
 
   pub reverse_filter : (p : X → Bool) (xs : List X) → reverse (filter p xs) ≡ filter p (reverse xs)
@@ -354,6 +354,19 @@ module _ {Dir : Type 0} where
         by_key : (b : Bool) → is_at (nat_cmp place) e.0 ≡ b → (is_at (nat_cmp place) e.0 ≡ false → es ≡ changed_at place f es) → e ∷ es ≡ (e.0, if e.0 == place then f e.1 else e.1) ∷ changed_at place f es
         by_key true at rest = never (sym (ap is_some (none ∙ ap (λ (b : Bool). cond b (Some e.1) (lookup (is_at (nat_cmp place)) es)) at)))
         by_key false at rest = λ i. (e.0, sym (ap (λ (b : Bool). if b then f e.1 else e.1) (at_apart place e.0 at)) i) ∷ rest at i
+
+  -- a request written in the place of one of the same number
+  pub same_number : (test : ℕ → Bool) (es : List (ℕ × Request Dir)) (r now : Request Dir) → Some r ≡ lookup test es → now.number ≡ r.number
+      → map (λ (q : Request Dir). q.number) (values_of (set_value test es now)) ≡ map (λ (q : Request Dir). q.number) (values_of es)
+  same_number test [] r now found same = refl
+  same_number test (e ∷ es) r now found same = by_key (test e.0) refl (λ at. same_number test es r now (found ∙ ap (λ (b : Bool). cond b (Some e.1) (lookup test es)) at) same)
+    where
+      by_key : (b : Bool) → test e.0 ≡ b → (test e.0 ≡ false → map (λ (q : Request Dir). q.number) (values_of (set_value test es now)) ≡ map (λ (q : Request Dir). q.number) (values_of es))
+          → map (λ (q : Request Dir). q.number) (values_of (cond b ((e.0, now) ∷ es) (e ∷ set_value test es now))) ≡ e.1.number ∷ map (λ (q : Request Dir). q.number) (values_of es)
+      by_key true at rest =
+          let is : r ≡ e.1 = ap (λ (o : Option (Request Dir)). unwrap_or o r) (found ∙ ap (λ (b : Bool). cond b (Some e.1) (lookup test es)) at) in
+          λ i. (same ∙ ap (λ (q : Request Dir). q.number) is) i ∷ map (λ (q : Request Dir). q.number) (values_of es)
+      by_key false at rest = λ i. e.1.number ∷ rest at i
 
   -- a request of the number taken away
   pub fewer : (test : ℕ → Bool) (number : ℕ) (es : List (ℕ × Request Dir)) → is_of number (lookup test es) ≡ true

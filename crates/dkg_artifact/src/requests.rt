@@ -231,6 +231,7 @@ fn feed_at<Dir: Directory + Drop>(
     block: &Block<Dir>,
 ) -> Mem<()>
     ensures entries { OnOk result (waiting.new.entries ≡ changed_at place (fed_for number block.now) waiting.old.entries) }
+    ensures same { map (λ r. r.number) (values waiting.new) ≡ map (λ r. r.number) (values waiting.old) }
     ensures numbers { KeepsNumbers waiting.old waiting.new }
     ensures ordered { IsOrdered nat_cmp waiting.new }
 {
@@ -250,6 +251,7 @@ fn feed_each<Dir: Directory + Drop>(
 ) -> Mem<()>
     requires known { AreKnown numbers.now waiting.old }
     ensures values { OnOk result (values waiting.new ≡ map (fed_for number block.now) (values waiting.old)) }
+    ensures same { map (λ r. r.number) (values waiting.new) ≡ map (λ r. r.number) (values waiting.old) }
     ensures known { AreKnown numbers.now waiting.new }
 {
     let mut next = first_of(numbers, number);
@@ -332,9 +334,10 @@ impl<Dir: Directory + Drop> Requests<Dir> {
         put(&mut self.waiting, &mut self.numbers, place, request)
     }
 
-    /// Feeds a block to the requests of a number whose ancestry has not ended.
+    /// Feeds a block to the requests of a number whose ancestry has not ended. Where memory runs out the same requests wait, of which some may have been fed.
     pub fn feed(&mut self, alloc: Global, number: u64, block: &Block<Dir>) -> Mem<()>
         ensures ok { OnOk result (self.new ≡ map (fed_for number block.now) self.old) }
+        ensures same { map (λ r. r.number) self.new ≡ map (λ r. r.number) self.old }
     {
         feed_each(alloc, &mut self.waiting, &self.numbers, number, block)
     }

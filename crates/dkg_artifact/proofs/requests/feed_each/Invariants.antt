@@ -9,6 +9,7 @@ abbrev pub invariant-loop-next : goal.invariant-loop-next
 invariant-loop-next g l = record {
   left : changed_from l.next (fed_for l.number l.block) l.waiting.entries ≡ map (fed_for l.number l.block) (values l.initial.waiting);
   known : AreKnown l.numbers l.waiting;
+  same : map (λ r. r.number) (values l.waiting) ≡ map (λ r. r.number) (values l.initial.waiting);
 }
 
 abbrev pub decreases-loop-next : goal.decreases-loop-next

@@ -1,4 +1,4 @@
-use Rattle.std.proofs.Common.{◌∙◌, List, ap, map, reverse}
+use Rattle.std.proofs.Common.{◌∙◌, List, ap, map, reverse, sym}
 use Rattle.std.specs.BTreeMap.{values}
 use Rattle.dkg_artifact.specs.Requested.{Request, fed_for}
 use Rattle.dkg_artifact.proofs.Waiting.{on_ok_as, reverse_map}
@@ -10,4 +10,9 @@ returns g c = record {
       ap reverse is
       ∙ reverse_map (fed_for c.args.number c.args.block.now) (values c.self.inside.waiting)
       ∙ ap (λ (l : List (Request g.row.Dir.Denot)). map (fed_for c.args.number c.args.block.now) l) c.self.view_is) c.feed_each.ensures.values;
+  same =
+      sym (reverse_map (λ (r : Request g.row.Dir.Denot). r.number) (values c.feed_each.new.waiting))
+      ∙ ap reverse c.feed_each.ensures.same
+      ∙ reverse_map (λ (r : Request g.row.Dir.Denot). r.number) (values c.self.inside.waiting)
+      ∙ ap (λ (l : List (Request g.row.Dir.Denot)). map (λ (r : Request g.row.Dir.Denot). r.number) l) c.self.view_is;
 }
