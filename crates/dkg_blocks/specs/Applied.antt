@@ -1,6 +1,7 @@
 -- What a part of a step keeps, and which blocks are applied.
 use Rattle.std.specs.Prelude.{List, ◌≡◌, ◌==◌, ◌&&◌, not, nat_lt, ℕ, None, Bool, true, Ok, IsTrue}
 use Rattle.dkg_ceremony.specs.Schedule.{epoch_of, midpoint}
+use Rattle.dkg_ceremony.specs.declared.epocher.Bounds.{Bounds}
 use Rattle.dkg_journal.specs.DeviceCall.{DeviceCall}
 use Rattle.dkg_journal.specs.Names.{Files}
 use Rattle.dkg_journal.specs.declared.disk.Op.{Op}
@@ -14,6 +15,7 @@ use Rattle.dkg_life.specs.declared.life.Stage.TheVariants as stage
 use Rattle.dkg_life.specs.declared.tip.Judged.TheVariants.{New as IsNewBlock}
 use Rattle.dkg_life.specs.Judged.{judged}
 use Rattle.dkg_life.specs.Moved.{Moved}
+use Rattle.dkg_life.specs.Steps.{AreBoundsAt}
 
 -- A life without a tip takes a block of its epoch and window, and any while it follows.
 abbrev pub is_in_window_by : Stage → (of_epoch early : Bool) → Bool
@@ -29,6 +31,12 @@ is_early_in blocks height = nat_lt height (midpoint blocks (epoch_of blocks heig
 pub record IsApplied {Dir : Type 0} (blocks : ℕ) (life : Life Dir) (b : Block Dir) : Type 0 where
   pub is_new : judged life.tip b.height b.digest b.parent ≡ Ok IsNewBlock
   pub in_window : life.tip ≡ None → is_in_window_by life.stage (epoch_of blocks b.height == life.epoch) (is_early_in blocks b.height) ≡ true
+
+-- A life that includes is delivered the last block of an epoch, whose bounds these are.
+pub record IsGivenLast {Dir : Type 0} (blocks : ℕ) (life : Life Dir) (bounds : Bounds) (b : Block Dir) : Type 0 where
+  pub includes : life.stage ≡ stage.Including
+  pub are : AreBoundsAt blocks bounds b.height
+  pub last : b.height ≡ bounds.last
 
 -- WHAT STAYS of a life and its devices over a part of a step: its random word, what is lent, and that no record which a crash leaves is out of its grammar, or past this limit.
 pub record MovesOn {D X Dir : Type 0} (was now : Life Dir) (tells : Bool) (made_disk : D → D → List (DeviceCall Op) → Type 0) (made_secrets : X → X → List (DeviceCall SecretOp) → Type 0)

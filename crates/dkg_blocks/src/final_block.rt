@@ -24,11 +24,10 @@ ghost use Rattle.dkg_life.specs.declared.life.Life.{Life};
 ghost use Rattle.dkg_life.specs.declared.life.Stage.TheVariants.{Including};
 ghost use Rattle.dkg_life.specs.declared.stop.Stop.TheVariants.{Fault as Faulted};
 ghost use Rattle.dkg_verifying.specs.Concluded.{FindsBy, HaveSameParts, canonical_in, sees_verified, verifies};
-ghost use Rattle.dkg_verifying.specs.Including.{derives_by, derives_final, derives_now, IsNextBlock};
+ghost use Rattle.dkg_verifying.specs.Including.{derives_by, derives_final, derives_now};
 ghost use Rattle.dkg_verifying.specs.InclusionOf.{IsReadyInclusion, IsSeen, IsSettledInclusion, artifact_of, cached_of};
 ghost use Rattle.dkg_verifying.specs.Looks.{OnlyLooks};
-ghost use Rattle.dkg_blocks.specs.Applied.{MovesOn};
-ghost use Rattle.dkg_life.specs.Steps.{AreBoundsAt};
+ghost use Rattle.dkg_blocks.specs.Applied.{MovesOn, IsGivenLast};
 
 use crate::following::carried_info;
 use dkg_artifact::{Artifact, ArtifactCache};
@@ -497,10 +496,7 @@ pub fn take_final_block<
     requires me { terms.now.me ≡ C.Signer.key_of signer.now }
     requires ready { IsReadyLife D.tells D.files D.image C.ack_of C.deal_of C.check_ack_of terms.now life.old devices.old }
     requires including { IsReadyInclusion C.check_log_of C.dealing_of C.finish_of (non_zero_u64_get terms.now.blocks_per_epoch) life.old inclusion.old }
-    requires includes { life.old.stage ≡ Including }
-    requires bounds { AreBoundsAt (non_zero_u64_get terms.now.blocks_per_epoch) bounds.now block.now.height }
-    requires next { IsNextBlock life.old block.now }
-    requires last { block.now.height ≡ bounds.now.last }
+    requires last { IsGivenLast (non_zero_u64_get terms.now.blocks_per_epoch) life.old bounds.now block.now }
     requires idle { inclusion.old.hand ≡ None }
     ensures ready { OnOk result (IsReadyLife D.tells D.files D.image C.ack_of C.deal_of C.check_ack_of terms.now life.new devices.new) }
     ensures including { OnOk result (IsSettledInclusion C.check_log_of C.dealing_of C.finish_of (non_zero_u64_get terms.now.blocks_per_epoch) life.new

@@ -198,7 +198,7 @@ impl<
     Dir: Directory + Drop,
 > Actor<C, P, R, M, Dir> {
     /// Opens a life: its number and its random word are the caller's. The dealings are restored, and the epoch above the source's position is
-    /// set up.
+    /// set up. The fence is a new one: where it was used before, no clause says what is done and told.
     ///
     /// A fault or a cut ends the life.
     pub fn open<D: Disk, X: SecretStore, B: BlockSource<Dir>>(

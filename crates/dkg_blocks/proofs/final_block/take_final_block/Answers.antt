@@ -59,7 +59,7 @@ returns-in_err-artifact-clause-provider g c = c.derive.ensures.stays.provider
 -- NO INFO
 
 pub carried_info-requires : goal.carried_info-requires
-carried_info-requires g c = record { below = epoch_below (non_zero_u64_get c.args.terms.now.blocks_per_epoch) c.args.block.now.height c.args.bounds.now c.args.terms.now.long c.requires.bounds }
+carried_info-requires g c = record { below = epoch_below (non_zero_u64_get c.args.terms.now.blocks_per_epoch) c.args.block.now.height c.args.bounds.now c.args.terms.now.long c.requires.last.are }
 
 pub returns-in_err-info-clause-acts : goal.returns-in_err-info-clause-acts
 returns-in_err-info-clause-acts g c = λ disk secrets provided fixed round beside of reads by provides has seen.
@@ -67,7 +67,7 @@ returns-in_err-info-clause-acts g c = λ disk secrets provided fixed round besid
     rw (p.1, p.2) (with_as beside beside.inclusion (λ more none. tt)
     (λ now made. makes_as (final_block_is fixed of.of.reshare round c.args.block.now (live_of beside c.args.fence.now c.args.life.now)) _ (then_makes (derives_final fixed round (live_of beside c.args.fence.now c.args.life.now)) (λ it. blocks.concludes fixed c.args.block.now it.0 it.1) (artifact_of c.in_ok-artifact.artifact, live_of now c.args.fence.now c.derive.new.life) (by_stop (Faulted c.in_err-info.field-0.0)) made
     (speaks_makes (blocks.concludes fixed c.args.block.now (artifact_of c.in_ok-artifact.artifact) (live_of now c.args.fence.now c.derive.new.life)) (by_stop (Faulted c.in_err-info.field-0.0)) _ _ (stops_speaks (blocks.concludes fixed c.args.block.now (artifact_of c.in_ok-artifact.artifact) (live_of now c.args.fence.now c.derive.new.life)) c.in_err-info.field-0.0
-    (concluded_ill fixed c.args.block.now (non_zero_u64_get c.args.terms.now.blocks_per_epoch) of.of.blocks of.of.reshare c.args.bounds.now c.requires.bounds (artifact_of c.in_ok-artifact.artifact) (live_of now c.args.fence.now c.derive.new.life) c.in_err-info.field-0.0 c.in_err-info.ensures.err)
+    (concluded_ill fixed c.args.block.now (non_zero_u64_get c.args.terms.now.blocks_per_epoch) of.of.blocks of.of.reshare c.args.bounds.now c.requires.last.are (artifact_of c.in_ok-artifact.artifact) (live_of now c.args.fence.now c.derive.new.life) c.in_err-info.field-0.0 c.in_err-info.ensures.err)
     (own_cause c.args.block.now c.args.bounds.now.epoch c.in_err-info.field-0.0 c.in_err-info.ensures.err) c.derive.new.out.entries))))
     (λ its is. tt)
     (c.in_ok-artifact.ensures.acts disk secrets provided fixed round beside c.args.fence.now of.of reads by provides has seen))
@@ -78,7 +78,7 @@ returns-in_err-info-clause-tells g c = λ provided fixed round beside of reads b
     rw (p.1, p.2) (with_as beside beside.inclusion (λ more none. tt)
     (λ now told. tells_as (final_block_is fixed of.of.reshare round c.args.block.now (live_of beside c.args.fence.now c.args.life.now)) _ (then_told (derives_final fixed round (live_of beside c.args.fence.now c.args.life.now)) (λ it. blocks.concludes fixed c.args.block.now it.0 it.1) (artifact_of c.in_ok-artifact.artifact, live_of now c.args.fence.now c.derive.new.life) (by_stop (Faulted c.in_err-info.field-0.0)) told
     (speaks_tells (blocks.concludes fixed c.args.block.now (artifact_of c.in_ok-artifact.artifact) (live_of now c.args.fence.now c.derive.new.life)) (by_stop (Faulted c.in_err-info.field-0.0)) (stops_speaks (blocks.concludes fixed c.args.block.now (artifact_of c.in_ok-artifact.artifact) (live_of now c.args.fence.now c.derive.new.life)) c.in_err-info.field-0.0
-    (concluded_ill fixed c.args.block.now (non_zero_u64_get c.args.terms.now.blocks_per_epoch) of.of.blocks of.of.reshare c.args.bounds.now c.requires.bounds (artifact_of c.in_ok-artifact.artifact) (live_of now c.args.fence.now c.derive.new.life) c.in_err-info.field-0.0 c.in_err-info.ensures.err)
+    (concluded_ill fixed c.args.block.now (non_zero_u64_get c.args.terms.now.blocks_per_epoch) of.of.blocks of.of.reshare c.args.bounds.now c.requires.last.are (artifact_of c.in_ok-artifact.artifact) (live_of now c.args.fence.now c.derive.new.life) c.in_err-info.field-0.0 c.in_err-info.ensures.err)
     (own_cause c.args.block.now c.args.bounds.now.epoch c.in_err-info.field-0.0 c.in_err-info.ensures.err) c.derive.new.out.entries))))
     (λ its is. tt)
     (c.in_ok-artifact.ensures.tells provided fixed round beside c.args.fence.now of.of reads by provides has seen))
@@ -108,11 +108,11 @@ pub derive-requires-clause-including : goal.derive-requires-clause-including
 derive-requires-clause-including g c = c.requires.including
 
 pub derive-requires-clause-includes : goal.derive-requires-clause-includes
-derive-requires-clause-includes g c = c.requires.includes
+derive-requires-clause-includes g c = c.requires.last.includes
 
 pub take_over-requires-clause-next : goal.take_over-requires-clause-next
 take_over-requires-clause-next g c =
-    carried_next c.args.block.now c.args.bounds.now.epoch c.in_ok-info.info.now c.in_ok-info.ensures.ok ∙ sym (behind_last (non_zero_u64_get c.args.terms.now.blocks_per_epoch) c.args.block.now.height c.args.bounds.now c.args.terms.now.long c.requires.bounds c.requires.last)
+    carried_next c.args.block.now c.args.bounds.now.epoch c.in_ok-info.info.now c.in_ok-info.ensures.ok ∙ sym (behind_last (non_zero_u64_get c.args.terms.now.blocks_per_epoch) c.args.block.now.height c.args.bounds.now c.args.terms.now.long c.requires.last.are c.requires.last.last)
 
 pub take_over-requires-clause-idle : goal.take_over-requires-clause-idle
 take_over-requires-clause-idle g c = c.derive.ensures.hand ∙ c.requires.idle
@@ -131,7 +131,7 @@ returns-clause-acts g c = λ disk secrets provided fixed round beside of reads b
     with_then beside (c.in_ok-artifact.ensures.acts disk secrets provided fixed round beside c.args.fence.now of.of reads by provides has seen) (λ now its made.
     with_as now now.inclusion (λ more took. took)
     (λ last taken. makes_as (final_block_is fixed of.of.reshare round c.args.block.now (live_of beside c.args.fence.now c.args.life.now)) _ (then_makes (derives_final fixed round (live_of beside c.args.fence.now c.args.life.now)) (λ it. blocks.concludes fixed c.args.block.now it.0 it.1) (artifact_of c.in_ok-artifact.artifact, live_of now c.args.fence.now c.derive.new.life) (ends_in (live_of last c.take_over.new.fence c.take_over.new.life) c.take_over.result) made
-    (makes_as (concluded_well fixed c.args.block.now (non_zero_u64_get c.args.terms.now.blocks_per_epoch) of.of.blocks of.of.reshare c.args.bounds.now c.requires.bounds (artifact_of c.in_ok-artifact.artifact) (live_of now c.args.fence.now c.derive.new.life) c.in_ok-info.info.now c.in_ok-info.ensures.ok) _ taken)))
+    (makes_as (concluded_well fixed c.args.block.now (non_zero_u64_get c.args.terms.now.blocks_per_epoch) of.of.blocks of.of.reshare c.args.bounds.now c.requires.last.are (artifact_of c.in_ok-artifact.artifact) (live_of now c.args.fence.now c.derive.new.life) c.in_ok-info.info.now c.in_ok-info.ensures.ok) _ taken)))
     (λ i is. is)
     (c.take_over.ensures.acts disk secrets fixed now (in_word c.args.terms.now c.args.life.now.word c.derive.new.life.word fixed (ap (λ (l : Life g.row.Dir.Denot). l.word) c.derive.ensures.stays.same) of) reads by provides.spelling_is its))
 
@@ -140,7 +140,7 @@ returns-clause-tells g c = λ provided fixed round beside of reads by provides h
     with_then beside (c.in_ok-artifact.ensures.tells provided fixed round beside c.args.fence.now of.of reads by provides has seen) (λ now its told.
     with_as now now.inclusion (λ more took. took)
     (λ last taken. tells_as (final_block_is fixed of.of.reshare round c.args.block.now (live_of beside c.args.fence.now c.args.life.now)) _ (then_told (derives_final fixed round (live_of beside c.args.fence.now c.args.life.now)) (λ it. blocks.concludes fixed c.args.block.now it.0 it.1) (artifact_of c.in_ok-artifact.artifact, live_of now c.args.fence.now c.derive.new.life) (ends_in (live_of last c.take_over.new.fence c.take_over.new.life) c.take_over.result) told
-    (tells_as (concluded_well fixed c.args.block.now (non_zero_u64_get c.args.terms.now.blocks_per_epoch) of.of.blocks of.of.reshare c.args.bounds.now c.requires.bounds (artifact_of c.in_ok-artifact.artifact) (live_of now c.args.fence.now c.derive.new.life) c.in_ok-info.info.now c.in_ok-info.ensures.ok) _ taken)))
+    (tells_as (concluded_well fixed c.args.block.now (non_zero_u64_get c.args.terms.now.blocks_per_epoch) of.of.blocks of.of.reshare c.args.bounds.now c.requires.last.are (artifact_of c.in_ok-artifact.artifact) (live_of now c.args.fence.now c.derive.new.life) c.in_ok-info.info.now c.in_ok-info.ensures.ok) _ taken)))
     (λ i is. is)
     (c.take_over.ensures.tells fixed now (in_word c.args.terms.now c.args.life.now.word c.derive.new.life.word fixed (ap (λ (l : Life g.row.Dir.Denot). l.word) c.derive.ensures.stays.same) of) reads by provides.spelling_is its))
 

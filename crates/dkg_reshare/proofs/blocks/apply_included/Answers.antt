@@ -81,17 +81,8 @@ take_final_block-requires-clause-ready g c = c.requires.ready
 pub take_final_block-requires-clause-including : goal.take_final_block-requires-clause-including
 take_final_block-requires-clause-including g c = back_ready g.C.Ceremony.check_log_of g.C.Ceremony.dealing_of g.C.Ceremony.finish_of (non_zero_u64_get c.args.terms.now.blocks_per_epoch) c.args.life.now c.args.inclusion.now c.requires.including c.put_back.new.self c.in_ok-put_back.ensures.ok
 
-pub take_final_block-requires-clause-includes : goal.take_final_block-requires-clause-includes
-take_final_block-requires-clause-includes g c = c.requires.includes
-
-pub take_final_block-requires-clause-bounds : goal.take_final_block-requires-clause-bounds
-take_final_block-requires-clause-bounds g c = c.requires.bounds
-
-pub take_final_block-requires-clause-next : goal.take_final_block-requires-clause-next
-take_final_block-requires-clause-next g c = c.requires.next
-
 pub take_final_block-requires-clause-last : goal.take_final_block-requires-clause-last
-take_final_block-requires-clause-last g c = grind (arith, nat_tests, common_steps)
+take_final_block-requires-clause-last g c = record { includes = c.requires.includes; are = c.requires.bounds; last = grind (arith, nat_tests, common_steps) }
 
 pub take_final_block-requires-clause-idle : goal.take_final_block-requires-clause-idle
 take_final_block-requires-clause-idle g c = back_idle c.args.inclusion.now c.put_back.new.self c.in_ok-put_back.ensures.ok
