@@ -45,11 +45,14 @@ def set_bytes(keys):
     return uint(len(keys)) + b"".join(k.to_bytes(4, "big") for k in keys)
 
 
-def info_of(dealers, players, polynomial, epoch=0):
-    """The payload of the block that begins an epoch: an info of that epoch whose output these dealers share by the polynomial."""
+def info_of(dealers, players, polynomial, epoch=0, outcome=0):
+    """The payload of the block that begins an epoch: an info of that epoch whose output these dealers share by the polynomial.
+
+    The outcome is 0 for the success of the epoch's ceremony, and 1 for its failure.
+    """
     sharing = b"\x00" + uint(len(dealers)) + polynomial_bytes(polynomial)
     output = bytes(8) + sharing + set_bytes(dealers) + set_bytes(dealers) + set_bytes(())
-    return (b"\x01\x00" + uint(epoch) + output + set_bytes(players) + set_bytes(players)).hex()
+    return (bytes([1, outcome]) + uint(epoch) + output + set_bytes(players) + set_bytes(players)).hex()
 
 
 def info(dealers):
@@ -144,7 +147,7 @@ def made(size):
     return text(lines + (first + second) * size)
 
 
-def epochs(size, members, life_of):
+def epochs(size, members, life_of, outcome=0):
     """So many epochs of eight blocks, each with a life: `life_of` has the epoch, and the dealings of all participants but this node."""
     keys = tuple(range(1, members + 1))
     output = [(7919 * i + 5) % FIELD for i in range(quorum(members))]
@@ -152,7 +155,7 @@ def epochs(size, members, life_of):
     peers = [f"peer {k} {dealing_of([value(output, k), *drawn[k - 1][1:]], 0)}" for k in keys if k != ME]
     lines = [*config(members, 8), f"block 0 - 0 {info_of(keys, keys, output)}"]
     for height in range(1, 8 * size + 8):
-        payload = info_of(keys, keys, output, height // 8 + 1) if height % 8 == 7 else "-"
+        payload = info_of(keys, keys, output, height // 8 + 1, outcome) if height % 8 == 7 else "-"
         lines.append(f"block {height} {height - 1} 0 {payload}")
     return text(lines + [line for epoch in range(size) for line in life_of(epoch, peers)])
 
@@ -174,6 +177,11 @@ def lives(size):
 
 def quiet(size):
     return epochs(size, len(FEW), lambda epoch, _: early_life(epoch, []))
+
+
+def failures(size):
+    """The same of ceremonies that failed, so that each life seeks a share of an epoch below, and finds none."""
+    return epochs(size, len(FEW), lambda epoch, _: early_life(epoch, []), 1)
 
 
 def follows(size):
@@ -202,20 +210,21 @@ def waiting(size):
 
 
 KINDS = [
-    ("repeats", repeats, 8_000, 1.1),
-    ("refusals", refusals, 8_000, 1.1),
-    ("dealers", dealers, 80, 2.1),
-    ("restarts", restarts, 10, 1.1),
-    ("blocks", blocks, 4_000, 1.1),
-    ("mixed", mixed, 3_000, 1.1),
-    ("make", made, 50, 1.1),
-    ("lives", lives, 125, 1.1),
-    ("quiet", quiet, 125, 1.1),
-    ("follows", follows, 125, 1.1),
-    ("members", members, 5, 1.1),
-    ("whole", whole, 1, 1.1),
-    ("asked", asked, 1, 1.1),
-    ("waiting", waiting, 500, 1.1),
+    ("repeats", repeats, 8_000, 1.05),
+    ("refusals", refusals, 8_000, 1.05),
+    ("dealers", dealers, 80, 1.6),
+    ("restarts", restarts, 10, 1.05),
+    ("blocks", blocks, 4_000, 1.05),
+    ("mixed", mixed, 3_000, 1.05),
+    ("make", made, 50, 1.05),
+    ("lives", lives, 125, 1.05),
+    ("quiet", quiet, 125, 1.05),
+    ("failures", failures, 125, 1.05),
+    ("follows", follows, 125, 1.05),
+    ("members", members, 5, 1.05),
+    ("whole", whole, 1, 1.05),
+    ("asked", asked, 1, 1.05),
+    ("waiting", waiting, 500, 1.05),
 ]
 
 

@@ -1,5 +1,5 @@
 -- Setup of an epoch: its info, the share and the seed, commit and registration, the prune, and this node's parts in the round.
-use Rattle.std.specs.Prelude.{ℕ, Bool, true, false, not, List, [], ◌∷◌, ◌-◌, ◌^◌, ◌==◌, ◌&&◌, ◌||◌, nat_lt, nat_le, length, filter, fold, Option, Some, None, is_some, is_none, is_ok, option_map, option_and_then, Result, Ok, Err, if◌then◌else◌}
+use Rattle.std.specs.Prelude.{ℕ, Bool, true, false, not, List, [], ◌∷◌, ◌-◌, ◌^◌, ◌==◌, ◌&&◌, ◌||◌, nat_lt, nat_le, length, filter, Option, Some, None, is_some, is_none, is_ok, option_map, option_and_then, Result, Ok, Err, if◌then◌else◌}
 use Rattle.std.specs.Option.{option_map_or, option_or}
 use Rattle.std.specs.List.{list_any}
 use Rattle.dkg_values.specs.Rising.{lookup}
@@ -14,6 +14,7 @@ use Rattle.dkg_ceremony.specs.Outcomes.{LogMap}
 use Rattle.dkg_ceremony.specs.Schedule.{epoch_of, boundary, last}
 use Rattle.dkg_ceremony.specs.Thresholds.{max_faults_of}
 use Rattle.dkg_fence.specs.Fence.{marked}
+use Rattle.dkg_secrets.specs.Secrets.{newest_below}
 use Rattle.dkg_types.specs.Blocks.{Block}
 use Rattle.dkg_types.specs.BlockCodes.{info_of}
 use Rattle.dkg_infos.specs.declared.entry.Entry.TheVariants.{Committed, Registered, Setup}
@@ -53,7 +54,7 @@ looks c f = Ask (λ h. f (c.seen h))
 
 -- the newest share of an epoch below this one
 abbrev pub share_below : List (ℕ × ℕ) → (epoch : ℕ) → Option ℕ
-share_below shares epoch = fold (λ newest s. if nat_lt s.0 epoch then Some s.1 else newest) None shares
+share_below shares epoch = newest_below shares epoch
 
 -- .. where it is this node's share of the output that the info carries on
 abbrev pub fitting : {Dir : Type 0} → Fixed Dir → EpochInfo Dir → Option ℕ → Option ℕ

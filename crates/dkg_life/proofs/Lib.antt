@@ -9,7 +9,6 @@ pub mod Dealers
 pub mod Dealt
 pub mod Kept
 pub mod Lines
-pub mod Newest
 pub mod Offered
 pub mod Said
 pub mod Seated

@@ -33,7 +33,7 @@ use Rattle.dkg_life.specs.Made.{MakesAt}
 use Rattle.dkg_life.specs.Rules.{PartialPublicOf, SharePublicOf}
 use Rattle.dkg_life.specs.Steps.{reads_secrets, reads_seed}
 use Rattle.dkg_life.proofs.Burning.{burns_still}
-use Rattle.dkg_life.proofs.Newest.{newest_is, newest_none}
+use Rattle.dkg_secrets.proofs.Newest.{newest_is, newest_none}
 use Rattle.dkg_life.proofs.Setting.{looked_up}
 
 -- THE SHARE, of what is stored

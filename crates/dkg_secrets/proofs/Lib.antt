@@ -1,4 +1,6 @@
+pub mod Asked
 pub mod Cuts
 pub mod Map
+pub mod Newest
 pub mod Ranges
 pub mod Tried

@@ -1,5 +1,6 @@
 -- What a secret store holds, and what its calls do to it.
-use Rattle.std.specs.Prelude.{◌≡◌, ◌⊎◌, ◌≤◌, ℕ, List, nat_le, Result, IsErrOf, refl}
+use Rattle.std.specs.Prelude.{◌≡◌, ◌⊎◌, ◌≤◌, ℕ, List, nat_le, nat_lt, Option, Some, None, Result, IsErrOf, refl, if◌then◌else◌}
+use Rattle.std.specs.List.{fold}
 use Rattle.std.specs.Ordering.{nat_cmp}
 use Rattle.std.specs.Coded.{Coded, code_by, coded×, coded_ℕ, coded_list}
 use Rattle.std.specs.FinMap.{FinMap, get, insert, retain_keys, code}
@@ -9,6 +10,10 @@ use Rattle.dkg_secrets.specs.declared.secrets.SecretError.{SecretError}
 use Rattle.dkg_secrets.specs.declared.secrets.SecretError.TheVariants.{Failed, NoMemory}
 use Rattle.dkg_secrets.specs.declared.secrets.SecretOp.{SecretOp}
 use Rattle.dkg_secrets.specs.declared.secrets.SecretOp.TheVariants.{PutShare, PutSeed, PutDealing, Prune}
+
+-- the value at the highest key below a bound
+abbrev pub newest_below : {V : Type 0} → List (ℕ × V) → (bound : ℕ) → Option V
+newest_below pairs bound = fold (λ newest p. if nat_lt p.0 bound then Some p.1 else newest) None pairs
 
 -- the shares and the seeds by epoch, the private halves by epoch and dealer
 pub record Secrets : Type 0 where

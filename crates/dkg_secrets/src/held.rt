@@ -4,7 +4,7 @@
 ghost use Rattle.std.specs.Prelude.{◌≡◌, OnOk, OnErr, IsSome};
 ghost use Rattle.std.specs.FinMap as map;
 ghost use Rattle.dkg_secrets.specs.Cuts.{pruned_by, after_cut};
-ghost use Rattle.dkg_secrets.specs.Secrets.{Secrets, Tries, after, IsTornPrune};
+ghost use Rattle.dkg_secrets.specs.Secrets.{Secrets, Tries, after, IsTornPrune, newest_below};
 
 use crate::number_map::NumberMap;
 use crate::pair_map::PairMap;
@@ -47,6 +47,12 @@ impl SecretMaps {
         ensures { result ≡ map.get self.now.shares epoch }
     {
         self.shares.get(epoch.0).copied()
+    }
+
+    pub(crate) fn share_below(&self, epoch: Epoch) -> Option<Share>
+        ensures { result ≡ newest_below (map.entries self.now.shares) epoch }
+    {
+        self.shares.newest_below(epoch.0).copied()
     }
 
     pub(crate) fn seed(&self, epoch: Epoch) -> Option<Seed>

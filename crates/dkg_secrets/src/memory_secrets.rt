@@ -8,7 +8,7 @@ ghost use Rattle.std.specs.FinMap as map;
 ghost use Rattle.dkg_secrets.specs.Cuts.{after_cut};
 ghost use Rattle.dkg_journal.specs.DeviceCall.{Makes, CutIn, Crashes};
 ghost use Rattle.dkg_secrets.specs.Made.{Made};
-ghost use Rattle.dkg_secrets.specs.Secrets.{HasCause, HasWant, Tries, after};
+ghost use Rattle.dkg_secrets.specs.Secrets.{HasCause, HasWant, Tries, after, newest_below};
 
 use crate::held::SecretMaps;
 use crate::secrets::{SecretError, SecretOp, SecretStore};
@@ -133,6 +133,23 @@ impl SecretStore for MemorySecrets {
     {
         self.begin()?;
         Ok(self.held.share(epoch))
+    }
+
+    fn get_share_below(
+        &mut self,
+        _alloc: Global,
+        epoch: Epoch,
+    ) -> Result<Option<Share>, SecretError>
+        ensures share { IfOk result (λ share. share ≡ newest_below (map.entries self.old.held.shares) epoch) }
+        ensures same { self.new.held ≡ self.old.held }
+        ensures cause { HasCause self.old.faults self.new.faults result }
+        ensures want { HasWant self.old.wants self.new.wants result }
+        ensures calls { Made [] self.old.held self.new.held }
+        ensures number { FailsByNumber SecretError.Failed self.old.failing.items self.old.calls self.new.calls result }
+        ensures numbers { self.new.failing ≡ self.old.failing }
+    {
+        self.begin()?;
+        Ok(self.held.share_below(epoch))
     }
 
     fn put_seed(&mut self, _alloc: Global, epoch: Epoch, seed: Seed) -> Result<(), SecretError>

@@ -3,6 +3,7 @@ ghost use Rattle.std.specs.Prelude.{◌≡◌, ℕ, ◌+◌, ◌%◌, ◌<◌, n
 ghost use Rattle.std.specs.Option.{option_copied};
 ghost use Rattle.std.specs.FinMap as map;
 ghost use Rattle.dkg_secrets.specs.Cuts.{cleared, keys_below};
+ghost use Rattle.dkg_secrets.specs.Secrets.{newest_below};
 
 use std::alloc::{AllocError, AllocFailed, Global};
 use std::collections::BTreeMap;
@@ -85,6 +86,16 @@ impl<V: Drop> NumberMap<V> {
         ensures { result ≡ filter (λ e. nat_lt e.0 min) (map.entries self.now) }
     {
         self.values.range(..min)
+    }
+
+    /// The value of the highest key below a bound, if one is there.
+    pub fn newest_below(&self, bound: u64) -> Option<&V>
+        ensures { option_copied result ≡ newest_below (map.entries self.now) bound }
+    {
+        match self.below(bound).next_back() {
+            Some((_, value)) => Some(value),
+            None => None,
+        }
     }
 
     /// The keys below the minimum, rising.

@@ -6,7 +6,7 @@ ghost use Rattle.std.specs.Prelude.{◌≡◌, ◌≤◌, ◌++◌, [], ◌∷�
 ghost use Rattle.std.specs.FinMap as map;
 ghost use Rattle.dkg_journal.specs.DeviceCall.{DeviceCall, Makes, CutIn, Crashes};
 ghost use Rattle.dkg_journal.specs.Disk.{Rose};
-ghost use Rattle.dkg_secrets.specs.Secrets.{Secrets, Tries, HasCause, HasWant, after};
+ghost use Rattle.dkg_secrets.specs.Secrets.{Secrets, Tries, HasCause, HasWant, after, newest_below};
 ghost use Rattle.dkg_secrets.specs.declared.secrets.SecretOp.{SecretOp};
 
 use dkg_ceremony::{Private, Share};
@@ -79,6 +79,24 @@ pub trait SecretStore {
         ensures cause { HasCause (faults self.old) (faults self.new) result }
         ensures want { HasWant (wants self.old) (wants self.new) result }
         ensures calls { made self.old self.new [] };
+
+    /// The newest share of an epoch below this one, if there is one.
+    ///
+    /// It asks for each epoch, the highest first. A store that finds its newest share sooner has a body of its own.
+    fn get_share_below(&mut self, alloc: Global, epoch: Epoch) -> Result<Option<Share>, SecretError>
+        ensures share { IfOk result (λ share. IsTrue tells → share ≡ newest_below (map.entries (held self.old).shares) epoch) }
+        ensures same { held self.new ≡ held self.old }
+        ensures cause { HasCause (faults self.old) (faults self.new) result }
+        ensures want { HasWant (wants self.old) (wants self.new) result }
+        ensures calls { made self.old self.new [] }
+    {
+        for below in (0..epoch.0).rev() {
+            if let Some(share) = self.get_share(alloc, Epoch(below))? {
+                return Ok(Some(share));
+            }
+        }
+        Ok(None)
+    }
 
     fn put_seed(&mut self, alloc: Global, epoch: Epoch, seed: Seed) -> Result<(), SecretError>
         ensures done { OnOk result (IsTrue tells → held self.new ≡ after (SecretOp.PutSeed epoch seed) (held self.old)) }

@@ -69,6 +69,14 @@ impl SecretStore for SureSecrets {
         Ok(self.held.share(epoch))
     }
 
+    fn get_share_below(
+        &mut self,
+        _alloc: Global,
+        epoch: Epoch,
+    ) -> Result<Option<Share>, SecretError> {
+        Ok(self.held.share_below(epoch))
+    }
+
     fn put_seed(&mut self, _alloc: Global, epoch: Epoch, seed: Seed) -> Result<(), SecretError> {
         self.change(&SecretOp::PutSeed { epoch, seed })
     }

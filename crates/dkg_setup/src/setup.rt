@@ -85,18 +85,16 @@ fn share_below<Dir: Drop, D: Disk, X: SecretStore>(
     ensures moved { Moved D.tells D.made X.made D.faults X.faults devices.old devices.new }
     ensures due { IfErr result (λ e. ErrorIsDue e ⊥ (Rose (X.faults devices.old.secrets.now) (X.faults devices.new.secrets.now)) ⊥ ⊤) }
 {
-    for below in (0..epoch.0).rev() {
-        if let Some(share) = store.share(alloc, devices, Epoch(below))? {
-            return Ok(Some(share));
-        }
+    if epoch.0 == 0 {
+        return Ok(None);
     }
-    Ok(None)
+    store.share_below(alloc, devices, epoch)
 }
 
 /// The share of an info's epoch: the one that is stored. Where there is none, and the info carries an output on, it is the newest share
 /// below, if that is this node's of the output.
 ///
-/// It looks at the epochs below one by one, down to the newest that has a share.
+/// The secret store tells which one that is.
 pub fn recovered_share<C: Ceremony, Dir: Drop, D: Disk, X: SecretStore>(
     alloc: Global,
     ceremony: &C,

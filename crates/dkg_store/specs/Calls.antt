@@ -1,11 +1,12 @@
 -- What the calls of a store and of a player mean, as acts.
 use Rattle.std.specs.Prelude.{◌||◌, ℕ, List, Bool, true, false, Option, Some, None, Result, Ok, Err, if◌then◌else◌}
-use Rattle.std.specs.FinMap.{get}
+use Rattle.std.specs.FinMap.{entries, get}
 use Rattle.dkg_ceremony.specs.declared.ceremony.AckError.{AckError}
 use Rattle.dkg_ceremony.specs.declared.ceremony.DealingError.{DealingError}
 use Rattle.dkg_journal.specs.Records.{SectionEntry}
 use Rattle.dkg_infos.specs.declared.entry.Entry.TheVariants.{Recorded}
 use Rattle.dkg_journal.specs.Operations.{Bars, Opens, Appends, Prunes}
+use Rattle.dkg_secrets.specs.Secrets.{newest_below}
 use Rattle.dkg_values.specs.declared.name.Name.{Name}
 use Rattle.dkg_store.specs.Acts.{Held, notes, Acts, Say, Do, Ask, Goes, Stops, bind, OnDisk, Changes, Cause, by_cut, by_disk, by_secrets, by_want, Ended, went, stopped, broken}
 use Rattle.dkg_store.specs.Events.{event_spelling}
@@ -124,6 +125,9 @@ opening torn calls alien = bind (opens torn calls) (λ opened. reading alien)
 
 abbrev pub sharing : ℕ → Acts StoreError (Option ℕ)
 sharing epoch = Ask (λ h. Goes (get h.secrets.shares epoch))
+
+abbrev pub sharing_below : ℕ → Acts StoreError (Option ℕ)
+sharing_below epoch = Ask (λ h. Goes (newest_below (entries h.secrets.shares) epoch))
 
 abbrev pub seeding : ℕ → Acts StoreError (Option (List ℕ))
 seeding epoch = Ask (λ h. Goes (get h.secrets.seeds epoch))

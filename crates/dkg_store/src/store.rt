@@ -30,13 +30,13 @@ ghost use Rattle.dkg_store.specs.Called.{Called, ErrorIsDue, ErrorIsDueWith, if_
 ghost use Rattle.dkg_store.specs.Left.{Extends, GivesAbove, GivesDealing, GivesNote, OpensOver, Rereads, Restores, Shrinks};
 ghost use Rattle.dkg_store.specs.Rest.{KeepsAbove, KeepsAck, KeepsLog, KeepsPair};
 ghost use Rattle.dkg_store.specs.Acts.{MadeAt, MadeOn, Runs, moment, world};
-ghost use Rattle.dkg_store.specs.Calls.{put_and_appended, noting, recording, sharing, seeding, committing, pruning, opens, opened, opening, ended, ended_as};
+ghost use Rattle.dkg_store.specs.Calls.{put_and_appended, noting, recording, sharing, sharing_below, seeding, committing, pruning, opens, opened, opening, ended, ended_as};
 ghost use Rattle.dkg_store.specs.Commits.{commit_calls, committed};
 ghost use Rattle.dkg_store.specs.Corrupt.{IsAlien, IsCorruptAt, AreEvents, AreFit, BeginsWithEvent};
 ghost use Rattle.dkg_store.specs.Counts.{CountsOn};
 ghost use Rattle.dkg_journal.specs.Opens.{KeepsAll};
 ghost use Rattle.dkg_store.specs.Errors.{IsOfDealing, IsOfDevices, IsOfOpening, IsOfPlaying, IsOfPruning, IsOfSecrets};
-ghost use Rattle.dkg_secrets.specs.Secrets.{Secrets, Tries, after};
+ghost use Rattle.dkg_secrets.specs.Secrets.{Secrets, Tries, after, newest_below};
 ghost use Rattle.dkg_store.specs.Events.{event_spelling, is_event};
 ghost use Rattle.dkg_store.specs.declared.event.Event.TheVariants as events;
 ghost use Rattle.dkg_store.specs.Pairs.{Pairs, HoldsPruned, IsWhole, AreAtOrAbove, HoldsDealings, HoldsEither, recovered};
@@ -672,6 +672,33 @@ impl<Dir: Drop> Store<Dir> {
             (Rose (X.wants devices.old.secrets.now) (X.wants devices.new.secrets.now))) }
     {
         match devices.secrets.get_share(alloc, epoch) {
+            Ok(share) => Ok(share),
+            Err(SecretError::Failed) => Err(StoreError::Secrets),
+            Err(SecretError::NoMemory) => Err(StoreError::NoMemory),
+        }
+    }
+
+    /// The newest share of an epoch below this one, if there is one.
+    pub fn share_below<D: Disk, X: SecretStore>(
+        &mut self,
+        alloc: Global,
+        devices: &mut Devices<'_, D, X>,
+        epoch: Epoch,
+    ) -> Result<Option<Share>, StoreError>
+        ensures share { IfOk result (λ share. IsTrue X.tells → share ≡ newest_below (map.entries (X.held devices.old.secrets.now).shares) epoch) }
+        ensures store { self.new ≡ self.old }
+        ensures same { X.held devices.new.secrets.now ≡ X.held devices.old.secrets.now }
+        ensures disk { devices.new.disk.now ≡ devices.old.disk.now }
+        ensures fuse { devices.new.fuse ≡ devices.old.fuse }
+        ensures acts { IsTrue D.tells → IsTrue X.tells → (out : List Line) → MadeOn D.files D.image X.held
+            (sharing_below epoch)
+            (ended result) devices.old devices.new out out }
+        ensures called { Called ⊤ D.made X.made D.faults X.faults (made_in false result)
+            [] devices.old devices.new }
+        ensures due { IfErr result (λ e. ErrorIsDue e ⊥ (Rose (X.faults devices.old.secrets.now) (X.faults devices.new.secrets.now)) ⊥
+            (Rose (X.wants devices.old.secrets.now) (X.wants devices.new.secrets.now))) }
+    {
+        match devices.secrets.get_share_below(alloc, epoch) {
             Ok(share) => Ok(share),
             Err(SecretError::Failed) => Err(StoreError::Secrets),
             Err(SecretError::NoMemory) => Err(StoreError::NoMemory),

@@ -360,8 +360,9 @@ fn has_secrets<D: Disk, X: SecretStore, Dir: Drop>(
     share: Share,
 ) -> Result<bool, StoreError> {
     let kept = store.share(alloc, devices, Epoch(1))?;
+    let newest = store.share_below(alloc, devices, Epoch(2))?;
     let seed = store.seed(alloc, devices, Epoch(1))?;
-    Ok(kept == Some(share) && seed == Some(SEED))
+    Ok(kept == Some(share) && newest == kept && seed == Some(SEED))
 }
 
 /// Commits the next epoch. Which epoch is current then, and whether it has both secrets.

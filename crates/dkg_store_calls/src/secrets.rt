@@ -1,8 +1,8 @@
-//! The memory stores against the reference model: what a cut leaves.
+//! The memory stores: what a cut leaves, against the reference model, and the newest share below an epoch.
 
-use crate::asserts::is_at;
+use crate::asserts::{is, is_at};
 use dkg_ceremony::{Private, Share};
-use dkg_secrets::{MemorySecrets, SecretOp, SecretStore};
+use dkg_secrets::{MemorySecrets, SecretOp, SecretStore, SureSecrets};
 use dkg_values::{Element, Epoch, Key, Seed};
 use std::alloc::Global;
 use std::test::Fail;
@@ -110,5 +110,39 @@ fn cut_prunes_go_by_the_bits(rt: HostRuntime) -> Result<(), Fail> {
         let left = left_of(alloc, &mut MemorySecrets::new(alloc), pick)?;
         is_at(&rt, left.as_str(), expected, pick);
     }
+    Ok(())
+}
+
+/// The newest shares below some epochs.
+fn newest_below<X: SecretStore>(
+    alloc: Global,
+    secrets: &mut X,
+    epochs: [u64; 4],
+) -> Result<[Option<Share>; 4], Fail> {
+    let [first, second, third, last] = epochs;
+    Ok([
+        secrets.get_share_below(alloc, Epoch(first))?,
+        secrets.get_share_below(alloc, Epoch(second))?,
+        secrets.get_share_below(alloc, Epoch(third))?,
+        secrets.get_share_below(alloc, Epoch(last))?,
+    ])
+}
+
+/// Whether it is the newest share that is told, of those that are put: of epochs 1 and 3.
+fn tells_the_newest<X: SecretStore>(alloc: Global, secrets: &mut X) -> Result<bool, Fail> {
+    let (one, other) = (Share(number(7)?), Share(number(9)?));
+    secrets.put_share(alloc, Epoch(3), other)?;
+    secrets.put_share(alloc, Epoch(1), one)?;
+    let low = newest_below(alloc, secrets, [0, 1, 2, 3])?;
+    let high = newest_below(alloc, secrets, [4, 5, 1 << 60, u64::MAX])?;
+    Ok(low == [None, None, Some(one), Some(one)] && high == [Some(other); 4])
+}
+
+#[test]
+fn the_newest_share_below_is_told(rt: HostRuntime) -> Result<(), Fail> {
+    let mut sure = SureSecrets::new(rt.alloc());
+    is(&rt, tells_the_newest(rt.alloc(), &mut sure)?, true);
+    let mut secrets = MemorySecrets::new(rt.alloc());
+    is(&rt, tells_the_newest(rt.alloc(), &mut secrets)?, true);
     Ok(())
 }

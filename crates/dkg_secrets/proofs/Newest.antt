@@ -1,10 +1,11 @@
 -- The newest entry of a map below a bound.
-use Rattle.std.proofs.Common.{◌≡◌, ℕ, ◌<◌, ◌≤◌, ◌-◌, ◌==◌, nat_lt, arith, Bool, true, false, cond, List, [], ◌∷◌, Option, Some, None, refl, sym, ◌∙◌, ap, subst}
-use Rattle.std.specs.Prelude.{◌&&◌, if◌then◌else◌}
+use Rattle.std.proofs.Common.{◌≡◌, ℕ, ◌<◌, ◌≤◌, ◌-◌, ◌==◌, nat_lt, arith, Bool, true, false, cond, List, [], ◌∷◌, ◌++◌, Option, Some, None, refl, sym, ◌∙◌, ap, subst}
+use Rattle.std.specs.Prelude.{◌&&◌, filter, if◌then◌else◌}
 use Rattle.std.proofs.Math.Dec.{T}
 use Rattle.std.specs.List.{fold}
 use Rattle.std.specs.FinMap.{FinMap, entries, entries_sorted, get, get-entries}
 use Rattle.std.specs.FinMap.Entries.{below_all, find, is_sorted}
+use Rattle.dkg_secrets.specs.Secrets.{newest_below}
 use Rattle.std.specs.Ordering.{eq_by_cmp, is_lt, nat_cmp}
 use Rattle.std.proofs.lemmas.Bool.Decides.{nat_tests}
 
@@ -80,14 +81,37 @@ module _ {V : Type 0} (bound : ℕ) where
 
 -- the value at the highest key below the bound
 pub newest_is : {V : Type 0} (m : FinMap nat_cmp V) (bound k : ℕ) (v : V) → k < bound → get m k ≡ Some v → ((j : ℕ) → k < j → j < bound → get m j ≡ None)
-    → fold (λ newest s. if nat_lt s.0 bound then Some s.1 else newest) None (entries m) ≡ Some v
+    → newest_below (entries m) bound ≡ Some v
 newest_is m bound k v low has none =
     one_newer bound (entries m) None (entries_sorted m) k v low (sym (get-entries m k) ∙ has) (λ j above below. sym (get-entries m j) ∙ none j above below)
 
 -- .. or there is none
 pub newest_none : {V : Type 0} (m : FinMap nat_cmp V) (bound : ℕ) → ((j : ℕ) → j < bound → get m j ≡ None)
-    → fold (λ newest s. if nat_lt s.0 bound then Some s.1 else newest) None (entries m) ≡ None
+    → newest_below (entries m) bound ≡ None
 newest_none m bound none = none_newer bound (entries m) None (λ j below. sym (get-entries m j) ∙ none j below)
+
+-- Those below the bound, and the last of them.
+newest_filtered : {V : Type 0} (bound : ℕ) (es : List (ℕ × V)) (newest : Option V)
+    → fold (λ newest p. if nat_lt p.0 bound then Some p.1 else newest) newest es ≡ fold (λ _ p. Some p.1) newest (filter (λ e. nat_lt e.0 bound) es)
+newest_filtered bound [] newest = refl
+newest_filtered {V} bound (e ∷ es) newest = by_place (nat_lt e.0 bound) (newest_filtered bound es (Some e.1)) (newest_filtered bound es newest)
+  where
+    by_place : (b : Bool) → fold (λ newest p. if nat_lt p.0 bound then Some p.1 else newest) (Some e.1) es ≡ fold (λ _ p. Some p.1) (Some e.1) (filter (λ e. nat_lt e.0 bound) es)
+        → fold (λ newest p. if nat_lt p.0 bound then Some p.1 else newest) newest es ≡ fold (λ _ p. Some p.1) newest (filter (λ e. nat_lt e.0 bound) es)
+        → fold (λ newest p. if nat_lt p.0 bound then Some p.1 else newest) (if b then Some e.1 else newest) es
+        ≡ fold (λ _ p. Some p.1) newest (cond b (e ∷ filter (λ e. nat_lt e.0 bound) es) (filter (λ e. nat_lt e.0 bound) es))
+    by_place true first rest = first
+    by_place false first rest = rest
+
+last_of : {V : Type 0} (ys : List (ℕ × V)) (y : ℕ × V) (newest : Option V) → fold (λ _ p. Some p.1) newest (ys ++ y ∷ []) ≡ Some y.1
+last_of [] y newest = refl
+last_of (x ∷ ys) y newest = last_of ys y (Some x.1)
+
+pub newest_last : {V : Type 0} (bound : ℕ) (es ys : List (ℕ × V)) (y : ℕ × V) → filter (λ e. nat_lt e.0 bound) es ≡ ys ++ y ∷ [] → newest_below es bound ≡ Some y.1
+newest_last {V} bound es ys y is = newest_filtered bound es None ∙ ap (λ (l : List (ℕ × V)). fold (λ _ p. Some p.1) None l) is ∙ last_of ys y None
+
+pub newest_of_none : {V : Type 0} (bound : ℕ) (es : List (ℕ × V)) → filter (λ e. nat_lt e.0 bound) es ≡ [] → newest_below es bound ≡ None
+newest_of_none {V} bound es is = newest_filtered bound es None ∙ ap (λ (l : List (ℕ × V)). fold (λ _ p. Some p.1) None l) is
 
 -- none from one number on, and none at the one below
 pub none_from : {V : Type 0} (m : FinMap nat_cmp V) (from bound : ℕ) → 0 < from → ((k : ℕ) → from ≤ k → k < bound → get m k ≡ None) → get m (from - 1) ≡ None
