@@ -11,7 +11,7 @@ dkg make N           runs the script that is made of the number N, and writes a 
 dkg make N script    writes the text of that script\n\
 \n\
 A script comes by standard input, never by its name. docs/SCRIPT.md has its grammar, line by line, and\n\
-examples/README.md a dozen of them, told. The devices live in memory, and the ceremony hides nothing\n\
+examples/README.md fifteen of them, told. The devices live in memory, and the ceremony hides nothing\n\
 (README.md, \"Who is covered\").\n\
 \n\
 Status  Last line on standard output\n\
