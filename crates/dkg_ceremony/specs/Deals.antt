@@ -1,6 +1,6 @@
 -- What a dealer deals in a round.
 use Rattle.std.specs.Prelude.{◌≡◌, ℕ, ◌+◌, ◌%◌, ◌==◌, not, Bool, true, false, List, [], ◌∷◌, ◌++◌, length, map, max, take, Option, Some, None, Result, Ok, Err, if◌then◌else◌}
-use Rattle.std.specs.Int.{w16, w32, to_be_bytes, from_be_bytes}
+use Rattle.std.specs.Int.{w16, w32, w64, to_be_bytes, from_be_bytes}
 use Rattle.std.specs.List.{range_with_len}
 use Rattle.sha2.specs.Sha256.{sha256}
 use Rattle.dkg_values.specs.Rising.{place_of}
@@ -11,6 +11,10 @@ use Rattle.dkg_ceremony.specs.declared.deal.DealError.TheVariants.{ShareRefused,
 use Rattle.dkg_ceremony.specs.Polynomials.{prime, value_at}
 use Rattle.dkg_ceremony.specs.Thresholds.{quorum_of}
 use Rattle.dkg_ceremony.specs.Dealings.{fits_at}
+
+-- A seed that is drawn anew: the digest of the life's random word and the epoch.
+unfoldable pub fresh_seed : (word epoch : ℕ) → List ℕ
+fresh_seed word epoch = sha256 (to_be_bytes w64 word ++ to_be_bytes w64 epoch)
 
 -- a coefficient that is drawn from the seed
 unfoldable pub coefficient_of : List ℕ → ℕ → ℕ

@@ -4,7 +4,7 @@
 //! the dealer's share.
 ghost use Rattle.std.specs.Prelude.{◌≤◌, ◌≡◌, ℕ, ◌+◌, ◌<◌, IfOk, map};
 ghost use Rattle.std.specs.Option.{option_copied};
-ghost use Rattle.dkg_ceremony.specs.Deals.{AnswersDeal, again_of, coefficient_of, deal_of, dealt_at, dealt_poly, halves_from, is_share_of};
+ghost use Rattle.dkg_ceremony.specs.Deals.{AnswersDeal, again_of, coefficient_of, deal_of, dealt_at, dealt_poly, fresh_seed as fresh_seed_of, halves_from, is_share_of};
 ghost use Rattle.dkg_ceremony.specs.declared.deal.DealError.TheVariants.{NoMemory as NoMemoryLeft};
 
 use crate::evaluate::{fits, value_of};
@@ -13,7 +13,7 @@ use crate::private::{Private, Share};
 use crate::public::Public;
 use crate::round::Round;
 use crate::threshold::quorum;
-use dkg_values::{Element, Key, Map, Mem, NoMemory, Seed, Set};
+use dkg_values::{Element, Epoch, Key, Map, Mem, NoMemory, Seed, Set};
 use sha2::{Digest, Sha256};
 use std::alloc::{AllocError, AllocFailed, Global};
 use thiserror::Error;
@@ -50,6 +50,17 @@ impl<T: Drop> From<AllocFailed<T>> for DealError {
     fn from(_e: AllocFailed<T>) -> DealError {
         DealError::NoMemory
     }
+}
+
+/// The seed that a node draws for an epoch of which it has none yet, in a life with this random word.
+#[tactic(auto, unfolding(crate::specs::Deals::fresh_seed))]
+pub fn fresh_seed(word: u64, epoch: Epoch) -> Seed
+    ensures { result ≡ fresh_seed_of word epoch }
+{
+    let mut hasher = Sha256::new();
+    hasher.update(&word.to_be_bytes());
+    hasher.update(&epoch.0.to_be_bytes());
+    Seed(hasher.finalize())
 }
 
 /// The element of a number below 65,521.

@@ -31,7 +31,7 @@ mod valid_log;
 mod weigh;
 
 pub use ceremony::{AckError, Ceremony, DealingError, acks_pass, dealers_pass, finishes_agree};
-pub use deal::DealError;
+pub use deal::{DealError, fresh_seed};
 pub use dealer_log::DealerLog;
 pub use dkg_values::{
     Blob, CodecError, Digest, Element, EncodeSize, Epoch, Height, Key, Map, MapCfg, MapIter, Mark,

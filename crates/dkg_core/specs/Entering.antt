@@ -1,7 +1,7 @@
 -- The orchestrator's half: which epoch is entered, and which blocks it acknowledges.
-use Rattle.std.specs.Prelude.{ℕ, Bool, true, false, ◌++◌, ◌+◌, ◌==◌, ◌||◌, nat_lt, nat_le, Option, Some, None, is_some, if◌then◌else◌}
+use Rattle.std.specs.Prelude.{ℕ, Bool, true, false, ◌+◌, ◌==◌, ◌||◌, nat_lt, nat_le, Option, Some, None, is_some, if◌then◌else◌}
 use Rattle.std.specs.Option.{option_map_or}
-use Rattle.dkg_values.specs.Rising.{lookup, set_of}
+use Rattle.dkg_values.specs.Rising.{lookup}
 use Rattle.dkg_ceremony.specs.Schedule.{epoch_of, boundary, last}
 use Rattle.dkg_fence.specs.declared.fence.Waited.{Waited}
 use Rattle.dkg_fence.specs.declared.fence.Waited.TheVariants as waits
@@ -12,9 +12,9 @@ use Rattle.dkg_types.specs.BlockCodes.{info_of}
 use Rattle.dkg_infos.specs.declared.entry.Entry.TheVariants.{Entered, Halted, Hint, Acked}
 use Rattle.dkg_infos.specs.declared.fault.Fault.TheVariants.{MissingEpochInfo, WrongEpoch, SkippedHeight, HeightRange}
 use Rattle.dkg_infos.specs.declared.info.EpochInfo.{EpochInfo}
-use Rattle.dkg_infos.specs.declared.participants.Participants.{Participants}
 use Rattle.dkg_infos.specs.declared.participants.TrackedPeers.{TrackedPeers}
 use Rattle.dkg_types.specs.declared.scheme.SchemeInfo.{SchemeInfo}
+use Rattle.dkg_probe.specs.Probing.{tracked_of}
 use Rattle.dkg_core.specs.Courses.{Course, Say, Call, Goes, Stops, bind, Genesis, Certified, Tracks, StartsEngine, StopsEngine}
 use Rattle.dkg_core.specs.Fixed.{Fixed, Material, start}
 use Rattle.dkg_core.specs.Live.{Live, Orchestrator, Waiting, NodeStop, Faulted, MissingScheme, PeerSet, with_orchestrator}
@@ -32,10 +32,6 @@ pub record Half (Dir : Type 0) : Type 0 where
 
 abbrev pub leaves : {Dir : Type 0} → Orchestrator Dir → HalfAnswer → Live Dir → Course Dir NodeStop (Half Dir)
 leaves o answer st = Goes (record { live = with_orchestrator o st; answer = answer })
-
--- The dealers are primary peers; the players and the next players are secondary.
-abbrev pub tracked_of : Participants → TrackedPeers
-tracked_of p = record { primary = p.dealers; secondary = set_of (p.players ++ p.next_players) }
 
 abbrev pub is_ready : Option ℕ → (epoch : ℕ) → Bool
 is_ready ready epoch = option_map_or (λ greatest. nat_le epoch greatest) ready false

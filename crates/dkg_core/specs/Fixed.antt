@@ -1,8 +1,6 @@
 -- What a step is given: the configuration, what the ceremony's calls mean, what the provider says, what the life was given (none of which changes
 -- in a life), and the source that the step is lent.
-use Rattle.std.specs.Prelude.{ℕ, Bool, List, ◌++◌, Option, Result, is_some}
-use Rattle.std.specs.Int.{w64, to_be_bytes}
-use Rattle.sha2.specs.Sha256.{sha256}
+use Rattle.std.specs.Prelude.{ℕ, Bool, List, Option, Result, is_some}
 use Rattle.dkg_values.specs.Codec.{Reading}
 use Rattle.dkg_values.specs.Rising.{place_of}
 use Rattle.dkg_ceremony.specs.declared.mode.Mode.{Mode}
@@ -141,7 +139,3 @@ start c = position c.source.anchor
 -- whether a key is in a set
 abbrev pub has : List ℕ → ℕ → Bool
 has set key = is_some (place_of key set)
-
--- A seed that is drawn anew: the digest of the life's word and the epoch.
-unfoldable pub fresh_seed : (word epoch : ℕ) → List ℕ
-fresh_seed word epoch = sha256 (to_be_bytes w64 word ++ to_be_bytes w64 epoch)

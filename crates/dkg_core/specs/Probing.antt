@@ -9,10 +9,9 @@ use Rattle.dkg_probe.specs.declared.event.Event.TheVariants as event_of
 use Rattle.dkg_probe.specs.declared.state.State.{State}
 use Rattle.dkg_probe.specs.Candidates.{Awaiting}
 use Rattle.dkg_probe.specs.Probing as of_probe
-use Rattle.dkg_probe.specs.Probing.{Probes, steps}
+use Rattle.dkg_probe.specs.Probing.{Probes, steps, tracked_of}
 use Rattle.dkg_probe.specs.Sources as lent
 use Rattle.dkg_core.specs.Courses.{Course, Goes}
-use Rattle.dkg_core.specs.Entering.{tracked_of}
 use Rattle.dkg_core.specs.Fixed.{Fixed, Snapshot}
 use Rattle.dkg_core.specs.Joining.{joined}
 use Rattle.dkg_core.specs.Live.{Live, Probe, Awaited, Discovered, NodeStop, PeerSet, Event, Subscribe, Unsubscribe, Attach, ProbeReply, Retry}

@@ -9,6 +9,7 @@ use Rattle.dkg_ceremony.specs.declared.phase.Phase.{Phase}
 use Rattle.dkg_ceremony.specs.declared.phase.Phase.TheVariants.{Early, Midpoint, Late}
 use Rattle.dkg_ceremony.specs.declared.round.RoundParts.{RoundParts as Round}
 use Rattle.dkg_ceremony.specs.declared.round.RoundError.{RoundError}
+use Rattle.dkg_ceremony.specs.Deals.{fresh_seed}
 use Rattle.dkg_ceremony.specs.Finishes.{has_public}
 use Rattle.dkg_ceremony.specs.Outcomes.{LogMap}
 use Rattle.dkg_ceremony.specs.Schedule.{epoch_of, boundary, last}
@@ -42,7 +43,7 @@ use Rattle.dkg_core.specs.Courses.{Course, Say, Do, Call, Ask, Goes, Stops, Mark
 use Rattle.dkg_store.specs.Recorded.{Pair, first_refused}
 use Rattle.dkg_secrets.specs.declared.secrets.SecretOp.TheVariants.{PutShare, PutSeed, Prune}
 use Rattle.dkg_core.specs.Seen.{Seen}
-use Rattle.dkg_core.specs.Fixed.{Fixed, has, fresh_seed}
+use Rattle.dkg_core.specs.Fixed.{Fixed, has}
 use Rattle.dkg_core.specs.Live.{Live, Records, Dealer, Seat, Plays, Watches, Deals, Includes, Follows, awaited_height, phase_of, of_epoch, with_participation, with_inclusion, with_orchestrator}
 use Rattle.dkg_core.specs.Logs.{logs_of}
 

@@ -73,10 +73,6 @@ round_after info = record { namespace = []; number = info.epoch; previous = Some
 unfoldable pub dealer_seed : (number key epoch : ℕ) → List ℕ
 dealer_seed number key epoch = sha256 (to_be_bytes w64 number ++ to_be_bytes w32 key ++ to_be_bytes w64 epoch)
 
--- what a node draws from that has no seed of an epoch: its life's random word and the epoch
-unfoldable pub fresh_seed : (word epoch : ℕ) → List ℕ
-fresh_seed word epoch = sha256 (to_be_bytes w64 word ++ to_be_bytes w64 epoch)
-
 -- a public half, and each player's private half
 abbrev pub Halves : Type 0
 Halves = List ℕ × List (ℕ × ℕ)

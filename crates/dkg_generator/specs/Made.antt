@@ -24,7 +24,8 @@ use Rattle.dkg_text.specs.declared.script.Life.{Life}
 use Rattle.dkg_text.specs.declared.script.PlayerLine.{PlayerLine}
 use Rattle.dkg_text.specs.declared.script.Script.{Script}
 use Rattle.dkg_text.specs.declared.script.ScriptConfig.{ScriptConfig}
-use Rattle.dkg_generator.specs.Chain.{Halves, dealing_of, epochs, everybody, failed, fresh_seed, halves_of, info_after, info_at, logs_of, me, others, round_after}
+use Rattle.dkg_ceremony.specs.Deals.{fresh_seed}
+use Rattle.dkg_generator.specs.Chain.{Halves, dealing_of, epochs, everybody, failed, halves_of, info_after, info_at, logs_of, me, others, round_after}
 
 -- an epoch has 64 blocks
 

@@ -8,7 +8,7 @@ ghost use Rattle.dkg_ceremony.specs.Deals.{coefficient_of};
 ghost use Rattle.dkg_ceremony.specs.Outcomes.{outcome_of};
 ghost use Rattle.dkg_ceremony.specs.PartialPublics.{partial_public_of};
 ghost use Rattle.dkg_infos.specs.NextInfos.{info_by, next_info};
-ghost use Rattle.dkg_generator.specs.Chain.{acks_of as acks_from, by_dealer as by_dealer_of, dealer_seed as dealer_seed_of, everybody as everybody_of, fresh_seed as fresh_seed_of, genesis as genesis_of, genesis_poly, halves_of, log_by, provided, round_after as round_from};
+ghost use Rattle.dkg_generator.specs.Chain.{acks_of as acks_from, by_dealer as by_dealer_of, dealer_seed as dealer_seed_of, everybody as everybody_of, genesis as genesis_of, genesis_poly, halves_of, log_by, provided, round_after as round_from};
 
 use dkg_ceremony::{
     Ack, Blob, Ceremony, DealError, DealerLog, Element, Epoch, Key, Map, Mark, Mem, Mode, NoMemory,
@@ -108,17 +108,6 @@ pub(crate) fn dealer_seed(number: u64, key: Key, epoch: Epoch) -> Seed
     let mut hasher = Sha256::new();
     hasher.update(&number.to_be_bytes());
     hasher.update(&key.0.to_be_bytes());
-    hasher.update(&epoch.0.to_be_bytes());
-    Seed(hasher.finalize())
-}
-
-/// What this node draws its coefficients from, in a life with this random word.
-#[tactic(auto, unfolding(crate::specs::Chain::fresh_seed))]
-pub(crate) fn fresh_seed(word: u64, epoch: Epoch) -> Seed
-    ensures { result ≡ fresh_seed_of word epoch }
-{
-    let mut hasher = Sha256::new();
-    hasher.update(&word.to_be_bytes());
     hasher.update(&epoch.0.to_be_bytes());
     Seed(hasher.finalize())
 }

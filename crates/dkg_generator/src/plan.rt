@@ -7,10 +7,10 @@ ghost use Rattle.dkg_generator.specs.Chain.{everybody as everybody_of, included 
 ghost use Rattle.dkg_generator.specs.Made.{acks_to, dealings_of, first_of, halves_message, holds_share as holds_share_of, info_bytes as info_bytes_of, log_bytes};
 ghost use Rattle.dkg_generator.specs.Making.{IsPlan};
 
-use crate::chain::{deal, dealer_seed, fresh_seed, info_after, round_after, sign};
+use crate::chain::{deal, dealer_seed, info_after, round_after, sign};
 use dkg_ceremony::{
     Blob, Ceremony, Key, Map, Mem, Private, Public, Round, SignedDealerLog, StandCeremony,
-    StandSigner, Value, encode,
+    StandSigner, Value, encode, fresh_seed,
 };
 use dkg_infos::{EpochInfo, Unit};
 use dkg_types::{Message, Payload};

@@ -6,7 +6,7 @@ use Rattle.dkg_values.specs.Codec.{many_at}
 use Rattle.dkg_values.specs.Lists.{keys_at}
 use Rattle.dkg_values.specs.Uint.{groups, groups_at}
 use Rattle.dkg_ceremony.specs.declared.phase.Phase.TheVariants.{Early, Midpoint, Late}
-use Rattle.dkg_ceremony.specs.Deals.{deal_of}
+use Rattle.dkg_ceremony.specs.Deals.{deal_of, fresh_seed}
 use Rattle.dkg_ceremony.specs.Finishes.{finish_of}
 use Rattle.dkg_ceremony.specs.Modes.{mode_at}
 use Rattle.dkg_ceremony.specs.Outcomes.{selected_of, outcome_of}
@@ -24,7 +24,7 @@ use Rattle.dkg_infos.specs.Validation.{validation}
 use Rattle.dkg_store.specs.Acts.{OnDisk, Changes}
 use Rattle.dkg_journal.specs.Operations.{Bars, Opens, PutsPlan, ClearsPlan}
 use Rattle.dkg_secrets.specs.declared.secrets.SecretOp.TheVariants.{PutSeed}
-use Rattle.dkg_core.specs.Fixed.{Material, fresh_seed}
+use Rattle.dkg_core.specs.Fixed.{Material}
 use Rattle.dkg_core.specs.Live.{Reshare, Delivers, EpochInfoOf, Faulted}
 use Rattle.dkg_core.specs.Plans.{material_bytes}
 use Rattle.dkg_laws.proofs.Mirror.{holding_plan}

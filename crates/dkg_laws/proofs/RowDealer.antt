@@ -10,7 +10,7 @@ use Rattle.dkg_ceremony.specs.declared.phase.Phase.TheVariants.{Early}
 use Rattle.dkg_ceremony.specs.declared.round.RoundParts.{RoundParts as Round}
 use Rattle.dkg_ceremony.specs.declared.signed_log.SignedDealerLog.{SignedDealerLog}
 use Rattle.dkg_ceremony.specs.Acks.{ack_content, ack_of, check_ack_of}
-use Rattle.dkg_ceremony.specs.Deals.{deal_of, coefficient_of, dealt_poly}
+use Rattle.dkg_ceremony.specs.Deals.{deal_of, coefficient_of, dealt_poly, fresh_seed}
 use Rattle.dkg_ceremony.specs.Marks.{mark_of}
 use Rattle.dkg_ceremony.specs.Polynomials.{value_at}
 use Rattle.dkg_ceremony.specs.Rounds.{round_of, round_bytes}
@@ -27,7 +27,6 @@ use Rattle.dkg_journal.specs.Operations.{Bars, Opens, Appends}
 use Rattle.dkg_store.specs.Events.{event_spelling}
 use Rattle.dkg_store.specs.declared.event.Event.TheVariants as events
 use Rattle.dkg_secrets.specs.declared.secrets.SecretOp.TheVariants.{PutShare, PutDealing}
-use Rattle.dkg_core.specs.Fixed.{fresh_seed}
 use Rattle.dkg_core.specs.Live.{Reshare, Delivers, NextLog, ReleaseLog, NodeStop}
 use Rattle.dkg_laws.proofs.Mirror.{Outcome, holding, secret}
 use Rattle.dkg_laws.proofs.Lives.{Life, plays_over}

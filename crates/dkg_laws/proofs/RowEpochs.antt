@@ -7,7 +7,7 @@ use Rattle.dkg_ceremony.specs.declared.mode.Mode.TheVariants.{NonZeroCounter}
 use Rattle.dkg_ceremony.specs.declared.mode.Reveal.TheVariants.{V1}
 use Rattle.dkg_ceremony.specs.declared.phase.Phase.TheVariants.{Early}
 use Rattle.dkg_ceremony.specs.declared.round.RoundParts.{RoundParts as Round}
-use Rattle.dkg_ceremony.specs.Deals.{deal_of, coefficient_of}
+use Rattle.dkg_ceremony.specs.Deals.{deal_of, coefficient_of, fresh_seed}
 use Rattle.dkg_ceremony.specs.PartialPublics.{partial_public_of}
 use Rattle.dkg_ceremony.specs.Polynomials.{value_at}
 use Rattle.dkg_ceremony.specs.Rounds.{round_of}
@@ -20,7 +20,7 @@ use Rattle.dkg_infos.specs.Validation.{validation}
 use Rattle.dkg_journal.specs.Operations.{Bars, Opens, Prunes}
 use Rattle.dkg_secrets.specs.declared.secrets.SecretOp.TheVariants.{PutShare, PutSeed, Prune}
 use Rattle.dkg_store.specs.Acts.{Held, OnDisk, Changes}
-use Rattle.dkg_core.specs.Fixed.{Fixed, fresh_seed}
+use Rattle.dkg_core.specs.Fixed.{Fixed}
 use Rattle.dkg_core.specs.Live.{Live, NodeStop, Faulted}
 use Rattle.dkg_core.specs.Forms.{dealer_in, share_read, seed_read, started}
 use Rattle.dkg_laws.proofs.Mirror.{Outcome, holding, secret, mirrored}

@@ -8,7 +8,7 @@ use Rattle.dkg_ceremony.specs.declared.mode.Mode.TheVariants.{NonZeroCounter}
 use Rattle.dkg_ceremony.specs.declared.output.Output.{Output}
 use Rattle.dkg_ceremony.specs.declared.phase.Phase.TheVariants.{Early}
 use Rattle.dkg_ceremony.specs.AgreementTest.{agreed}
-use Rattle.dkg_ceremony.specs.Deals.{deal_of, coefficient_of}
+use Rattle.dkg_ceremony.specs.Deals.{deal_of, coefficient_of, fresh_seed}
 use Rattle.dkg_ceremony.specs.Polynomials.{value_at}
 use Rattle.dkg_ceremony.specs.Rounds.{round_of}
 use Rattle.dkg_types.specs.Blocks.{Block}
@@ -21,7 +21,7 @@ use Rattle.dkg_infos.specs.Validation.{validation}
 use Rattle.dkg_store.specs.Acts.{OnDisk, Changes}
 use Rattle.dkg_journal.specs.Operations.{Prunes}
 use Rattle.dkg_secrets.specs.declared.secrets.SecretOp.TheVariants.{PutShare, PutSeed, Prune}
-use Rattle.dkg_core.specs.Fixed.{stand_in, fresh_seed}
+use Rattle.dkg_core.specs.Fixed.{stand_in}
 use Rattle.dkg_core.specs.Live.{Delivers}
 use Rattle.dkg_laws.proofs.Lives.{Life, plays}
 use Rattle.dkg_laws.proofs.Worked.{Dir, life_of, above, configured, genesis, carrying, block, info, keys, last_of}

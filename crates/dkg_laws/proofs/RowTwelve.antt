@@ -23,7 +23,7 @@ use Rattle.dkg_types.specs.Blocks.{Block}
 use Rattle.dkg_store.specs.Acts.{OnDisk, Changes, Held}
 use Rattle.dkg_journal.specs.Operations.{Bars, Opens, Prunes}
 use Rattle.dkg_secrets.specs.declared.secrets.SecretOp.TheVariants.{PutSeed, Prune}
-use Rattle.dkg_core.specs.Fixed.{fresh_seed}
+use Rattle.dkg_ceremony.specs.Deals.{fresh_seed}
 use Rattle.dkg_core.specs.Live.{Live, Peer, Event, Reshare, Delivers, NodeStop}
 use Rattle.dkg_core.specs.Node.{node_step}
 use Rattle.dkg_laws.proofs.Mirror.{Outcome, nothing, held_within}

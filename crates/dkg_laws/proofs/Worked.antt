@@ -24,7 +24,8 @@ use Rattle.dkg_store.specs.Acts.{Operation, OnDisk, Changes}
 use Rattle.dkg_journal.specs.Operations.{Bars, Opens, Appends, Prunes}
 use Rattle.dkg_secrets.specs.declared.secrets.SecretOp.TheVariants.{PutSeed, PutDealing, Prune}
 use Rattle.dkg_core.specs.Sources.{Absent, source_of}
-use Rattle.dkg_core.specs.Fixed.{Fixed, stand_in, fresh_seed}
+use Rattle.dkg_ceremony.specs.Deals.{fresh_seed}
+use Rattle.dkg_core.specs.Fixed.{Fixed, stand_in}
 use Rattle.dkg_core.specs.Live.{NodeStop, Faulted}
 use Rattle.dkg_laws.proofs.Lives.{Life}
 use Rattle.dkg_laws.proofs.Mirror.{mirrored, Outcome}

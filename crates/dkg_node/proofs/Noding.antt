@@ -39,6 +39,7 @@ use Rattle.dkg_text.specs.declared.script.Event.TheVariants as event
 use Rattle.dkg_text.specs.declared.script.PlayerLine.{PlayerLine}
 use Rattle.dkg_text.specs.declared.script.ScriptConfig.{ScriptConfig}
 use Rattle.dkg_script.specs.Players.{players_at}
+use Rattle.dkg_core.specs.Behind.{event_of}
 use Rattle.dkg_core.specs.Core.{no_inclusion, no_orchestrator, no_probe, step}
 use Rattle.dkg_core.specs.Courses.{Course, Goes, Say, bind, on_devices}
 use Rattle.dkg_core.specs.Entering.{acked_at, acked_late, asks_again, takes_delivered, enters, is_ready}
@@ -78,7 +79,7 @@ use Rattle.dkg_lives.specs.Epochs.{MayStep, any_shares}
 use Rattle.dkg_lives.specs.Given.{IsUnplanned, Lived, at_step, blocks_in, step_of}
 use Rattle.dkg_lives.specs.Lives.{never}
 use Rattle.dkg_around.specs.Orchestrator.{HasHalf, IsSettled, MayGoOn, MayPass, with_half}
-use Rattle.dkg_node.specs.Nodes.{IsEventHere, IsMail, IsOfLife, IsReadyNode, IsView, Viewed, event_of, sent_event}
+use Rattle.dkg_node.specs.Nodes.{IsEventHere, IsMail, IsOfLife, IsReadyNode, IsView, Viewed, sent_event}
 use Rattle.dkg_around.specs.declared.half.Half.{Half}
 use Rattle.dkg_around.specs.declared.held.HeldBlocks.{HeldBlocks}
 use Rattle.dkg_node.specs.declared.node.Node.{Node}

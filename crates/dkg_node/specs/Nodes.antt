@@ -14,6 +14,7 @@ use Rattle.dkg_text.specs.declared.script.Event.TheVariants.{Peer, Final, Next, 
 use Rattle.dkg_text.specs.declared.script.Life.{Life}
 use Rattle.dkg_types.specs.Blocks.{Block}
 use Rattle.dkg_infos.specs.declared.directory.Unit as directory
+use Rattle.dkg_core.specs.Behind.{event_of}
 use Rattle.dkg_core.specs.Live as core_live
 use Rattle.dkg_core.specs.Live.{Live, NodeStop}
 use Rattle.dkg_reshare.specs.declared.message.Message.{Message}
@@ -110,10 +111,6 @@ pub record HasOpened (node : Node) (blocks : List (Block directory.Unit)) (life 
 abbrev pub IsMail : Message directory.Unit (Unit {0}) → Type 0
 IsMail (message.Finalized b) = ⊥
 IsMail its = ⊤
-
-abbrev pub event_of : core_live.Message directory.Unit → core_live.Event directory.Unit
-event_of (core_live.Sent mail) = core_live.Reshare mail
-event_of (core_live.Finalized b) = core_live.Delivers b
 
 abbrev pub sent_event : Message directory.Unit (Unit {0}) → core_live.Event directory.Unit
 sent_event its = event_of (message_of its)

@@ -22,7 +22,6 @@ ghost use Rattle.dkg_infos.specs.declared.fault.Fault.TheVariants.{HeightRange, 
 ghost use Rattle.dkg_core.specs.Agreeing.{AreAgreed};
 ghost use Rattle.dkg_core.specs.Courses.{bind};
 ghost use Rattle.dkg_core.specs.Fixed.{Fixed, has};
-ghost use Rattle.dkg_core.specs.Fixed as given;
 ghost use Rattle.dkg_core.specs.Live.{Live};
 ghost use Rattle.dkg_core.specs.Live as live;
 ghost use Rattle.dkg_core.specs.Setup as setup;
@@ -41,7 +40,7 @@ ghost use Rattle.dkg_life.specs.declared.stop.Stop.TheVariants.{Fault as Faulted
 
 use crate::midpoint::begin_inclusion;
 use crate::source::BlockSource;
-use dkg_ceremony::{Bounds, Ceremony, Epocher, Phase, Round, RoundError, Share};
+use dkg_ceremony::{Bounds, Ceremony, Epocher, Phase, Round, RoundError, Share, fresh_seed};
 use dkg_fence::Fence;
 use dkg_infos::{
     Directory, Entry, EpochInfo, EpochOutcome, Fault, Part, ParticipantsCause, Role, Transcript,
@@ -51,7 +50,6 @@ use dkg_life::{Life, Stage, Stop, Terms, awaited};
 use dkg_store::{Dealer, Devices, Player, SecretStore, Store, StoreError};
 use dkg_types::{Registrar, SchemeInfo};
 use dkg_values::{Epoch, Height, Key, Mem, Seed, Value};
-use sha2::{Digest, Sha256};
 use std::alloc::Global;
 use std::num::NonZeroU32;
 
@@ -125,16 +123,6 @@ pub fn recovered_share<C: Ceremony, Dir: Drop, D: Disk, X: SecretStore>(
         Some(share) if ceremony.share_public(&share) == expected => Ok(Some(share)),
         _ => Ok(None),
     }
-}
-
-/// The seed that a life with this random word draws for an epoch that has none yet.
-fn fresh_seed(word: u64, epoch: Epoch) -> Seed
-    ensures { result ≡ given.fresh_seed word epoch }
-{
-    let mut hasher = Sha256::new();
-    hasher.update(&word.to_be_bytes());
-    hasher.update(&epoch.0.to_be_bytes());
-    Seed(hasher.finalize())
 }
 
 /// The seed of an epoch: the stored one, else a fresh one (`seed_for`).

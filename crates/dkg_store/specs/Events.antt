@@ -1,5 +1,5 @@
 -- The events of a journal in bytes: a kind, and what that kind has.
-use Rattle.std.proofs.Common.{◌≡◌, ℕ, zero, suc, ◌^◌, ◌-◌, ◌<◌, List, [], ◌∷◌, ◌++◌, length, Err, Bool, is_ok, Option, Some, None, refl}
+use Rattle.std.proofs.Common.{◌≡◌, ℕ, zero, suc, ◌^◌, ◌-◌, ◌<◌, List, [], ◌∷◌, ◌++◌, Err, Bool, is_ok, Option, Some, None, refl}
 use Rattle.std.specs.Prelude.{if◌then◌else◌}
 use Rattle.std.specs.Int.{w32, to_be_bytes}
 use Rattle.dkg_values.specs.declared.codec.CodecError.TheVariants.{InvalidEnum}
@@ -10,6 +10,7 @@ use Rattle.dkg_values.specs.UintGrammar.{u64_grammar}
 use Rattle.dkg_values.specs.Joined.{beside_at, beside_grammar, BothFit, both_spelled, seen_at}
 use Rattle.dkg_values.specs.Lists.{public_at, public_spelling, PublicFits}
 use Rattle.dkg_values.specs.ListGrammar.{be32_grammar, public_grammar}
+use Rattle.dkg_ceremony.specs.LogEntries.{IsMark}
 use Rattle.dkg_ceremony.specs.Logs.{log_at, log_spelling, LogFits, log_grammar}
 use Rattle.dkg_ceremony.specs.Variants.{MadeOf, variant_grammar, none_grammar}
 use Rattle.dkg_ceremony.specs.declared.dealer_log.DealerLog.{DealerLog}
@@ -36,9 +37,6 @@ event_spelling = tagged event_tag event_body
 
 abbrev pub IsKey : ℕ → Type 0
 IsKey n = n < 2 ^ 32
-
-abbrev pub IsMark : List ℕ → Type 0
-IsMark bytes = length bytes ≡ 8
 
 -- a key, and behind it what is within the limit
 abbrev pub DealingFits : ℕ → ℕ × List ℕ → Type 0

@@ -1,5 +1,5 @@
 -- Messages as bytes.
-use Rattle.std.proofs.Common.{◌≡◌, ℕ, zero, suc, ◌<◌, List, ◌++◌, length, Err, refl}
+use Rattle.std.proofs.Common.{◌≡◌, ℕ, zero, suc, ◌<◌, List, ◌++◌, Err, refl}
 use Rattle.std.specs.Int.{w16, to_be_bytes}
 use Rattle.dkg_values.specs.declared.codec.CodecError.TheVariants.{InvalidEnum}
 use Rattle.dkg_values.specs.Bytes.{bytes_at, bytes_grammar, HasTag, tagged, tagged_at, tagged_grammar}
@@ -7,6 +7,7 @@ use Rattle.dkg_values.specs.Codec.{Reading, IsGrammar}
 use Rattle.dkg_values.specs.Joined.{beside_at, beside_grammar, BothFit, both_spelled, seen_at}
 use Rattle.dkg_values.specs.Lists.{element_at, public_at, public_spelling, PublicFits}
 use Rattle.dkg_values.specs.ListGrammar.{element_grammar, public_grammar}
+use Rattle.dkg_ceremony.specs.LogEntries.{IsMark}
 use Rattle.dkg_types.specs.declared.message.Message.{Message}
 use Rattle.dkg_types.specs.declared.message.Message.TheVariants.{Dealer, Ack}
 use Rattle.dkg_types.specs.Variants.{MadeOf, variant_grammar, none_grammar}
@@ -25,9 +26,6 @@ message_spelling = tagged message_tag message_body
 -- two halves, the public one within the limit
 abbrev pub HalvesFit : ℕ → List ℕ × ℕ → Type 0
 HalvesFit most = BothFit (PublicFits most) (λ n. n < 65521)
-
-abbrev pub IsMark : List ℕ → Type 0
-IsMark bytes = length bytes ≡ 8
 
 abbrev pub MessageFits : ℕ → Message → Type 0
 MessageFits most (Dealer public private) = HalvesFit most (public, private)

@@ -5,9 +5,7 @@ use Rattle.dkg_types.specs.declared.addresses.Address.{Address}
 use Rattle.dkg_types.specs.declared.manager.TrackError.{TrackError}
 use Rattle.dkg_types.specs.declared.manager.TrackError.TheVariants.{Missing, NoMemory}
 use Rattle.dkg_infos.specs.declared.participants.TrackedPeers.{TrackedPeers}
-
-abbrev pub Pairs : Type 0
-Pairs = List (ℕ × Address)
+use Rattle.dkg_types.specs.AddressCodes.{Pairs}
 
 -- what is kept by number, with one more under its number
 abbrev pub with_set : {A : Type 0} → (ℕ → Option A) → ℕ → A → ℕ → Option A

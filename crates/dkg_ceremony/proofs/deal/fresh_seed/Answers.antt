@@ -1,5 +1,5 @@
-use Rattle.dkg_core.specs.Fixed.{fresh_seed}
-use Rattle.dkg_setup.proofs.setup.fresh_seed.Goals as goal
+use Rattle.dkg_ceremony.specs.Deals.{fresh_seed}
+use Rattle.dkg_ceremony.proofs.deal.fresh_seed.Goals as goal
 
 pub returns : goal.returns
 unfolding fresh_seed
