@@ -1,6 +1,6 @@
 -- What is dealt passes the check.
 use Rattle.std.proofs.Common.{◌≡◌, ℕ, zero, suc, ◌+◌, ◌-◌, ◌<◌, ◌≤◌, ◌^◌, Bool, true, false, cond, eqb, List, [], ◌∷◌, ◌++◌, length, get_or, take, map, Option, Some, None, is_some, Ok, Err, inl, inr, refl, sym, ap, subst, ◌∙◌, add-one, arith}
-use Rattle.std.specs.Prelude.{◌↔◌, option_map, IfSome, Contains, IfOk, IsSomeAnd, not}
+use Rattle.std.specs.Prelude.{◌↔◌, option_map, IfSome, Contains, IfErr, IfOk, IsOk, IsSomeAnd, not}
 use Rattle.std.specs.List.{position_from, range_with_len}
 use Rattle.std.specs.List.Sorted.{IsStrictlyIncreasing}
 use Rattle.std.proofs.Math.Nat.{max-eq_left}
@@ -167,6 +167,28 @@ has_share (Some o) signer (Some share) = held o signer share (place_of signer o.
 not_refused : (b : Bool) (dealt : Deal) → (cond (not b) (Err ShareRefused) (Ok dealt) ≡ Err ShareRefused → ⊥) ↔ (b ≡ true)
 not_refused true dealt = (λ h. refl, λ e is. cc)
 not_refused false dealt = (λ h. absurd (h refl), λ e is. cc)
+
+-- a dealing is there just where there is a share to deal, or none is needed
+is_dealt : (b : Bool) (dealt : Deal) → IsOk (cond (not b) (Err ShareRefused) (Ok dealt)) ↔ (b ≡ true)
+is_dealt true dealt = (λ h. refl, λ e. refl)
+is_dealt false dealt = (λ h. h, λ e. e)
+
+pub holders_deal : (round : Round) (signer : ℕ) (share : Option ℕ) (seed : List ℕ) → IsOk (deal_of round signer share seed) ↔ HasShare round.previous signer share
+unfolding deal_of
+holders_deal round signer share seed =
+    let one = is_dealt (is_share_of round.previous signer share) (both_halves (dealt_poly (again_of round.previous share) seed (dealt_length (length round.players))) round.players) in
+    let two = has_share round.previous signer share in
+    (λ h. two.0 (one.0 h), λ h. one.1 (two.1 h))
+
+share_refused : (b : Bool) (dealt : Deal) → IfErr (cond (not b) (Err ShareRefused) (Ok dealt)) (λ e. e ≡ ShareRefused)
+share_refused true dealt = tt
+share_refused false dealt = refl
+
+-- nothing else keeps a dealer from dealing
+pub only_shares_are_refused : (round : Round) (signer : ℕ) (share : Option ℕ) (seed : List ℕ) → IfErr (deal_of round signer share seed) (λ e. e ≡ ShareRefused)
+unfolding deal_of
+only_shares_are_refused round signer share seed =
+    share_refused (is_share_of round.previous signer share) (both_halves (dealt_poly (again_of round.previous share) seed (dealt_length (length round.players))) round.players)
 
 pub shares_are_dealt : (round : Round) (signer : ℕ) (share : Option ℕ) (seed : List ℕ) → (deal_of round signer share seed ≡ Err ShareRefused → ⊥) ↔ HasShare round.previous signer share
 unfolding deal_of

@@ -1,7 +1,7 @@
 //! What a node asks of a key ceremony.
 //!
 //! Each answer is a function of the arguments, the same at every node: the ghost members say which.
-ghost use Rattle.std.specs.Prelude.{◌≡◌, ◌≤◌, ◌↔◌, ℕ, true, List, length, Option, option_map, Ok, Err, Some, Contains, IfErr, IfOk, IfSome, IsSomeAnd};
+ghost use Rattle.std.specs.Prelude.{◌≡◌, ◌≤◌, ◌↔◌, ℕ, true, List, length, Option, option_map, Ok, Some, Contains, IfErr, IfOk, IfSome, IsOk, IsSomeAnd};
 ghost use Rattle.dkg_values.specs.Rising.{lookup};
 ghost use Rattle.dkg_ceremony.specs.declared.ceremony.AckError.TheVariants.{NoMemory as NoMemoryLeft};
 ghost use Rattle.dkg_ceremony.specs.declared.dealer_log.DealerLog.{DealerLog};
@@ -72,11 +72,12 @@ impl<T: Drop> From<AllocFailed<T>> for AckError {
 
 /// The calls of a ceremony.
 pub trait Ceremony {
-    ghost use Rattle.std.specs.Prelude.{◌≡◌, ◌↔◌, ℕ, Bool, true, List, Option, Some, option_map, Result, Ok, Err, IfErr, IfOk, IfSome, IsSomeAnd, IsTrue, Contains};
+    ghost use Rattle.std.specs.Prelude.{◌≡◌, ◌↔◌, ℕ, Bool, true, List, Option, Some, option_map, Result, Ok, Err, IfErr, IfOk, IfSome, IsOk, IsSomeAnd, IsTrue, Contains};
     ghost use Rattle.std.specs.Option.{option_copied};
     ghost use Rattle.dkg_values.specs.Rising.{lookup};
     ghost use Rattle.dkg_ceremony.specs.declared.round.RoundParts.{RoundParts as Round};
     ghost use Rattle.dkg_ceremony.specs.declared.round.RoundError.{RoundError};
+    ghost use Rattle.dkg_ceremony.specs.declared.round.RoundError.TheVariants.{NoMemory as NoMemoryForRound};
     ghost use Rattle.dkg_ceremony.specs.declared.output.Output.{Output};
     ghost use Rattle.dkg_ceremony.specs.declared.mode.Mode.{Mode};
     ghost use Rattle.dkg_ceremony.specs.declared.mode.Reveal.{Reveal};
@@ -266,9 +267,17 @@ pub trait Ceremony {
     /// What a player acknowledges passes the check.
     ghost acks_pass: { (round : Round) (me dealer : ℕ) (public : List ℕ) → Contains round.players me → check_ack_of round dealer public me (ack_of me round dealer public) ≡ Ok tt };
 
-    /// A dealer deals, unless it has no share of the previous output that is its own.
+    /// A round that isn't drawn up has a cause of its own: want of memory is none.
+    ghost rounds_have_causes: { (namespace : List ℕ) (number : ℕ) (previous : Option Output) (mode : Mode) (reveal : Reveal) (dealers players : List ℕ)
+        → IfErr (round_of namespace number previous mode reveal dealers players) (λ e. e ≡ NoMemoryForRound → ⊥) };
+
+    /// A dealer deals just where it has a share of the previous output that is its own, or there is no previous output.
     ghost shares_are_dealt: { (round : Round) (signer : ℕ) (share : Option ℕ) (seed : List ℕ)
-        → (deal_of round signer share seed ≡ Err ShareRefused → ⊥) ↔ IfSome round.previous (λ output. IsSomeAnd share (λ s. partial_public_of output signer ≡ Some (share_public_of s))) };
+        → IsOk (deal_of round signer share seed) ↔ IfSome round.previous (λ output. IsSomeAnd share (λ s. partial_public_of output signer ≡ Some (share_public_of s))) };
+
+    /// Else its share is refused, whatever it is.
+    ghost only_shares_are_refused: { (round : Round) (signer : ℕ) (share : Option ℕ) (seed : List ℕ)
+        → IfErr (deal_of round signer share seed) (λ e. e ≡ ShareRefused) };
 
     /// What a dealer deals passes each player's check.
     ghost deals_pass: { (round : Round) (signer : ℕ) (share : Option ℕ) (seed : List ℕ) → Contains round.dealers signer
@@ -301,7 +310,8 @@ pub fn acks_pass<C: Ceremony>()
 /// What a dealer deals and signs passes the checks, of every ceremony.
 pub fn dealers_pass<C: Ceremony>()
     ensures dealt { (round : Round) (signer : ℕ) (share : Option ℕ) (seed : List ℕ)
-        → (C.deal_of round signer share seed ≡ Err DealError.ShareRefused → ⊥) ↔ IfSome round.previous (λ output. IsSomeAnd share (λ s. C.partial_public_of output signer ≡ Some (C.share_public_of s))) }
+        → IsOk (C.deal_of round signer share seed) ↔ IfSome round.previous (λ output. IsSomeAnd share (λ s. C.partial_public_of output signer ≡ Some (C.share_public_of s))) }
+    ensures refused { (round : Round) (signer : ℕ) (share : Option ℕ) (seed : List ℕ) → IfErr (C.deal_of round signer share seed) (λ e. e ≡ DealError.ShareRefused) }
     ensures checked { (round : Round) (signer : ℕ) (share : Option ℕ) (seed : List ℕ) → Contains round.dealers signer
         → IfOk (C.deal_of round signer share seed) (λ dealt. (me : ℕ) → Contains round.players me → IsSomeAnd (lookup me dealt.1) (λ private. C.dealing_of round me signer dealt.0 private ≡ Ok tt)) }
     ensures short { (round : Round) (signer : ℕ) (share : Option ℕ) (seed : List ℕ)

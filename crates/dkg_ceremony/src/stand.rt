@@ -68,12 +68,12 @@ impl Ceremony for StandCeremony {
     type Signer = StandSigner;
 
     ghost use Rattle.dkg_ceremony.specs.Rounds.{round_of as round_from};
-    ghost use Rattle.dkg_ceremony.specs.RoundLaws.{round_has as round_has_parts};
+    ghost use Rattle.dkg_ceremony.specs.RoundLaws.{round_has as round_has_parts, rounds_have_causes as all_rounds_have_causes};
     ghost use Rattle.dkg_ceremony.specs.Dealings.{dealing_of as dealing_from};
     ghost use Rattle.dkg_ceremony.specs.Acks.{ack_of as ack_from, check_ack_of as check_ack_from};
     ghost use Rattle.dkg_ceremony.specs.AckLaws.{ack_passes};
     ghost use Rattle.dkg_ceremony.specs.Deals.{deal_of as deal_from};
-    ghost use Rattle.dkg_ceremony.specs.DealLaws.{deals_are_short as all_deals_are_short, deals_pass as all_deals_pass, shares_are_dealt as held_are_dealt};
+    ghost use Rattle.dkg_ceremony.specs.DealLaws.{deals_are_short as all_deals_are_short, deals_pass as all_deals_pass, holders_deal, only_shares_are_refused as others_are_refused};
     ghost use Rattle.dkg_ceremony.specs.ValidLogs.{bears_ack_of as bears_from, check_log_of as check_log_from, sign_log_of as signed_from};
     ghost use Rattle.dkg_ceremony.specs.LogMarkLaws.{signed_passes};
     ghost use Rattle.dkg_ceremony.specs.Outcomes.{outcome_of as outcome_from, selected_of as selected_from};
@@ -111,7 +111,11 @@ impl Ceremony for StandCeremony {
 
     ghost partial_public_of = { partial_public_from };
 
-    ghost shares_are_dealt = { held_are_dealt };
+    ghost rounds_have_causes = { all_rounds_have_causes };
+
+    ghost shares_are_dealt = { holders_deal };
+
+    ghost only_shares_are_refused = { others_are_refused };
 
     ghost deals_pass = { all_deals_pass };
 
