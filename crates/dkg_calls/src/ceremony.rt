@@ -506,3 +506,15 @@ fn versions_know_their_modes(rt: HostRuntime) -> Result<(), Fail> {
     }
     Ok(())
 }
+
+/// What another program draws for epoch 3 in a life whose random word is 7.
+const FRESH: [u8; 32] = [
+    66, 88, 210, 31, 168, 176, 137, 119, 94, 37, 154, 169, 254, 191, 217, 96, 182, 94, 150, 128,
+    180, 13, 91, 183, 233, 223, 199, 76, 204, 120, 69, 56,
+];
+
+#[test]
+fn a_fresh_seed_is_of_the_word_and_the_epoch(rt: HostRuntime) -> Result<(), Fail> {
+    holds(&rt, fresh_seed(7, Epoch(3)) == Seed(FRESH));
+    Ok(())
+}
