@@ -1,5 +1,5 @@
 //! Where a command writes its transcript to: any writer of bytes that may fail, and two in memory.
-ghost use Rattle.std.specs.Prelude.{◌≡◌, ◌<◌, ◌≤◌, ◌++◌, List, [], ℕ, Bool, IsTrue, IsOk, IfOk, OnErr, length, take, true, false, if◌then◌else◌};
+ghost use Rattle.std.specs.Prelude.{◌≡◌, ◌<◌, ◌≤◌, ◌+◌, ◌-◌, ◌^◌, ◌++◌, List, [], ℕ, Bool, Contains, IsTrue, IsOk, IfOk, OnErr, OnOk, length, min, take, true, false, if◌then◌else◌};
 ghost use Rattle.dkg_journal.specs.Disk.{Rose};
 
 use crate::calls::Calls;
@@ -71,7 +71,18 @@ impl Sink for MemorySink {
 
     ghost faults = { λ s. s.calls.faults };
 
-    fn write(&mut self, piece: &[u8]) -> Result<usize, Failed> {
+    fn write(&mut self, piece: &[u8]) -> Result<usize, Failed>
+        ensures within { IfOk result (λ n. n ≤ length piece.now) }
+        ensures some { IfOk result (λ n. 0 < length piece.now → 0 < n) }
+        ensures takes { IfOk result (λ n. self.new.bytes.items ≡ self.old.bytes.items ++ take n piece.now) }
+        ensures lost { OnErr result (self.new.bytes.items ≡ self.old.bytes.items) }
+        ensures later { self.old.calls.faults ≤ self.new.calls.faults }
+        ensures failed { OnErr result (Rose self.old.calls.faults self.new.calls.faults) }
+        // It counts one call more, and fails where that is named; else memory was wanting.
+        ensures made { self.new.calls.made ≡ min (self.old.calls.made + 1) (2 ^ 64 - 1) }
+        ensures failing { self.new.calls.failing ≡ self.old.calls.failing }
+        ensures goes { OnOk result (Contains self.old.calls.failing.items self.new.calls.made → ⊥) }
+    {
         self.calls.make()?;
         match self.bytes.extend_from_slice(piece) {
             Ok(()) => Ok(piece.len()),

@@ -1,5 +1,5 @@
 //! Where a command reads its script from: any reader of bytes that may fail, and two in memory.
-ghost use Rattle.std.specs.Prelude.{◌≡◌, ◌<◌, ◌≤◌, List, [], ℕ, Bool, IsTrue, IfOk, OnErr, length, take, drop};
+ghost use Rattle.std.specs.Prelude.{◌≡◌, ◌<◌, ◌≤◌, ◌+◌, ◌-◌, ◌^◌, List, [], ℕ, Bool, Contains, IsTrue, IfOk, OnErr, OnOk, length, min, take, drop};
 ghost use Rattle.dkg_journal.specs.Disk.{Rose};
 ghost use Rattle.dkg_outside.specs.Outside.{TookPiece};
 
@@ -94,7 +94,18 @@ impl Source for MemorySource {
 
     ghost has_back = { λ _ _. Unit {0} };
 
-    fn read(&mut self, into: &mut [u8]) -> Result<usize, Failed> {
+    fn read(&mut self, into: &mut [u8]) -> Result<usize, Failed>
+        ensures within { IfOk result (λ n. n ≤ length into.new) }
+        ensures gives { IfOk result (λ n. TookPiece n into.new (drop self.old.place self.old.bytes.items) (drop self.new.place self.new.bytes.items)) }
+        ensures lost { OnErr result (drop self.new.place self.new.bytes.items ≡ drop self.old.place self.old.bytes.items) }
+        ensures later { self.old.calls.faults ≤ self.new.calls.faults }
+        ensures failed { OnErr result (Rose self.old.calls.faults self.new.calls.faults) }
+        // It counts one call more, and fails exactly where that is named.
+        ensures made { self.new.calls.made ≡ min (self.old.calls.made + 1) (2 ^ 64 - 1) }
+        ensures failing { self.new.calls.failing ≡ self.old.calls.failing }
+        ensures fails { OnErr result (Contains self.old.calls.failing.items self.new.calls.made) }
+        ensures goes { OnOk result (Contains self.old.calls.failing.items self.new.calls.made → ⊥) }
+    {
         self.calls.make()?;
         let count = take_front(&self.bytes[self.place..], into);
         self.place += count;

@@ -502,7 +502,8 @@ impl<
         // No record that a crash leaves is out of its grammar, or past the limit, where none was.
         ensures fit { IsTrue D.tells → AreFit (non_zero_u32_get self.old.terms.limit) (D.image devices.old.disk.now)
             → AreFit (non_zero_u32_get self.old.terms.limit) (D.image devices.new.disk.now) }
-        ensures registrar { self.new.registrar ≡ self.old.registrar }
+        // It lends the registrar and the fence to nobody.
+        ensures lends { (self.new.registrar ≡ self.old.registrar) × (_fence.new ≡ _fence.old) }
     {
         let State::Living(life, inclusion) = &mut self.state else {
             return Err(Stop::Failed);

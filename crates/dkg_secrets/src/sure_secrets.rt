@@ -1,7 +1,9 @@
 //! A secret store in memory that never fails.
-ghost use Rattle.std.specs.Prelude.{◌≡◌, ◌∷◌, [], OnOk, OnErr, IsErrOf};
+ghost use Rattle.std.specs.Prelude.{◌≡◌, ◌≤◌, ◌∷◌, [], OnOk, OnErr, IsErrOf};
 ghost use Rattle.std.specs.FinMap as map;
-ghost use Rattle.dkg_journal.specs.DeviceCall.{Makes};
+ghost use Rattle.dkg_journal.specs.DeviceCall.{CutIn, Makes};
+ghost use Rattle.dkg_journal.specs.Disk.{Rose};
+ghost use Rattle.dkg_secrets.specs.Cuts.{after_cut};
 ghost use Rattle.dkg_secrets.specs.Made.{Made};
 ghost use Rattle.dkg_secrets.specs.Secrets.{HasWant, Tries, after};
 
@@ -112,7 +114,15 @@ impl SecretStore for SureSecrets {
         self.change(&SecretOp::Prune { min })
     }
 
-    fn cut(&mut self, alloc: Global, op: &SecretOp, pick: u64) -> Mem<()> {
+    fn cut(&mut self, alloc: Global, op: &SecretOp, pick: u64) -> Mem<()>
+        ensures crash { Tries op.now self.old.held self.new.held }
+        ensures memory { OnErr result (self.new.held ≡ self.old.held) }
+        ensures later { self.old.wants ≤ self.new.wants }
+        ensures wanted { OnErr result (Rose self.old.wants self.new.wants) }
+        ensures calls { Made (CutIn op.now pick ∷ []) self.old.held self.new.held }
+        // A put is done where the pick is even; of the keys that a prune is to take, those go at whose places the bits are 0.
+        ensures picked { OnOk result (self.new.held ≡ after_cut op.now pick self.old.held) }
+    {
         if self.held.cut(alloc, op, pick).is_err() {
             self.wants = self.wants.saturating_add(1);
             return Err(NoMemory);

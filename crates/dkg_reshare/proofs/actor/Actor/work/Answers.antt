@@ -50,14 +50,14 @@ work-requires-clause-ready g c = of_living c.args.self.now.state c.in-Living.lif
 pub work-requires-clause-including : goal.work-requires-clause-including
 work-requires-clause-including g c = of_living c.args.self.now.state c.in-Living.life c.in-Living.inclusion c.in-Living.is _ c.requires.including
 
-pub returns-in_default-clause-registrar : goal.returns-in_default-clause-registrar
-returns-in_default-clause-registrar g c = refl
+pub returns-in_default-clause-lends : goal.returns-in_default-clause-lends
+returns-in_default-clause-lends g c = (refl, refl)
 
-pub returns-in-Ok-clause-registrar : goal.returns-in-Ok-clause-registrar
-returns-in-Ok-clause-registrar g c = refl
+pub returns-in-Ok-clause-lends : goal.returns-in-Ok-clause-lends
+returns-in-Ok-clause-lends g c = (refl, refl)
 
-pub returns-in-Err-clause-registrar : goal.returns-in-Err-clause-registrar
-returns-in-Err-clause-registrar g c = c.fail.ensures.registrar
+pub returns-in-Err-clause-lends : goal.returns-in-Err-clause-lends
+returns-in-Err-clause-lends g c = (c.fail.ensures.registrar, refl)
 
 pub returns-in-Ok-clause-including : goal.returns-in-Ok-clause-including
 returns-in-Ok-clause-including g c = c.in-Ok.ensures.including
