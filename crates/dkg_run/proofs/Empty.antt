@@ -4,7 +4,7 @@ use Rattle.std.specs.FinMap.{empty, get, get-empty, same_map}
 use Rattle.std.specs.Int.NonZero.{non_zero_u32_get}
 use Rattle.std.specs.Ordering.{nat_cmp}
 use Rattle.dkg_values.specs.declared.name.Name.{Name}
-use Rattle.dkg_values.specs.declared.name.Name.TheVariants.{Flat, Plan}
+use Rattle.dkg_values.specs.declared.name.Name.TheVariants.{Flat}
 use Rattle.dkg_journal.specs.Names.{Files, name_cmp}
 use Rattle.dkg_journal.specs.Opening.{broken, broken_rows, broken_with}
 use Rattle.dkg_journal.specs.Segments.{segment_rows}
@@ -69,7 +69,7 @@ valid script = record {
 }
 
 fresh : AreFresh (contents []) (RowsImage []) none_held
-fresh = record { honest = λ script. honest script none_held; valid = valid; no_plan = get-empty name_cmp Plan }
+fresh = record { no_file = λ name. get-empty name_cmp name; no_secret = refl; honest = λ script. honest script none_held; valid = valid }
 
 pub empty_fresh : (rows : Rows) (held : Secrets) → rows ≡ [] → held ≡ none_held → AreFresh (contents rows) (RowsImage rows) held
 empty_fresh rows held none_there is = subst (λ (h : Secrets). AreFresh (contents rows) (RowsImage rows) h) (sym is) (subst (λ (r : Rows). AreFresh (contents r) (RowsImage r) none_held) (sym none_there) fresh)
