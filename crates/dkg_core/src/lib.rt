@@ -34,8 +34,8 @@ pub fn peers_are_heard<Dir>()
     ensures { PeersAreHeard Dir }
 {}
 
-/// At every exit of a peer's message, whatever an operation in hand leaves: the devices are whole and give back the dealings from
-/// before or with the sender's, and an acknowledgement is that of a dealing that they give back.
+/// At every exit of a peer's message, whatever an operation in hand leaves, if memory had what whole devices give back, and what is brought fits a
+/// record: the devices are whole and give back the dealings from before or with the sender's, and an acknowledgement is that of a dealing that they give back.
 pub fn peers_are_kept<Dir>()
     ensures { PeersAreKept Dir }
 {}
@@ -92,8 +92,8 @@ pub fn peers_agree<Dir>()
     ensures { PeersAgree Dir }
 {}
 
-/// At every exit of a run of peers' messages: the devices are whole, and each acknowledgement and each recorded dealing of the run
-/// is that of a dealing that they give back.
+/// At every exit of a run of peers' messages, if memory had what whole devices give back, and what is brought fits a record: the devices are whole, and
+/// each acknowledgement and each recorded dealing of the run is that of a dealing that they give back.
 pub fn runs_are_kept<Dir>()
     ensures { RunsAreKept Dir }
 {}
@@ -227,9 +227,9 @@ pub fn node_offers_are_dealt<Dir>()
     ensures { NodeOffersAreDealt Dir }
 {}
 
-/// In the form of epochs a step stops by faults of its own alone that have their cause: the fault that the block in hand is refused for, another
-/// dealing of this node that is recorded, or what the info of an epoch's last block is refused for while following; or it leaves the life that
-/// follows from it.
+/// By what the form of epochs takes (`IsTakenIn`) a step stops by faults of its own alone that have their cause: the fault that the block in hand is
+/// refused for, another dealing of this node that is recorded, or what the info of an epoch's last block is refused for while following; or it leaves
+/// the life that follows from it.
 pub fn steps_lead<Dir>()
     ensures { StepsLead Dir }
 {}
@@ -273,12 +273,13 @@ pub fn setups_come_through<Dir>()
 {}
 
 /// Requests are read until one needs more, none is left, or a verification runs: so no request is left unread while inclusion runs none, and a
-/// verification starts exactly where the logs that were found have neither a cached artifact nor a retained result.
+/// verification starts only where the logs that were found have neither a cached artifact nor a retained result.
 pub fn advances_lead<Dir>()
     ensures { (c : Fixed Dir) → AdvancesLeadAt c (read_somewhere c) }
 {}
 
-/// In a life that passes through whole epochs any step stops by these faults alone, each of which has its cause; or it leaves such a life.
+/// In a life that passes through whole epochs any step stops by these faults alone, each of which has its cause; or it leaves such a life. A result
+/// that is handed in is one, whoever found it (`IsTakenThrough`).
 pub fn steps_come_through<Dir>()
     ensures { (c : Fixed Dir) → StepsComeThroughAt c (read_somewhere c) }
 {}

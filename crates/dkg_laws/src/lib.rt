@@ -38,8 +38,9 @@ pub fn stand_ins_finish<Dir>()
     ensures { StandInsFinish Dir }
 {}
 
-/// At every exit of any step, whatever an operation in hand leaves: the devices are whole, and each acknowledgement and each recorded
-/// dealing that was told, of the epochs that the step prunes nothing of, is that of a dealing that they give back.
+/// At every exit of any step, whatever an operation in hand leaves, if memory had what whole devices give back, and what is recorded fits a record: the
+/// devices are whole, and each acknowledgement and each recorded dealing that was told, of the epochs that the step prunes nothing of, is that of a
+/// dealing that they give back.
 pub fn steps_keep<Dir>()
     ensures { StepsKeep Dir }
 {}
@@ -49,8 +50,8 @@ pub fn transcripts_move<F, S>()
     ensures { TranscriptsMove F S }
 {}
 
-/// At every exit of any step the devices give back each dealing that they gave back before it, of the epochs that the step prunes
-/// nothing of.
+/// At every exit of any step, on the same premise, the devices give back each dealing that they gave back before it, of the epochs that the step
+/// prunes nothing of.
 pub fn steps_give_back<Dir>()
     ensures { StepsGiveBack Dir }
 {}
@@ -144,7 +145,8 @@ pub fn node_steps_agree<Dir>()
     ensures { NodeStepsAgree Dir }
 {}
 
-/// At every exit of a node's step the devices give back each dealing that they gave back before it, of the epochs that the step prunes nothing of.
+/// At every exit of a node's step, on the premise of `steps_keep`, the devices give back each dealing that they gave back before it, of the epochs that
+/// the step prunes nothing of.
 pub fn node_steps_give_back<Dir>()
     ensures { NodeStepsGiveBack Dir }
 {}
@@ -164,8 +166,9 @@ pub fn node_dues_are_answered<Dir>()
     ensures { NodeDuesAreAnswered Dir }
 {}
 
-/// At every exit of a node's step for a block the devices are whole and give back each dealing, acknowledgement and log that they gave back, of the
-/// epochs that the step prunes nothing of; it acknowledged nothing, recorded of dealings this node's own alone, and offered what its dealer deals.
+/// At every exit of a node's step for a block, on the premise of `steps_keep`, the devices are whole and give back each dealing, acknowledgement and
+/// log that they gave back, of the epochs that the step prunes nothing of; it acknowledged nothing, recorded of dealings this node's own alone, and
+/// offered what its dealer deals.
 pub fn blocks_keep<Dir>()
     ensures { BlocksKeep Dir }
 {}
@@ -197,13 +200,14 @@ pub fn node_openings_through<Dir>()
     ensures { (c : Fixed Dir) → NodeOpeningsThroughAt c (read_somewhere c) }
 {}
 
-/// At the last block of the entered epoch the orchestrator's half enters the next one, which is ready and registered, and acknowledges the block.
+/// At the last block of the entered epoch the orchestrator's half enters the next one, which is ready and registered, and acknowledges the block, where
+/// directories lack nobody.
 pub fn halves_pass_on<Dir>()
     ensures { HalvesPassOn Dir }
 {}
 
-/// In a life that passes through whole epochs a node's step stops by the faults of its reshare half alone, or leaves such a life, whose orchestrator
-/// waits for nothing.
+/// In a life that passes through whole epochs, whose orchestrator waits for nothing, and where directories lack nobody, a node's step stops by the faults
+/// of its reshare half alone, or leaves such a life.
 pub fn node_steps_come_through<Dir>()
     ensures { (c : Fixed Dir) → NodeStepsComeThroughAt c (read_somewhere c) }
 {}
@@ -213,13 +217,13 @@ pub fn next_lives_stay_through<Dir>()
     ensures { (c : Fixed Dir) → NextLivesStayThroughAt c (read_somewhere c) }
 {}
 
-/// Mail but a peer's touches no device, and says what requests are answered alone.
+/// Mail but a peer's touches no device, and says what requests are answered alone, where the orchestrator waits for nothing.
 pub fn mails_are_idle<Dir>()
     ensures { MailsAreIdle Dir }
 {}
 
-/// At every exit of a node's step the devices give back the logs that they gave back, of the epochs that the step prunes nothing of, but for one:
-/// that of an included block, of a dealer that had none.
+/// At every exit of a node's step, on the premise of `steps_keep`, the devices give back the logs that they gave back, of the epochs that the step
+/// prunes nothing of, but for one: that of an included block, of a dealer that had none.
 pub fn node_steps_record_logs<Dir>()
     ensures { NodeStepsRecordLogs Dir }
 {}

@@ -48,7 +48,7 @@ pub record Promised (script : Script) (o : Over) (result : Result (Unit {0}) Fau
   -- A corrupt record that a fault names is found on the devices as the call leaves them, and so are the dealings that it blames.
   pub corrupt : o.disk_tells → EachFault (IsFoundRecord (limit_in script) o.now.files) added
   pub found : o.tells → Stands o.before.files o.before.image → EachFault (ShowsCause script o.now.files o.now.held) added
-  -- From here on the script is judged as it was cut. In a consistent one no block is refused but one that skips a height, or that lies outside the window.
+  -- From here on the script is judged as it was cut, but where the devices need not tell. In a consistent one no block is refused but one that skips a height, or that lies outside the window.
   pub skips : IfErr result (λ fault. o.tells → (let s = setting_as_cut script o.before.files o.before.held added in BlamesOnlySkips s o.before.image (cuts_in s added) fault))
   -- The transcript and the devices keep each recorded dealing; and at Ok each dealing that was due was acknowledged.
   pub kept : o.tells → KeepsDealings script o.before.files o.before.held o.before.image o.now.image o.now.held added

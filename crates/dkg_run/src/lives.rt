@@ -394,7 +394,7 @@ pub fn run_lives<D: Disk, X: SecretStore>(
     ensures run { DoesRun script.now
         (over D.tells D.files D.image D.faults D.made X.tells X.held X.faults X.made (disk.old, secrets.old) (disk.new, secrets.new))
         out.old.entries result out.new.entries }
-    // What follows of the dealings, the offers, the order and the faults, and that a second call stands under what this one leaves.
+    // What follows of the dealings, the offers, the requests, the shares, the order and the faults, and that a second call stands under what this one leaves.
     ensures promise { Adds out.old.entries out.new.entries (Promised script.now
         (over D.tells D.files D.image D.faults D.made X.tells X.held X.faults X.made (disk.old, secrets.old) (disk.new, secrets.new)) result) }
 {

@@ -847,7 +847,7 @@ pub(crate) fn set_up<
 
 /// Sets the awaited epoch up by its info, which is the current one (`setup`, where the info of the epoch is committed).
 ///
-/// HeightRange: its last height has no u64. InvalidParticipants: its players make no round. LocalState: the share of its output is refused, or a stored
+/// HeightRange: its last height has no u64. InvalidParticipants: its participants are refused, or make no round. LocalState: the share of its output is refused, or a stored
 /// dealing is.
 pub fn set_up_committed<C: Ceremony, R: Registrar, Dir: Directory + Drop, D: Disk, X: SecretStore>(
     alloc: Global,

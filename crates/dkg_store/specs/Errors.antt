@@ -35,7 +35,7 @@ IsOfDevices (LocalState cause) = ⊥
 IsOfDevices (StateSyncEpochs info floor) = ⊥
 IsOfDevices StateSyncMaterial = ⊥
 
--- the errors that a prune may give: a disk that does not tell may show a record that is not whole
+-- the errors that a call of the journal may give in the midst of a prune: those of both devices, and a record that is not whole
 abbrev pub IsOfPruning : StoreError → Type 0
 IsOfPruning Disk = Unit {0}
 IsOfPruning Secrets = Unit {0}

@@ -3,7 +3,7 @@
 //! A disk has the journal of what was recorded, a secret store the private halves, the seeds and the shares. A `Store` is opened
 //! over both at the start of a life. A `Player` records each dealing there before it acknowledges it.
 //!
-//! Of the disk's files the store makes one, by its first record, and takes none away.
+//! The first record of an epoch makes that epoch's file, and a prune takes away the files of the epochs below its minimum.
 #![tactic(auto)]
 
 mod appending;

@@ -35,7 +35,7 @@ ghost use Rattle.dkg_store.specs.Commits.{commit_calls, committed};
 ghost use Rattle.dkg_store.specs.Corrupt.{IsAlien, IsCorruptAt, AreEvents, AreFit, BeginsWithEvent};
 ghost use Rattle.dkg_store.specs.Counts.{CountsOn};
 ghost use Rattle.dkg_journal.specs.Opens.{KeepsAll};
-ghost use Rattle.dkg_store.specs.Errors.{IsOfDealing, IsOfDevices, IsOfOpening, IsOfPlaying, IsOfPruning, IsOfSecrets};
+ghost use Rattle.dkg_store.specs.Errors.{IsOfDealing, IsOfDevices, IsOfPlaying};
 ghost use Rattle.dkg_secrets.specs.Secrets.{Secrets, Tries, after, newest_below};
 ghost use Rattle.dkg_store.specs.Events.{event_spelling, is_event};
 ghost use Rattle.dkg_store.specs.declared.event.Event.TheVariants as events;
@@ -450,9 +450,10 @@ impl<Dir: Drop> Store<Dir> {
     ///
     /// Corrupt: a record that is not whole, or whose body is no event within the limit, at the place of its gate.
     ///
-    /// No file comes or goes, wherever it stops: one whose end is mended is replaced whole, and one that is absent stays so.
+    /// A file whose end is mended is replaced whole. Where there is an old file of all epochs, it is parted into one an epoch, and goes; else no file
+    /// comes or goes, wherever it stops.
     ///
-    /// The time and the memory grow linearly with the journal's file, but that each record takes a look-up of its private half and one
+    /// The time and the memory grow linearly with the journal's files, but that each record takes a look-up of its private half and one
     /// among the dealings, which are logarithmic.
     pub fn init<D: Disk, X: SecretStore>(
         alloc: Global,
@@ -768,12 +769,12 @@ impl<Dir: Drop> Store<Dir> {
         Ok(())
     }
 
-    /// Forgets what is below the minimum: it prunes the journal, and then the secrets. No file comes or goes, wherever it stops, also where
-    /// nothing is left of the journal.
+    /// Forgets what is below the minimum: it takes away the journal's files of epochs below it, and then prunes the secrets. No other file
+    /// comes or goes, wherever it stops.
     ///
     /// After an error all is kept in memory as it was. Want of memory leaves all as before, but where a device itself wanted it.
     ///
-    /// The time is linear in the journal's file, and in what goes of the secrets.
+    /// It takes a call of the disk for each file that goes, and reads none. The time is linear in the names of files, and in what goes of the secrets.
     pub fn prune<D: Disk, X: SecretStore>(
         &mut self,
         alloc: Global,
@@ -816,7 +817,7 @@ impl<Dir: Drop> Store<Dir> {
     }
 
     /// Puts the private half, and then appends the record. It answers false where the dealer's is recorded already. The first record of
-    /// all makes the journal's file, and no other file comes or goes.
+    /// an epoch makes that epoch's file, and no other file comes or goes.
     pub fn append_dealing<D: Disk, X: SecretStore>(
         &mut self,
         alloc: Global,
@@ -873,7 +874,7 @@ impl<Dir: Drop> Store<Dir> {
     }
 
     /// Appends the record of a player's acknowledgement of this node's dealing. It answers false where the player's is recorded already.
-    /// The first record of all makes the journal's file, and no other file comes or goes.
+    /// The first record of an epoch makes that epoch's file, and no other file comes or goes.
     pub fn append_ack<D: Disk, X: SecretStore>(
         &mut self,
         alloc: Global,
@@ -929,7 +930,7 @@ impl<Dir: Drop> Store<Dir> {
     }
 
     /// Appends the record of a dealer's log at the height of the block that carried it. It answers false where a log of the dealer is
-    /// recorded already, with a height or without. The first record of all makes the journal's file, and no other file comes or goes.
+    /// recorded already, with a height or without. The first record of an epoch makes that epoch's file, and no other file comes or goes.
     pub fn append_log<D: Disk, X: SecretStore>(
         &mut self,
         alloc: Global,
