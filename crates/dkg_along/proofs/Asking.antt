@@ -18,7 +18,7 @@ use Rattle.dkg_store.specs.Acts.{Held}
 use Rattle.dkg_script.specs.Blocks.{anchor_number}
 use Rattle.dkg_script.specs.Epochs.{alone}
 use Rattle.dkg_core.specs.Asked.{IsEmptied}
-use Rattle.dkg_core.specs.Blocks.{unoffered, without_own_log, with_log}
+use Rattle.dkg_core.specs.Blocks.{unoffered, without_own_log, with_log_at}
 use Rattle.dkg_core.specs.Dealing.{counts, with_ack}
 use Rattle.dkg_core.specs.Endings.{first_block, validity}
 use Rattle.dkg_core.specs.Fixed.{Fixed}
@@ -187,9 +187,9 @@ module _ (c : Fixed U) (st : Live U) where
   pub observed_same : (round : Round) (b : Block U) → (observed c round b st).inclusion ≡ st.inclusion
   observed_same round b = by_log (option_and_then its_log b.payload)
     where
-      by_tests : (log : SignedDealerLog) (one two : Bool) → (if one then without_own_log c log.dealer (if two then st else with_log round.number log.dealer b.height log.log st) else st).inclusion ≡ st.inclusion
+      by_tests : (log : SignedDealerLog) (one two : Bool) → (if one then without_own_log c log.dealer (if two then st else with_log_at round.number log.dealer b.height log.log st) else st).inclusion ≡ st.inclusion
       by_tests log true true = cleared log.dealer st
-      by_tests log true false = cleared log.dealer (with_log round.number log.dealer b.height log.log st)
+      by_tests log true false = cleared log.dealer (with_log_at round.number log.dealer b.height log.log st)
       by_tests log false two = refl
 
       by_log : (o : Option SignedDealerLog) → (observed_log c round b st o).inclusion ≡ st.inclusion

@@ -10,8 +10,8 @@ use Rattle.dkg_infos.specs.declared.directory.Unit as directory
 use Rattle.dkg_text.specs.declared.script.Event.{Event}
 use Rattle.dkg_text.specs.declared.script.Event.TheVariants.{Final}
 use Rattle.dkg_text.specs.declared.script.Life.{Life}
-use Rattle.dkg_script.specs.Blocks.{Block, block_at, delivered_number, events_come_to}
-use Rattle.dkg_script.specs.Position.{awaited_before, awaited_epoch, awaited_height, begun, delivered, start_height}
+use Rattle.dkg_script.specs.Blocks.{ScriptBlock, numbered_block, delivered_number, events_come_to}
+use Rattle.dkg_script.specs.Position.{awaited_before, awaited_epoch, awaited_height_after, begun, delivered, first_height}
 use Rattle.dkg_script.specs.Setting.{Setting, CutAt, blocks_per_epoch, is_oneshot, life_at}
 use Rattle.dkg_core.proofs.Heights.{epoch_from, epoch_is, epoch_to, next_last}
 use Rattle.dkg_lives.proofs.Awaiting.{HasHeight, IsReached, block_behind, event_behind}
@@ -20,7 +20,7 @@ use Rattle.dkg_lives.proofs.Delivered.{epochs_rise, from_first}
 
 -- HEIGHTS RISE
 
-rises : (bs : List Block) (height : ℕ) → height ≤ fold (λ height b. max height (suc b.height)) height bs
+rises : (bs : List ScriptBlock) (height : ℕ) → height ≤ fold (λ height b. max height (suc b.height)) height bs
 rises [] height = omega arith
 rises (b ∷ bs) height = let more = rises bs (max height (suc b.height)) in below (fold (λ height b. max height (suc b.height)) (max height (suc b.height)) bs) height b.height more
   where
@@ -34,18 +34,18 @@ one_longer {A} [] (suc i) = ([], refl)
 one_longer {A} (x ∷ xs) zero = (x ∷ take 0 xs, refl)
 one_longer {A} (x ∷ xs) (suc i) = let more = one_longer xs i in (more.0, ap (λ (ys : List A). x ∷ ys) more.1)
 
-pub height_rises : (s : Setting) (l : ℕ) (life : Life) (i : ℕ) → awaited_height s l life i ≤ awaited_height s l life (suc i)
-unfolding awaited_height
+pub height_rises : (s : Setting) (l : ℕ) (life : Life) (i : ℕ) → awaited_height_after s l life i ≤ awaited_height_after s l life (suc i)
+unfolding awaited_height_after
 height_rises s l life i =
-    let higher : ℕ → Block → ℕ = λ height b. max height (suc b.height) in
+    let higher : ℕ → ScriptBlock → ℕ = λ height b. max height (suc b.height) in
     let more = one_longer (events_come_to life.cut life.events) i in
-    let parts : delivered s life (suc i) ≡ delivered s life i ++ filter_map (block_at s) (filter_map delivered_number more.0)
-    = ap (λ (es : List Event). filter_map (block_at s) (filter_map delivered_number es)) more.1
-    ∙ ap (λ (ns : List ℕ). filter_map (block_at s) ns) (filter_map-append delivered_number (take i (events_come_to life.cut life.events)) more.0)
-    ∙ filter_map-append (block_at s) (filter_map delivered_number (take i (events_come_to life.cut life.events))) (filter_map delivered_number more.0) in
-    subst (λ (n : ℕ). fold higher (start_height s l life) (delivered s life i) ≤ n)
-    (sym (ap (λ (bs : List Block). fold higher (start_height s l life) bs) parts ∙ fold-append higher (start_height s l life) (delivered s life i) (filter_map (block_at s) (filter_map delivered_number more.0))))
-    (rises (filter_map (block_at s) (filter_map delivered_number more.0)) (fold higher (start_height s l life) (delivered s life i)))
+    let parts : delivered s life (suc i) ≡ delivered s life i ++ filter_map (numbered_block s) (filter_map delivered_number more.0)
+    = ap (λ (es : List Event). filter_map (numbered_block s) (filter_map delivered_number es)) more.1
+    ∙ ap (λ (ns : List ℕ). filter_map (numbered_block s) ns) (filter_map-append delivered_number (take i (events_come_to life.cut life.events)) more.0)
+    ∙ filter_map-append (numbered_block s) (filter_map delivered_number (take i (events_come_to life.cut life.events))) (filter_map delivered_number more.0) in
+    subst (λ (n : ℕ). fold higher (first_height s l life) (delivered s life i) ≤ n)
+    (sym (ap (λ (bs : List ScriptBlock). fold higher (first_height s l life) bs) parts ∙ fold-append higher (first_height s l life) (delivered s life i) (filter_map (numbered_block s) (filter_map delivered_number more.0))))
+    (rises (filter_map (numbered_block s) (filter_map delivered_number more.0)) (fold higher (first_height s l life) (delivered s life i)))
 
 -- the height above one that isn't its epoch's last lies in the same epoch
 not_last : (n h : ℕ) → 1 ≤ n → (h == last n (epoch_of n h)) ≡ false → epoch_of n (h + 1) ≡ epoch_of n h
@@ -98,7 +98,7 @@ module _ (s : Setting) (reshares : is_oneshot s ≡ false) (l : ℕ) (life : Lif
   b i = begun s cuts l i
 
   pub epoch_rises : (i : ℕ) → e i ≤ e (suc i)
-  epoch_rises i = epochs_rise n (awaited_height s l life i) (awaited_height s l life (suc i)) some (height_rises s l life i)
+  epoch_rises i = epochs_rise n (awaited_height_after s l life i) (awaited_height_after s l life (suc i)) some (height_rises s l life i)
 
   abbrev b_is : (i : ℕ) → b i ≡ max (awaited_before s cuts l) (e i)
   b_is i = begun_is s reshares cuts l life i life_is
@@ -133,12 +133,12 @@ module _ (s : Setting) (reshares : is_oneshot s ≡ false) (l : ℕ) (life : Lif
   -- A BLOCK
 
   module _ (i number : ℕ) (its : made.Block directory.Unit) (has : HasHeight s number its) (is : slice_get life.events i ≡ Some (Final number)) (reached : IsReached life.cut (suc i)) where
-    height_is : awaited_height s l life (suc i) ≡ max (awaited_height s l life i) (its.height + 1)
-    height_is = block_behind s l life i number has.b is reached has.there ∙ ap (λ (h : ℕ). max (awaited_height s l life i) (h + 1)) (sym has.same)
+    height_is : awaited_height_after s l life (suc i) ≡ max (awaited_height_after s l life i) (its.height + 1)
+    height_is = block_behind s l life i number has.b is reached has.there ∙ ap (λ (h : ℕ). max (awaited_height_after s l life i) (h + 1)) (sym has.same)
 
     -- what it may prune is not current
     pub block_reach : epoch_of n (its.height + 1) - 1 ≤ b (suc i) - 1
-    block_reach = so (epoch_of n (its.height + 1)) (e (suc i)) (b (suc i)) (epochs_rise n (its.height + 1) (awaited_height s l life (suc i)) some (high (awaited_height s l life (suc i)) (awaited_height s l life i) (its.height + 1) height_is))
+    block_reach = so (epoch_of n (its.height + 1)) (e (suc i)) (b (suc i)) (epochs_rise n (its.height + 1) (awaited_height_after s l life (suc i)) some (high (awaited_height_after s l life (suc i)) (awaited_height_after s l life i) (its.height + 1) height_is))
         (awaited_begun (suc i))
       where
         high : (a x y : ℕ) → a ≡ max x y → y ≤ a
@@ -149,7 +149,7 @@ module _ (s : Setting) (reshares : is_oneshot s ≡ false) (l : ℕ) (life : Lif
 
     -- one of the epoch that was awaited leaves that current
     pub block_current : epoch_of n its.height ≡ e i → b (suc i) < e i + 2
-    block_current here = so (b (suc i)) (awaited_before s cuts l) (e 0) (e i) (e (suc i)) (b_is (suc i)) never_back (from_first s l life some i) (next (awaited_height s l life i) (its.height + 1) (awaited_height s l life (suc i)) height_is refl
+    block_current here = so (b (suc i)) (awaited_before s cuts l) (e 0) (e i) (e (suc i)) (b_is (suc i)) never_back (from_first s l life some i) (next (awaited_height_after s l life i) (its.height + 1) (awaited_height_after s l life (suc i)) height_is refl
         (below (epoch_of n (its.height + 1)) (epoch_of n its.height) (e i) (next_epoch n its.height some) here))
       where
         so : (a m x y z : ℕ) → a ≡ max m z → m ≤ x + 1 → x ≤ y → z ≤ y + 1 → a < y + 2

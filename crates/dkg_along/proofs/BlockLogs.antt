@@ -9,7 +9,7 @@ use Rattle.dkg_types.specs.declared.payload.Payload.{Payload}
 use Rattle.dkg_text.specs.declared.script.Event.{Event}
 use Rattle.dkg_text.specs.declared.script.Event.TheVariants.{Final}
 use Rattle.dkg_text.specs.declared.script.Life.{Life}
-use Rattle.dkg_script.specs.Blocks.{Block, block_of, blocks}
+use Rattle.dkg_script.specs.Blocks.{ScriptBlock, block_of, blocks}
 use Rattle.dkg_script.specs.Inclusion.{IsFormOfInclusion}
 use Rattle.dkg_script.specs.OwnMarks.{IsKnownInBlock, IsKnownInEvent, IsKnownInStep, IsOwnMarkKnown}
 use Rattle.dkg_script.specs.Position.{event_of_step}
@@ -25,7 +25,7 @@ not_there : {A : Type 0} (x : A) → ◌≡◌ {A = Option A} None (Some x) → 
 not_there x e = cc
 
 module _ (s : Setting) (form : IsFormOfInclusion s.script) (number : ℕ) (made_it : IsMadeOf s.script number) (log : SignedDealerLog) (carries : option_and_then its_log (made_it.block).payload ≡ Some log) where
-  abbrev own : Block
+  abbrev own : ScriptBlock
   own = block_of s (take number (blocks s)) made_it.line
 
   abbrev plain_limits : Limits
@@ -51,7 +51,7 @@ module _ (s : Setting) (form : IsFormOfInclusion s.script) (number : ℕ) (made_
   known_in_step life q life_is event_is known =
       let of_life : IfSome (event_of_step life q.step) (IsKnownInEvent s q.recorded) = subst (λ (o : Option Life). IfSome o (λ life. IfSome (event_of_step life q.step) (IsKnownInEvent s q.recorded))) life_is known in
       let of_event : IsKnownInEvent s q.recorded (Final number) = subst (λ (o : Option Event). IfSome o (IsKnownInEvent s q.recorded)) event_is of_life in
-      let of_block : IsKnownInBlock s q.recorded own = subst (λ (o : Option Block). IfSome o (IsKnownInBlock s q.recorded)) (of_line s number made_it.line made_it.line_is) of_event in
+      let of_block : IsKnownInBlock s q.recorded own = subst (λ (o : Option ScriptBlock). IfSome o (IsKnownInBlock s q.recorded)) (of_line s number made_it.line made_it.line_is) of_event in
       let of_log : IsOwnMarkKnown s q.recorded (epoch_of (blocks_per_epoch s) own.height) log.dealer log.log
       = subst (λ (o : Option SignedDealerLog). IfSome o (λ signed. IsOwnMarkKnown s q.recorded (epoch_of (blocks_per_epoch s) own.height) signed.dealer signed.log)) own_log of_block in
       subst (λ (h : ℕ). IsOwnMarkKnown s q.recorded (epoch_of (blocks_per_epoch s) h) log.dealer log.log) (sym made_it.height) of_log

@@ -23,12 +23,12 @@ use Rattle.dkg_store.specs.Acts.{Held}
 use Rattle.dkg_store.specs.Recorded.{Pair, first_refused, refused_or}
 use Rattle.dkg_script.specs.Blocks.{delivered_number}
 use Rattle.dkg_script.specs.Epochs.{alone}
-use Rattle.dkg_script.specs.Position.{follows}
+use Rattle.dkg_script.specs.Position.{life_follows}
 use Rattle.dkg_text.specs.declared.script.BlockLine.{BlockLine}
 use Rattle.dkg_text.specs.declared.script.Event.{Event}
 use Rattle.dkg_text.specs.declared.script.Event.TheVariants as event
 use Rattle.dkg_core.specs.Blocks.{is_early, is_in_window, is_in_window_in}
-use Rattle.dkg_core.specs.Forms.{IsNodeBegun, IsOpeningStop, IsSeated, IsSetUpIn, IsSetupFault, Judged, Refusal, Passed, Applied, judged_block, judged_over, round_for, share_read, seed_read, started}
+use Rattle.dkg_core.specs.Forms.{IsNodeBegun, IsOpeningStop, IsSeated, IsSetUpIn, IsSetupFault, Judged, Refusal, Passed, Applied, judged_block, judged_over_tip, round_for, share_read, seed_read, started}
 use Rattle.dkg_core.specs.Asked.{IsAskStop, IsDeriveStop, IsProvided, OfShares}
 use Rattle.dkg_core.specs.Fixed.{Fixed, has}
 use Rattle.dkg_core.specs.Laws.{start_of}
@@ -43,7 +43,7 @@ use Rattle.dkg_core.specs.Endings.{OnInfo, first_epoch, seat_in, stage_in, valid
 use Rattle.dkg_core.proofs.Applied.{deals_below, includes_above}
 use Rattle.dkg_core.proofs.Heights.{below_middle}
 use Rattle.dkg_core.proofs.StepDealing as dealing
-use Rattle.dkg_lives.specs.Blamed.{IsAskedOwn, IsBlockCause, IsBlockOwn, IsCause, IsClear, IsInfoCause, IsInfoOf, IsNextCause, IsOwn, IsOwnCause, IsProviderCause, IsReadingEvent, IsTakenLast, MayRead, OnCarried, first_epoch_in, is_beyond, is_first_taken, next_epoch, opening_block, per_epoch, refusal_by, refusal_in, round_by, tip_in}
+use Rattle.dkg_lives.specs.Blamed.{IsAskedOwn, IsBlockCause, IsBlockOwn, IsCause, IsClear, IsInfoCause, IsInfoOf, IsNextCause, IsOwn, IsOwnCause, IsProviderCause, IsReadingEvent, IsTakenLast, MayRead, OnCarried, first_epoch_in, is_beyond, is_first_taken, epoch_behind, opening_block, per_epoch, refusal_by, refusal_in, round_by, tip_in}
 use Rattle.dkg_lives.specs.Epochs.{IsLifeInForm, StandsInScript, any_shares, awaited_by, epoch_by}
 use Rattle.dkg_lives.specs.Given.{Lived, at_step, blocks_in}
 use Rattle.dkg_along.proofs.Asking.{AreMade, Each, IsCarried, WasMade, first_block_same}
@@ -250,18 +250,18 @@ module _ (g : Lived) (here : IsLifeInForm g) where
           here_or_not : Bool
           here_or_not = (epoch_of n b.height == 0) && nat_lt b.height (midpoint n (epoch_of n b.height))
 
-          taking : follows (alone g.script) g.number g.life 0 ≡ false → st.participation.epoch ≡ 0
-              → ((epoch_of n b.height == st.participation.epoch) && is_early (phase_of (at_step g (suc i)) b.height)) ≡ (follows (alone g.script) g.number g.life 0 || here_or_not)
+          taking : life_follows (alone g.script) g.number g.life 0 ≡ false → st.participation.epoch ≡ 0
+              → ((epoch_of n b.height == st.participation.epoch) && is_early (phase_of (at_step g (suc i)) b.height)) ≡ (life_follows (alone g.script) g.number g.life 0 || here_or_not)
           taking part epoch =
               ap (λ (e : ℕ). (epoch_of n b.height == e) && is_early (phase_at (midpoint n (epoch_of n b.height)) b.height)) epoch
               ∙ ap (λ (t : Bool). (epoch_of n b.height == 0) && t) (early_is (midpoint n (epoch_of n b.height)) b.height)
               ∙ ap (λ (t : Bool). t || here_or_not) (sym part)
 
-          by_stage : (stage : Stage) → st.participation.stage ≡ stage → is_in_window_in (at_step g (suc i)) b st stage ≡ (follows (alone g.script) g.number g.life 0 || here_or_not)
-          by_stage Follows stage = sym (ap (λ (t : Bool). t || here_or_not) (ap (follows (alone g.script) g.number g.life) (sym first_awaited) ∙ stands.blind stage))
+          by_stage : (stage : Stage) → st.participation.stage ≡ stage → is_in_window_in (at_step g (suc i)) b st stage ≡ (life_follows (alone g.script) g.number g.life 0 || here_or_not)
+          by_stage Follows stage = sym (ap (λ (t : Bool). t || here_or_not) (ap (life_follows (alone g.script) g.number g.life) (sym first_awaited) ∙ stands.blind stage))
           by_stage Deals stage =
               let apart : st.participation.stage ≡ Follows → ⊥ = λ e. (let wrong : Deals ≡ Follows = sym stage ∙ e in cc) in
-              taking (ap (follows (alone g.script) g.number g.life) (sym first_awaited) ∙ stands.parts apart) (stands.epoch apart ∙ first_awaited)
+              taking (ap (life_follows (alone g.script) g.number g.life) (sym first_awaited) ∙ stands.parts apart) (stands.epoch apart ∙ first_awaited)
           by_stage Includes stage = absurd (not_included stage)
           by_stage Ends stage = absurd (by_round st.participation.round refl)
             where
@@ -295,7 +295,7 @@ module _ (g : Lived) (here : IsLifeInForm g) where
       over_window true = refl
       over_window false = refl
 
-      over_is : (o : Option Tip) → st.tip ≡ o → refusal (judged_over (at_step g (suc i)) b st o) ≡ refusal_by g.script g.number g.life b o
+      over_is : (o : Option Tip) → st.tip ≡ o → refusal (judged_over_tip (at_step g (suc i)) b st o) ≡ refusal_by g.script g.number g.life b o
       over_is None none = over_window (is_in_window (at_step g (suc i)) b st) ∙ ap (λ (t : Bool). if t then None else Some (fault.OutOfWindow b.height)) (window_is none b)
       over_is (Some t) there =
           over_tests ((b.height == t.height) && not (bytes_eq b.digest t.digest)) (nat_lt (t.height + 1) b.height) ((b.height == t.height + 1) && not (bytes_eq b.parent t.digest)) (nat_le b.height t.height)
@@ -303,10 +303,10 @@ module _ (g : Lived) (here : IsLifeInForm g) where
 
       pub judged_so : refusal (judged_block (at_step g (suc i)) b st) ≡ refusal_in g.script g.number g.life i b
       judged_so = by_range (is_past_range (at_step g (suc i)) b.height)
-          ∙ ap (λ (t : Bool). if t then Some fault.HeightRange else refusal (judged_over (at_step g (suc i)) b st st.tip)) (beyond_is (suc i) b.height)
+          ∙ ap (λ (t : Bool). if t then Some fault.HeightRange else refusal (judged_over_tip (at_step g (suc i)) b st st.tip)) (beyond_is (suc i) b.height)
           ∙ ap (λ (o : Option Fault). if is_beyond g.script b.height then Some fault.HeightRange else o) (over_is st.tip refl ∙ ap (refusal_by g.script g.number g.life b) tip)
         where
-          by_range : (t : Bool) → refusal (if t then Refusal fault.HeightRange else judged_over (at_step g (suc i)) b st st.tip) ≡ (if t then Some fault.HeightRange else refusal (judged_over (at_step g (suc i)) b st st.tip))
+          by_range : (t : Bool) → refusal (if t then Refusal fault.HeightRange else judged_over_tip (at_step g (suc i)) b st st.tip) ≡ (if t then Some fault.HeightRange else refusal (judged_over_tip (at_step g (suc i)) b st st.tip))
           by_range true = refl
           by_range false = refl
 
@@ -521,12 +521,12 @@ module _ (g : Lived) (here : IsLifeInForm g) where
 
         pub mail_cause : AreMade g i st → (st.participation.stage ≡ Includes) × ((st.inclusion.waiter ≡ None) × (st.inclusion.queue ≡ []) → ⊥) → (own : Fault) → IsAskStop (at_step g (suc i)) st own → Reads own
         mail_cause made asked own stop =
-            let apart : st.participation.stage ≡ Follows → ⊥ = λ follows. includes_apart (sym asked.0 ∙ follows) in
+            let apart : st.participation.stage ≡ Follows → ⊥ = λ life_follows. includes_apart (sym asked.0 ∙ life_follows) in
             (of_made reading apart (late_on asked.0) asked.1 made, asked_cause st refl refl apart own stop)
 
         pub info_cause : (request : ℕ) → its ≡ event.Info request → st.participation.stage ≡ Includes → (own : Fault) → IsAskStop (at_step g (suc i)) st own → Reads own
         info_cause request of includes own stop =
-            let apart : st.participation.stage ≡ Follows → ⊥ = λ follows. includes_apart (sym includes ∙ follows) in
+            let apart : st.participation.stage ≡ Follows → ⊥ = λ life_follows. includes_apart (sym includes ∙ life_follows) in
             (may_read reading apart (late_on includes) i (itself i) request (is ∙ ap (λ (x : Event). Some x) of) refl, asked_cause st refl refl apart own stop)
 
       -- A BLOCK
@@ -556,45 +556,45 @@ module _ (g : Lived) (here : IsLifeInForm g) where
           taken last_one = record { accepted = accepted_by b Applied applied refl; above = above_by b applied; ends = sym (last_same b) ∙ last_one }
 
           -- the setup of the next epoch
-          next_cause : (stored : OfShares) (devices : Option Held) (own : Fault) → IsPassingStop c stored b st devices own → IsNextCause g.script b own ⊎ OnCarried (Some b) (λ info. IsOwnCause g.script (next_epoch g.script b) info own)
+          next_cause : (stored : OfShares) (devices : Option Held) (own : Fault) → IsPassingStop c stored b st devices own → IsNextCause g.script b own ⊎ OnCarried (Some b) (λ info. IsOwnCause g.script (epoch_behind g.script b) info own)
           unfolding at_step
           next_cause stored devices (fault.MissingEpochInfo height) why = inl why
           next_cause stored devices (fault.WrongEpoch expected got) why = inl (by_info (info_of b.payload) why.1)
             where
-              by_info : (o : Option (EpochInfo directory.Unit)) → IsSomeAnd o (λ info. (got ≡ info.epoch) × (info.epoch ≡ next_epoch g.script b → ⊥))
-                  → IsSomeAnd o (λ info. IsInfoCause g.script (next_epoch g.script b) info (fault.WrongEpoch expected got))
+              by_info : (o : Option (EpochInfo directory.Unit)) → IsSomeAnd o (λ info. (got ≡ info.epoch) × (info.epoch ≡ epoch_behind g.script b → ⊥))
+                  → IsSomeAnd o (λ info. IsInfoCause g.script (epoch_behind g.script b) info (fault.WrongEpoch expected got))
               by_info None none = absurd none
               by_info (Some info) its = (why.0, its.0, its.1)
           next_cause stored devices fault.HeightRange why =
-              inl (subst (λ (o : Option (EpochInfo directory.Unit)). IsSomeAnd o (λ info. info.epoch ≡ next_epoch g.script b)) (sym (why.0).carried) (why.0).of_next, why.1)
-          next_cause stored devices own why = by_either (setup_cause g (suc i) (next_epoch g.script b) on.info (share_read c on.info on.k) (seed_read c on.info on.k) (taken_over c b on.info on.share st) own why.1)
+              inl (subst (λ (o : Option (EpochInfo directory.Unit)). IsSomeAnd o (λ info. info.epoch ≡ epoch_behind g.script b)) (sym (why.0).carried) (why.0).of_next, why.1)
+          next_cause stored devices own why = by_either (setup_cause g (suc i) (epoch_behind g.script b) on.info (share_read c on.info on.k) (seed_read c on.info on.k) (taken_over c b on.info on.share st) own why.1)
             where
               on : IsCarriedOn c stored b st devices
               on = why.0
 
-              by_either : IsInfoCause g.script (next_epoch g.script b) on.info own ⊎ IsOwnCause g.script (next_epoch g.script b) on.info own
-                  → IsNextCause g.script b own ⊎ OnCarried (Some b) (λ info. IsOwnCause g.script (next_epoch g.script b) info own)
+              by_either : IsInfoCause g.script (epoch_behind g.script b) on.info own ⊎ IsOwnCause g.script (epoch_behind g.script b) on.info own
+                  → IsNextCause g.script b own ⊎ OnCarried (Some b) (λ info. IsOwnCause g.script (epoch_behind g.script b) info own)
               by_either (inl its) = inl (of_info own its)
                 where
-                  of_info : (own : Fault) → IsInfoCause g.script (next_epoch g.script b) on.info own → IsNextCause g.script b own
+                  of_info : (own : Fault) → IsInfoCause g.script (epoch_behind g.script b) on.info own → IsNextCause g.script b own
                   of_info (fault.WrongEpoch expected got) its =
-                      subst (λ (o : Option (EpochInfo directory.Unit)). IsSomeAnd o (λ info. IsInfoCause g.script (next_epoch g.script b) info (fault.WrongEpoch expected got))) (sym on.carried) its
+                      subst (λ (o : Option (EpochInfo directory.Unit)). IsSomeAnd o (λ info. IsInfoCause g.script (epoch_behind g.script b) info (fault.WrongEpoch expected got))) (sym on.carried) its
                   of_info (fault.InvalidParticipants reason) its =
-                      subst (λ (o : Option (EpochInfo directory.Unit)). IsSomeAnd o (λ info. IsInfoCause g.script (next_epoch g.script b) info (fault.InvalidParticipants reason))) (sym on.carried) its
+                      subst (λ (o : Option (EpochInfo directory.Unit)). IsSomeAnd o (λ info. IsInfoCause g.script (epoch_behind g.script b) info (fault.InvalidParticipants reason))) (sym on.carried) its
                   of_info other its = absurd its
-              by_either (inr its) = inr (subst (λ (o : Option (EpochInfo directory.Unit)). IsSomeAnd o (λ info. IsOwnCause g.script (next_epoch g.script b) info own)) (sym on.carried) its)
+              by_either (inr its) = inr (subst (λ (o : Option (EpochInfo directory.Unit)). IsSomeAnd o (λ info. IsOwnCause g.script (epoch_behind g.script b) info own)) (sym on.carried) its)
 
           last_cause : is_last_height c b.height ≡ true → (stored : OfShares) (devices : Option Held) (own : Fault) → IsPassingStop c stored b st devices own → Why own
           last_cause last_one stored devices own stop = by_either (next_cause stored devices own stop)
             where
-              by_either : IsNextCause g.script b own ⊎ OnCarried (Some b) (λ info. IsOwnCause g.script (next_epoch g.script b) info own) → Why own
+              by_either : IsNextCause g.script b own ⊎ OnCarried (Some b) (λ info. IsOwnCause g.script (epoch_behind g.script b) info own) → Why own
               by_either (inl its) = inl (inr (taken last_one, inr its))
               by_either (inr its) = inr (inl (inl (taken last_one, inl its)))
 
           -- .. or the info that ends the epoch in which it includes
           module _ (includes : st.participation.stage ≡ Includes) where
             apart : st.participation.stage ≡ Follows → ⊥
-            apart follows = includes_apart (sym includes ∙ follows)
+            apart life_follows = includes_apart (sym includes ∙ life_follows)
 
             its_epoch : e ≡ epoch_of n b.height
             unfolding at_step
@@ -609,9 +609,9 @@ module _ (g : Lived) (here : IsLifeInForm g) where
 
           deals_other : st.participation.stage ≡ Deals → (own : Fault) → IsDealingStop c st own → IsBlockOwn g.script g.number g.life i b own
           deals_other stage (fault.LocalState (local.OwnDealing number kept dealt)) why =
-              let apart : st.participation.stage ≡ Follows → ⊥ = λ follows. deals_apart (sym stage ∙ follows) in
+              let apart : st.participation.stage ≡ Follows → ⊥ = λ life_follows. deals_apart (sym stage ∙ life_follows) in
               let at : number ≡ epoch_by g i = why.of_round ∙ (live.stands).numbered why.round why.of_epoch ∙ stands.epoch apart in
-              inr (accepted_by b Applied applied refl, (at, ap (follows (alone g.script) g.number g.life) at ∙ stands.parts apart, why.differs))
+              inr (accepted_by b Applied applied refl, (at, ap (life_follows (alone g.script) g.number g.life) at ∙ stands.parts apart, why.differs))
           deals_other stage own why = absurd why
 
           late_dealt : (st.participation.stage ≡ Follows → ⊥) → b.height + 1 ≡ midpoint c.blocks_per_epoch st.participation.epoch → midpoint n e ≤ b.height + 1
@@ -629,7 +629,7 @@ module _ (g : Lived) (here : IsLifeInForm g) where
           ))
             where
               apart : st.participation.stage ≡ Follows → ⊥
-              apart follows = deals_apart (sym stage ∙ follows)
+              apart life_follows = deals_apart (sym stage ∙ life_follows)
           by_stage made stored devices own Includes stage (inl (inl last_one, ask)) = ended_cause stage last_one own ask
           by_stage made stored devices own Includes stage (inl (inr some, ask)) = inr (inr (
             of_made reading (apart stage) (height_behind (midpoint n e) (inl (late_here stage))) (λ none. some none.1) made,
@@ -674,12 +674,12 @@ module _ (g : Lived) (here : IsLifeInForm g) where
       next_clear over fault.HeightRange why = bools_apart (is_beyond g.script (b.height + 1)) why.1 over.in_range
       next_clear over own why = by_info (info_of b.payload) (over.on).carried why
         where
-          by_info : (o : Option (EpochInfo directory.Unit)) → o ≡ Some (over.on).info → IsSomeAnd o (λ info. IsInfoCause g.script (next_epoch g.script b) info own) → ⊥
+          by_info : (o : Option (EpochInfo directory.Unit)) → o ≡ Some (over.on).info → IsSomeAnd o (λ info. IsInfoCause g.script (epoch_behind g.script b) info own) → ⊥
           by_info None none why = absurd why
           by_info (Some info) there why =
-              seated_clear g (suc i) (next_epoch g.script b) WasCommitted (over.on).info (share_read the_step (over.on).info (over.on).k) (seed_read the_step (over.on).info (over.on).k)
+              seated_clear g (suc i) (epoch_behind g.script b) WasCommitted (over.on).info (share_read the_step (over.on).info (over.on).k) (seed_read the_step (over.on).info (over.on).k)
               (unasked (taken_over the_step b (over.on).info (over.on).share st)) (unasked end) over.seated (sym (over.seated).of_epoch ∙ (over.on).of_next) own
-              (subst (λ (x : EpochInfo directory.Unit). IsInfoCause g.script (next_epoch g.script b) x own) (some_is there) why)
+              (subst (λ (x : EpochInfo directory.Unit). IsInfoCause g.script (epoch_behind g.script b) x own) (some_is there) why)
 
       -- the provider had the set that the artifact needs
       provider_clear : (info : EpochInfo directory.Unit) (own : Fault) → IsProvided the_step info → IsProviderCause g.script info.epoch own → ⊥
@@ -701,12 +701,12 @@ module _ (g : Lived) (here : IsLifeInForm g) where
           (subst (λ (o : Option (EpochInfo directory.Unit)). IsSomeAnd o (λ x. (x.epoch ≡ st.participation.epoch) × (validity the_step x ≡ Ok tt) × (round_for the_step st.participation.epoch x ≡ Ok round))) of_info (live.informed round of_round)).0
           ∙ (includes_above the_step b st live.stands (new_of b its) stage).0
 
-      ended_clear : IsTakenLast g.script g.number g.life i b → IsPassedOn the_step any_shares b st devices end left → follows (alone g.script) g.number g.life (epoch_by g i) ≡ false → (own : Fault)
+      ended_clear : IsTakenLast g.script g.number g.life i b → IsPassedOn the_step any_shares b st devices end left → life_follows (alone g.script) g.number g.life (epoch_by g i) ≡ false → (own : Fault)
           → IsProviderCause g.script (epoch_of n b.height) own → ⊥
       ended_clear its over unfollowed own why = by_part (stage_of b its)
         where
           by_part : (st.participation.stage ≡ Follows) ⊎ (st.participation.stage ≡ Includes) → ⊥
-          by_part (inl stage) = bools_apart (follows (alone g.script) g.number g.life (epoch_by g i)) (stands.blind stage) unfollowed
+          by_part (inl stage) = bools_apart (life_follows (alone g.script) g.number g.life (epoch_by g i)) (stands.blind stage) unfollowed
           by_part (inr stage) = provider_clear shared.1 own (shared.4.1).provided (subst (λ (k : ℕ). IsProviderCause g.script k own) (sym (ended_epoch its stage shared.0 shared.1 shared.2 shared.3)) why)
             where
               shared : IsShareTaken the_step any_shares st (over.on).h (over.on).info (over.on).share Includes

@@ -15,12 +15,12 @@ use Rattle.dkg_text.specs.declared.script.Event.{Event}
 use Rattle.dkg_text.specs.declared.script.Event.TheVariants as event
 use Rattle.dkg_text.specs.declared.script.Life.{Life}
 use Rattle.dkg_text.specs.declared.script.Script.{Script}
-use Rattle.dkg_script.specs.Blocks.{Block, block_at, chain, delivered_number}
+use Rattle.dkg_script.specs.Blocks.{ScriptBlock, numbered_block, chain, delivered_number}
 use Rattle.dkg_script.specs.Consistent.{IsConsistentScript, MayEnd, MayEndSo}
 use Rattle.dkg_script.specs.Epochs.{alone}
 use Rattle.dkg_script.specs.History.{MissesNone, WasCompleted, WasSeen}
 use Rattle.dkg_script.specs.Inclusion.{IsEventIn, IsFormOfInclusion}
-use Rattle.dkg_script.specs.Position.{awaited_epoch, awaited_height, cut_of, enters_at, event_of_step, follows, starts_blind, starts_late}
+use Rattle.dkg_script.specs.Position.{awaited_epoch, awaited_height_after, cut_of, enters_blind_at, event_of_step, life_follows, starts_blind, starts_late}
 use Rattle.dkg_script.specs.Setting.{CutAt, Setting, blocks_per_epoch, found, is_oneshot, life_at}
 use Rattle.dkg_core.specs.Sources.{Tip}
 use Rattle.dkg_core.proofs.Heights.{epoch_is, epoch_to}
@@ -114,21 +114,21 @@ module _ (s : Setting) (ends : List (Option CutAt)) (consistent : IsConsistentSc
 
   module _ (some : 1 ≤ n) (l : ℕ) (life : Life) (life_is : life_at s l ≡ Some life) (anchored : IfSome life.anchor (IsAnchorAbove s.script.blocks)) (no_sync : life.sync ≡ None) (none_found : found s l ≡ None) where
     abbrev start : ℕ
-    start = awaited_height s l life 0
+    start = awaited_height_after s l life 0
 
     -- a block that comes is the chain's
     pub on_chain : (i number : ℕ) (its : made.Block directory.Unit) → slice_get life.events i ≡ Some (event.Final number) → IsReached life.cut (suc i) → slice_get (blocks_in s.script) number ≡ Some its → chain s its.height ≡ Some (seen its)
     on_chain i number its is reached there =
         let came = delivered s ends consistent form bytes l life life_is anchored no_sync none_found i number its is reached there in
         let same : (came.0).b ≡ seen its = the_same (sym (came.0).there ∙ seen_at s form bytes number its there) in
-        subst (λ (b : Block). chain s b.height ≡ Some b) same came.1
+        subst (λ (b : ScriptBlock). chain s b.height ≡ Some b) same came.1
       where
-        the_same : {x y : Block} → ◌≡◌ {A = Option Block} (Some x) (Some y) → x ≡ y
+        the_same : {x y : ScriptBlock} → ◌≡◌ {A = Option ScriptBlock} (Some x) (Some y) → x ≡ y
         the_same e = cc
 
     -- UP TO A HEIGHT that is awaited, from the start on
     abbrev ChainUp : ℕ → Type 0
-    ChainUp high = follows s l life (epoch_of n high) ≡ false → (height : ℕ) → midpoint n (epoch_of n high) ≤ height → start ≤ height → height < high → HasBlockAt s height
+    ChainUp high = life_follows s l life (epoch_of n high) ≡ false → (height : ℕ) → midpoint n (epoch_of n high) ≤ height → start ≤ height → height < high → HasBlockAt s height
 
     chain_up : (high : ℕ) → HasBlockAt s high → ChainUp high → ChainUp (high + 1)
     chain_up high here was part height late begun below = by_place (cases_lt height high)
@@ -140,12 +140,12 @@ module _ (s : Setting) (ends : List (Option CutAt)) (consistent : IsConsistentSc
         same = below_one n (epoch_of n (high + 1)) height high some late (under height high below) refl
 
         by_place : (height < high) ⊎ (high ≤ height) → HasBlockAt s height
-        by_place (inl low) = was (ap (follows s l life) same ∙ part) height (subst (λ (e : ℕ). midpoint n e ≤ height) (sym same) late) begun low
+        by_place (inl low) = was (ap (life_follows s l life) same ∙ part) height (subst (λ (e : ℕ). midpoint n e ≤ height) (sym same) late) begun low
         by_place (inr at) = let is : high ≡ height = omega (arith, at, below) in subst (HasBlockAt s) is here
 
     -- a first block that isn't followed lies below the midpoint
-    chain_first : (high : ℕ) → enters_at s l life (epoch_of n high) ≡ true → (follows (alone s.script) l life 0 || ((epoch_of n high == 0) && nat_lt high (midpoint n (epoch_of n high)))) ≡ true → ChainUp (high + 1)
-    chain_first high enters taken part height late begun below = absurd (either (follows (alone s.script) l life 0) refl)
+    chain_first : (high : ℕ) → enters_blind_at s l life (epoch_of n high) ≡ true → (life_follows (alone s.script) l life 0 || ((epoch_of n high == 0) && nat_lt high (midpoint n (epoch_of n high)))) ≡ true → ChainUp (high + 1)
+    chain_first high enters taken part height late begun below = absurd (either (life_follows (alone s.script) l life 0) refl)
       where
         under : (h k : ℕ) → h < k + 1 → h ≤ k
         under h k low = omega (arith, low)
@@ -163,13 +163,13 @@ module _ (s : Setting) (ends : List (Option CutAt)) (consistent : IsConsistentSc
         two_bools : (t : Bool) → t ≡ true → t ≡ false → ⊥
         two_bools t one two = let wrong : ◌≡◌ {A = Bool} true false = sym one ∙ two in cc
 
-        followed : follows s l life 0 ≡ true → follows s l life (epoch_of n high) ≡ true
+        followed : life_follows s l life 0 ≡ true → life_follows s l life (epoch_of n high) ≡ true
         followed is =
             ap (λ (t : Bool). not (is_oneshot s) && (((epoch_of n high == awaited_epoch s l life 0) && (starts_late s l life || starts_blind s l life)) || (starts_blind s l life && t))) enters
-            ∙ enters_so (is_oneshot s) (0 == awaited_epoch s l life 0) (starts_late s l life) (starts_blind s l life) (enters_at s l life 0) (epoch_of n high == awaited_epoch s l life 0) is (not_late s l life no_sync none_found)
+            ∙ enters_so (is_oneshot s) (0 == awaited_epoch s l life 0) (starts_late s l life) (starts_blind s l life) (enters_blind_at s l life 0) (epoch_of n high == awaited_epoch s l life 0) is (not_late s l life no_sync none_found)
 
-        either : (t : Bool) → follows (alone s.script) l life 0 ≡ t → ⊥
-        either true is = two_bools (follows s l life (epoch_of n high)) (followed (follows_alike s l life no_sync none_found 0 ∙ is)) (ap (follows s l life) same ∙ part)
+        either : (t : Bool) → life_follows (alone s.script) l life 0 ≡ t → ⊥
+        either true is = two_bools (life_follows s l life (epoch_of n high)) (followed (follows_alike s l life no_sync none_found 0 ∙ is)) (ap (life_follows s l life) same ∙ part)
         either false is =
             low_one height high (midpoint n (epoch_of n high))
             (early (epoch_of n high == 0) (nat_lt high (midpoint n (epoch_of n high))) (subst (λ (t : Bool). (t || ((epoch_of n high == 0) && nat_lt high (midpoint n (epoch_of n high)))) ≡ true) is taken))
@@ -177,7 +177,7 @@ module _ (s : Setting) (ends : List (Option CutAt)) (consistent : IsConsistentSc
 
     -- BEHIND ITS FIRST EVENTS
     abbrev pub ChainTo : (j : ℕ) → Type 0
-    ChainTo j = ChainUp (awaited_height s l life j)
+    ChainTo j = ChainUp (awaited_height_after s l life j)
 
     pub chain_begins : ChainTo 0
     chain_begins part height late begun below = absurd (omega (arith, begun, below))
@@ -194,7 +194,7 @@ module _ (s : Setting) (ends : List (Option CutAt)) (consistent : IsConsistentSc
         still none = subst ChainUp (sym (event_behind s l life i e is reached none)) was
 
         of_block : (number : ℕ) → e ≡ event.Final number → IsMadeOf s.script number → ChainTo (suc i)
-        of_block number of made_it = subst ChainUp (sym behind) (by_place (cases_lt its.height (awaited_height s l life i)))
+        of_block number of made_it = subst ChainUp (sym behind) (by_place (cases_lt its.height (awaited_height_after s l life i)))
           where
             its : made.Block directory.Unit
             its = made_it.block
@@ -202,10 +202,10 @@ module _ (s : Setting) (ends : List (Option CutAt)) (consistent : IsConsistentSc
             comes : slice_get life.events i ≡ Some (event.Final number)
             comes = is ∙ ap (λ (x : Event). Some x) of
 
-            there : block_at s number ≡ Some (seen its)
+            there : numbered_block s number ≡ Some (seen its)
             there = seen_at s form bytes number its made_it.is
 
-            behind : awaited_height s l life (suc i) ≡ max (awaited_height s l life i) (its.height + 1)
+            behind : awaited_height_after s l life (suc i) ≡ max (awaited_height_after s l life i) (its.height + 1)
             behind = block_behind s l life i number (seen its) comes reached there
 
             here : HasBlockAt s its.height
@@ -220,23 +220,23 @@ module _ (s : Setting) (ends : List (Option CutAt)) (consistent : IsConsistentSc
             lower : (a x : ℕ) → x < a → a ≡ max a (x + 1)
             lower a x low = omega (arith, low)
 
-            new : awaited_height s l life i ≤ its.height → (o : Option Tip) → tip_in s.script life i ≡ o → ChainUp (its.height + 1)
+            new : awaited_height_after s l life i ≤ its.height → (o : Option Tip) → tip_in s.script life i ≡ o → ChainUp (its.height + 1)
             new above None none =
-                let first : awaited_height s l life i ≡ 0 = sym tips.height ∙ ap awaited none in
+                let first : awaited_height_after s l life i ≡ 0 = sym tips.height ∙ ap awaited none in
                 chain_first its.height (enters_here s l life some i number (seen its) comes reached there first)
                 (first_taken s.script l life i its (allowed number its of made_it.is) none)
             new above (Some t) at =
-                let next : t.height + 1 ≡ awaited_height s l life i = sym (ap awaited at) ∙ tips.height in
-                let same : awaited_height s l life i ≡ its.height =
-                equal (awaited_height s l life i) its.height t.height next above (no_skip t its (subst (λ (o : Option Tip). refusal_by s.script l life its o ≡ None) at unrefused)) in
+                let next : t.height + 1 ≡ awaited_height_after s l life i = sym (ap awaited at) ∙ tips.height in
+                let same : awaited_height_after s l life i ≡ its.height =
+                equal (awaited_height_after s l life i) its.height t.height next above (no_skip t its (subst (λ (o : Option Tip). refusal_by s.script l life its o ≡ None) at unrefused)) in
                 chain_up its.height here (subst ChainUp same was)
               where
                 equal : (a x t : ℕ) → t + 1 ≡ a → a ≤ x → x ≤ t + 1 → a ≡ x
                 equal a x t one two three = omega (arith, one, two, three)
 
-            by_place : (its.height < awaited_height s l life i) ⊎ (awaited_height s l life i ≤ its.height) → ChainUp (max (awaited_height s l life i) (its.height + 1))
-            by_place (inl low) = subst ChainUp (lower (awaited_height s l life i) its.height low) was
-            by_place (inr above) = subst ChainUp (higher (awaited_height s l life i) its.height above) (new above (tip_in s.script life i) refl)
+            by_place : (its.height < awaited_height_after s l life i) ⊎ (awaited_height_after s l life i ≤ its.height) → ChainUp (max (awaited_height_after s l life i) (its.height + 1))
+            by_place (inl low) = subst ChainUp (lower (awaited_height_after s l life i) its.height low) was
+            by_place (inr above) = subst ChainUp (higher (awaited_height_after s l life i) its.height above) (new above (tip_in s.script life i) refl)
 
         by_event : (x : Event) → e ≡ x → IsEventIn s.script.blocks x → ChainTo (suc i)
         by_event (event.Final number) of of_form = of_block number of (made_of s.script number of_form)
@@ -291,37 +291,37 @@ module _ (s : Setting) (ends : List (Option CutAt)) (consistent : IsConsistentSc
       by_step (suc k) is completed =
           let reached : IsReached (was.life).cut (suc k) = was_reached was.before (suc k) was.life may was.life_is low completed (below_length (was.life).events k (event.Final was.number) is) in
           let used : chain s (was.block).height ≡ Some was.block =
-          subst (λ (o : Option Block). IfSome o (λ c. chain s c.height ≡ Some c)) was.block_is
+          subst (λ (o : Option ScriptBlock). IfSome o (λ c. chain s c.height ≡ Some c)) was.block_is
           (of_delivered s was.before was.life (λ c. chain s c.height ≡ Some c) was.life_is consistent.one_chain k was.number (comes_to (was.life).cut (was.life).events k reached ∙ is)) in
           let its = made_at s form bytes was.number was.block was.block_is in
           record {
             number = was.number;
             block = its.0;
             there = its.1;
-            height_is = ap (λ (b : Block). b.height) its.2 ∙ was.height_is;
-            chained = ap (chain s) (sym was.height_is) ∙ used ∙ ap (λ (b : Block). Some b) (sym its.2);
+            height_is = ap (λ (b : ScriptBlock). b.height) its.2 ∙ was.height_is;
+            chained = ap (chain s) (sym was.height_is) ∙ used ∙ ap (λ (b : ScriptBlock). Some b) (sym its.2);
           }
 
   -- UP TO THE TIP, of a life that takes part in the epoch that it awaits
   pub chain_to_tip : (some : 1 ≤ n) (l : ℕ) (life : Life) (life_is : life_at s l ≡ Some life) (anchored : IfSome life.anchor (IsAnchorAbove s.script.blocks)) (no_sync : life.sync ≡ None) (none_found : found s l ≡ None)
       → MayEndSo s.script.lives ends → l ≤ length ends → MissesNone s ends → (j : ℕ) → ChainTo some l life life_is anchored no_sync none_found j → Tips s ends consistent form bytes l life life_is anchored no_sync none_found j
-      → follows s l life (awaited_epoch s l life j) ≡ false → (t : Tip) → tip_in s.script life j ≡ Some t → (height : ℕ) → midpoint n (awaited_epoch s l life j) ≤ height → height ≤ t.height → HasBlockAt s height
-  chain_to_tip some l life life_is anchored no_sync none_found may begun misses j chained tips part t at height late low = by_place (cases_lt height (awaited_height s l life 0))
+      → life_follows s l life (awaited_epoch s l life j) ≡ false → (t : Tip) → tip_in s.script life j ≡ Some t → (height : ℕ) → midpoint n (awaited_epoch s l life j) ≤ height → height ≤ t.height → HasBlockAt s height
+  chain_to_tip some l life life_is anchored no_sync none_found may begun misses j chained tips part t at height late low = by_place (cases_lt height (awaited_height_after s l life 0))
     where
-      tip_is : t.height + 1 ≡ awaited_height s l life j
+      tip_is : t.height + 1 ≡ awaited_height_after s l life j
       tip_is = sym (ap awaited at) ∙ tips.height
 
       below : (h t a : ℕ) → h ≤ t → t + 1 ≡ a → h < a
       below h t a one two = omega (arith, one, two)
 
-      by_place : (height < awaited_height s l life 0) ⊎ (awaited_height s l life 0 ≤ height) → HasBlockAt s height
-      by_place (inr above) = chained part height late above (below height t.height (awaited_height s l life j) low tip_is)
+      by_place : (height < awaited_height_after s l life 0) ⊎ (awaited_height_after s l life 0 ≤ height) → HasBlockAt s height
+      by_place (inr above) = chained part height late above (below height t.height (awaited_height_after s l life j) low tip_is)
       by_place (inl under) =
           let same : awaited_epoch s l life j ≡ awaited_epoch s l life 0 =
           equal (awaited_epoch s l life j) (epoch_of n height) (awaited_epoch s l life 0) (late_epoch n (awaited_epoch s l life j) height some late)
-          (epochs_rise n height (awaited_height s l life 0) some (up height (awaited_height s l life 0) under)) (from_first s l life some j) in
+          (epochs_rise n height (awaited_height_after s l life 0) some (up height (awaited_height_after s l life 0) under)) (from_first s l life some j) in
           seen_on_chain l (awaited_epoch s l life 0) height may begun
-          (misses l height life life_is (ap (follows s l life) (sym same) ∙ part) (subst (λ (e : ℕ). midpoint n e ≤ height) same late) under)
+          (misses l height life life_is (ap (life_follows s l life) (sym same) ∙ part) (subst (λ (e : ℕ). midpoint n e ≤ height) same late) under)
         where
           equal : (a b c : ℕ) → a ≤ b → b ≤ c → c ≤ a → a ≡ c
           equal a b c one two three = omega (arith, one, two, three)

@@ -18,17 +18,17 @@ use Rattle.dkg_text.specs.declared.script.BlockLine.{BlockLine}
 use Rattle.dkg_text.specs.declared.script.Event.{Event}
 use Rattle.dkg_text.specs.declared.script.Event.TheVariants as event
 use Rattle.dkg_text.specs.declared.script.Life.{Life}
-use Rattle.dkg_script.specs.Blocks.{Block, block_at, chain, chain_below, delivered_number}
+use Rattle.dkg_script.specs.Blocks.{ScriptBlock, numbered_block, chain, chain_below, delivered_number}
 use Rattle.dkg_script.specs.Consistent.{IsConsistentScript}
 use Rattle.dkg_script.specs.Inclusion.{IsEventIn, IsFormOfInclusion}
-use Rattle.dkg_script.specs.Position.{awaited_height}
+use Rattle.dkg_script.specs.Position.{awaited_height_after}
 use Rattle.dkg_script.specs.Setting.{CutAt, Setting, found, life_at}
 use Rattle.dkg_core.specs.Live.{Finalized}
 use Rattle.dkg_core.specs.Sources.{Tip, position}
 use Rattle.dkg_core.specs.Endings.{tip_behind}
 use Rattle.dkg_lives.specs.Blamed.{is_beyond, is_first_taken, refusal_by, refusal_in, refusal_over, tip_in, tip_over}
 use Rattle.dkg_lives.specs.Epochs.{IsAnchorAbove}
-use Rattle.dkg_lives.specs.Given.{AreBytes, anchor_at, anchor_in, blocks_in}
+use Rattle.dkg_lives.specs.Given.{AreBytes, anchor_of_line, anchor_in, blocks_in}
 use Rattle.dkg_lives.proofs.Awaiting.{IsReached, awaited, block_awaits, comes_to, event_behind, one_more}
 use Rattle.dkg_lives.proofs.BlocksMade.{IsOf, each_is}
 use Rattle.dkg_lives.proofs.Former.{height_at}
@@ -49,7 +49,7 @@ pub record IsOnChain (s : Setting) (tip : Tip) : Type 0 where
   pub here : IfSome (chain s tip.height) (λ b. b.digest ≡ tip.digest)
   pub above : IfSome (chain s (suc tip.height)) (λ b. b.parent ≡ tip.digest)
 
-abbrev at_block : Block → Tip
+abbrev at_block : ScriptBlock → Tip
 at_block b = record { height = b.height; digest = b.digest }
 
 -- A BLOCK OF THE CHAIN is refused by a tip of it only for its height
@@ -71,19 +71,19 @@ same_number a b test = grind (arith, nat_tests)
 next : (n : ℕ) → n + 1 ≡ suc n
 next n = omega arith
 
-module _ (s : Setting) (tip : Tip) (its : made.Block directory.Unit) (b : Block) (same : IsOf b its) (on_chain : IsOnChain s tip) (there : chain s b.height ≡ Some b) where
+module _ (s : Setting) (tip : Tip) (its : made.Block directory.Unit) (b : ScriptBlock) (same : IsOf b its) (on_chain : IsOnChain s tip) (there : chain s b.height ≡ Some b) where
   no_conflict : ((its.height == tip.height) && not (bytes_eq its.digest tip.digest)) ≡ true → ⊥
   no_conflict test =
       let at : b.height ≡ tip.height = sym same.height ∙ same_number its.height tip.height (first_test (its.height == tip.height) (not (bytes_eq its.digest tip.digest)) test) in
       let here : chain s tip.height ≡ Some b = subst (λ (n : ℕ). chain s n ≡ Some b) at there in
-      let digest : b.digest ≡ tip.digest = subst (λ (o : Option Block). IfSome o (λ c. c.digest ≡ tip.digest)) here on_chain.here in
+      let digest : b.digest ≡ tip.digest = subst (λ (o : Option ScriptBlock). IfSome o (λ c. c.digest ≡ tip.digest)) here on_chain.here in
       both_tests (its.height == tip.height) (not (bytes_eq its.digest tip.digest)) test (same_digest its.digest tip.digest (same.digest ∙ digest))
 
   no_detached : ((its.height == tip.height + 1) && not (bytes_eq its.parent tip.digest)) ≡ true → ⊥
   no_detached test =
       let at : b.height ≡ tip.height + 1 = sym same.height ∙ same_number its.height (tip.height + 1) (first_test (its.height == tip.height + 1) (not (bytes_eq its.parent tip.digest)) test) in
       let here : chain s (suc tip.height) ≡ Some b = subst (λ (n : ℕ). chain s n ≡ Some b) (at ∙ next tip.height) there in
-      let parent : b.parent ≡ tip.digest = subst (λ (o : Option Block). IfSome o (λ c. c.parent ≡ tip.digest)) here on_chain.above in
+      let parent : b.parent ≡ tip.digest = subst (λ (o : Option ScriptBlock). IfSome o (λ c. c.parent ≡ tip.digest)) here on_chain.above in
       both_tests (its.height == tip.height + 1) (not (bytes_eq its.parent tip.digest)) test (same_digest its.parent tip.digest (same.parent ∙ parent))
 
   -- The law: of the tests of a block of the chain, that of its height alone can fail.
@@ -112,7 +112,7 @@ module _ (s : Setting) (tip : Tip) (its : made.Block directory.Unit) (b : Block)
       by_conflict false test is = by_skipped (nat_lt (tip.height + 1) its.height) refl is
 
 -- what holds of the tip, and of one at a block, holds of the tip behind the block
-tip_is : (tip : Option Tip) (its : made.Block directory.Unit) (b : Block) (P : Option Tip → Type 0) → IsOf b its → P tip → P (Some (at_block b)) → P (tip_behind (Finalized its) tip)
+tip_is : (tip : Option Tip) (its : made.Block directory.Unit) (b : ScriptBlock) (P : Option Tip → Type 0) → IsOf b its → P tip → P (Some (at_block b)) → P (tip_behind (Finalized its) tip)
 tip_is tip its b P same old new = by_order (option_map_or (λ t. nat_le its.height t.height) tip false)
   where
     by_order : (t : Bool) → P (if t then tip else Some (record { height = its.height; digest = its.digest }))
@@ -121,15 +121,15 @@ tip_is tip its b P same old new = by_order (option_map_or (λ t. nat_le its.heig
 
 -- ON THE CHAIN
 
-abbrev Links : Setting → Block → Type 0
+abbrev Links : Setting → ScriptBlock → Type 0
 Links s b = IfSome (chain_below s b.height) (λ below. b.parent ≡ below.digest)
 
 module _ (s : Setting) (ends : List (Option CutAt)) (consistent : IsConsistentScript s ends) where
   -- a tip at a block that is used
-  chained_at : (b : Block) → chain s b.height ≡ Some b → IsOnChain s (at_block b)
+  chained_at : (b : ScriptBlock) → chain s b.height ≡ Some b → IsOnChain s (at_block b)
   chained_at b there = record { here = rw there refl; above = by_above (chain s (suc b.height)) refl }
     where
-      by_above : (o : Option Block) → chain s (suc b.height) ≡ o → IfSome o (λ c. c.parent ≡ b.digest)
+      by_above : (o : Option ScriptBlock) → chain s (suc b.height) ≡ o → IfSome o (λ c. c.parent ≡ b.digest)
       by_above None is = tt
       by_above (Some c) is =
           let links : Links s c × (c.height ≡ suc b.height) = in_chain s (Links s) (suc b.height) c consistent.linked is in
@@ -137,34 +137,34 @@ module _ (s : Setting) (ends : List (Option CutAt)) (consistent : IsConsistentSc
           rw there at below
 
   -- .. and one below it
-  chained_below : (b : Block) (k : ℕ) → b.height ≡ suc k → chain s b.height ≡ Some b → Links s b → IsOnChain s (record { height = k; digest = b.parent })
+  chained_below : (b : ScriptBlock) (k : ℕ) → b.height ≡ suc k → chain s b.height ≡ Some b → Links s b → IsOnChain s (record { height = k; digest = b.parent })
   chained_below b k height there links = record {
     here = by_below (chain s k) (rw height at links);
     above = let above : chain s (suc k) ≡ Some b = subst (λ (n : ℕ). chain s n ≡ Some b) height there in rw above refl;
   }
     where
-      by_below : (o : Option Block) → IfSome o (λ below. b.parent ≡ below.digest) → IfSome o (λ below. below.digest ≡ b.parent)
+      by_below : (o : Option ScriptBlock) → IfSome o (λ below. b.parent ≡ below.digest) → IfSome o (λ below. below.digest ≡ b.parent)
       by_below None links = tt
       by_below (Some below) links = sym links
 
   -- as the node holds it
-  at_made : (b : Block) (its : made.Block directory.Unit) → IsOf b its → IsOnChain s (at_block b) → IsOnChain s (record { height = its.height; digest = its.digest })
+  at_made : (b : ScriptBlock) (its : made.Block directory.Unit) → IsOf b its → IsOnChain s (at_block b) → IsOnChain s (record { height = its.height; digest = its.digest })
   at_made b its same on = subst (λ (h : ℕ). IsOnChain s (record { height = h; digest = its.digest })) (sym same.height) (subst (λ (d : List ℕ). IsOnChain s (record { height = b.height; digest = d })) (sym same.digest) on)
 
-  below_made : (b : Block) (its : made.Block directory.Unit) → IsOf b its → IsOnChain s (record { height = b.height - 1; digest = b.parent }) → IsOnChain s (record { height = its.height - 1; digest = its.parent })
+  below_made : (b : ScriptBlock) (its : made.Block directory.Unit) → IsOf b its → IsOnChain s (record { height = b.height - 1; digest = b.parent }) → IsOnChain s (record { height = its.height - 1; digest = its.parent })
   below_made b its same on = subst (λ (h : ℕ). IsOnChain s (record { height = h - 1; digest = its.parent })) (sym same.height) (subst (λ (d : List ℕ). IsOnChain s (record { height = b.height - 1; digest = d })) (sym same.parent) on)
 
   module _ (form : IsFormOfInclusion s.script) (bytes : AreBytes s.script.blocks) (l : ℕ) (life : Life) (life_is : life_at s l ≡ Some life) (anchored : IfSome life.anchor (IsAnchorAbove s.script.blocks)) where
     -- a block as the node holds it is one of the script's
     pub record HasBlock (number : ℕ) (its : made.Block directory.Unit) : Type 0 where
-      pub b : Block
-      pub there : block_at s number ≡ Some b
+      pub b : ScriptBlock
+      pub there : numbered_block s number ≡ Some b
       pub same : IsOf b its
 
     pub has_block : (number : ℕ) (its : made.Block directory.Unit) → slice_get (blocks_in s.script) number ≡ Some its → HasBlock number its
-    has_block number its is = by_block (block_at s number) refl (subst (λ (o : Option (made.Block directory.Unit)). IfSome o (λ k. IsSomeAnd (block_at s number) (λ b. IsOf b k))) is (each_is s form.blocks bytes number))
+    has_block number its is = by_block (numbered_block s number) refl (subst (λ (o : Option (made.Block directory.Unit)). IfSome o (λ k. IsSomeAnd (numbered_block s number) (λ b. IsOf b k))) is (each_is s form.blocks bytes number))
       where
-        by_block : (o : Option Block) → block_at s number ≡ o → IsSomeAnd o (λ b. IsOf b its) → HasBlock number its
+        by_block : (o : Option ScriptBlock) → numbered_block s number ≡ o → IsSomeAnd o (λ b. IsOf b its) → HasBlock number its
         by_block None there same = absurd same
         by_block (Some b) there same = record { b = b; there = there; same = same }
 
@@ -175,20 +175,20 @@ module _ (s : Setting) (ends : List (Option CutAt)) (consistent : IsConsistentSc
     starts_chained : Chained (position (anchor_in (blocks_in s.script) life.anchor))
     starts_chained = by_anchor life.anchor refl anchored
       where
-        processed : (number : ℕ) → life.anchor ≡ Some (Processed number) → (o : Option (made.Block directory.Unit)) → slice_get (blocks_in s.script) number ≡ o → Chained (position (option_map (anchor_at (Processed number)) o))
+        processed : (number : ℕ) → life.anchor ≡ Some (Processed number) → (o : Option (made.Block directory.Unit)) → slice_get (blocks_in s.script) number ≡ o → Chained (position (option_map (anchor_of_line (Processed number)) o))
         processed number anchor_is None is = tt
         processed number anchor_is (Some its) is =
             let has = has_block number its is in
-            let used : chain s (has.b).height ≡ Some has.b = subst (λ (o : Option Block). IfSome o (λ c. chain s c.height ≡ Some c)) has.there (of_anchor s l life (λ c. chain s c.height ≡ Some c) life_is consistent.one_chain (Processed number) anchor_is) in
+            let used : chain s (has.b).height ≡ Some has.b = subst (λ (o : Option ScriptBlock). IfSome o (λ c. chain s c.height ≡ Some c)) has.there (of_anchor s l life (λ c. chain s c.height ≡ Some c) life_is consistent.one_chain (Processed number) anchor_is) in
             at_made has.b its has.same (chained_at has.b used)
 
         absent : (number : ℕ) → life.anchor ≡ Some (Absent number) → IfSome (slice_get s.script.blocks number) (λ line. 0 < line.height) → (o : Option (made.Block directory.Unit)) → slice_get (blocks_in s.script) number ≡ o
-            → Chained (position (option_map (anchor_at (Absent number)) o))
+            → Chained (position (option_map (anchor_of_line (Absent number)) o))
         absent number anchor_is above None is = tt
         absent number anchor_is above (Some its) is =
             let has = has_block number its is in
-            let used : chain s (has.b).height ≡ Some has.b = subst (λ (o : Option Block). IfSome o (λ c. chain s c.height ≡ Some c)) has.there (of_anchor s l life (λ c. chain s c.height ≡ Some c) life_is consistent.one_chain (Absent number) anchor_is) in
-            let links : Links s has.b = subst (λ (o : Option Block). IfSome o (Links s)) has.there (of_anchor s l life (Links s) life_is consistent.linked (Absent number) anchor_is) in
+            let used : chain s (has.b).height ≡ Some has.b = subst (λ (o : Option ScriptBlock). IfSome o (λ c. chain s c.height ≡ Some c)) has.there (of_anchor s l life (λ c. chain s c.height ≡ Some c) life_is consistent.one_chain (Absent number) anchor_is) in
+            let links : Links s has.b = subst (λ (o : Option ScriptBlock). IfSome o (Links s)) has.there (of_anchor s l life (Links s) life_is consistent.linked (Absent number) anchor_is) in
             below_made has.b its has.same (by_height has.b (has.b).height refl (subst (λ (n : ℕ). 0 < n) (has.same).height positive) used links)
           where
             positive : 0 < its.height
@@ -202,7 +202,7 @@ module _ (s : Setting) (ends : List (Option CutAt)) (consistent : IsConsistentSc
                 by_line None above heights = absurd (not_there its.height (sym heights ∙ ap (option_map (λ (b : made.Block directory.Unit). b.height)) is))
                 by_line (Some line) above heights = subst (λ (n : ℕ). 0 < n) (sym (the_height (sym (ap (option_map (λ (b : made.Block directory.Unit). b.height)) is) ∙ heights))) above
 
-            by_height : (b : Block) (k : ℕ) → b.height ≡ k → 0 < b.height → chain s b.height ≡ Some b → Links s b → IsOnChain s (record { height = b.height - 1; digest = b.parent })
+            by_height : (b : ScriptBlock) (k : ℕ) → b.height ≡ k → 0 < b.height → chain s b.height ≡ Some b → Links s b → IsOnChain s (record { height = b.height - 1; digest = b.parent })
             by_height b zero height some used links = absurd (omega (arith, some, height))
             by_height b (suc k) height some used links =
                 let same : b.height - 1 ≡ k = omega (arith, height) in
@@ -217,7 +217,7 @@ module _ (s : Setting) (ends : List (Option CutAt)) (consistent : IsConsistentSc
       -- where it stands behind its first j events
       pub record Tips (j : ℕ) : Type 0 where
         pub chained : Chained (tip_in s.script life j)
-        pub height : awaited (tip_in s.script life j) ≡ awaited_height s l life j
+        pub height : awaited (tip_in s.script life j) ≡ awaited_height_after s l life j
 
       first_tip : tip_in s.script life 0 ≡ position (anchor_in (blocks_in s.script) life.anchor)
       first_tip = by_events life.events
@@ -231,7 +231,7 @@ module _ (s : Setting) (ends : List (Option CutAt)) (consistent : IsConsistentSc
           → (has : HasBlock number its) × (chain s (has.b).height ≡ Some has.b)
       delivered i number its is reached there =
           let has = has_block number its there in
-          (has, subst (λ (o : Option Block). IfSome o (λ c. chain s c.height ≡ Some c)) has.there (of_delivered s l life (λ c. chain s c.height ≡ Some c) life_is consistent.one_chain i number (comes_to life.cut life.events i reached ∙ is)))
+          (has, subst (λ (o : Option ScriptBlock). IfSome o (λ c. chain s c.height ≡ Some c)) has.there (of_delivered s l life (λ c. chain s c.height ≡ Some c) life_is consistent.one_chain i number (comes_to life.cut life.events i reached ∙ is)))
 
       tip_next : (i : ℕ) (e : Event) → slice_get life.events i ≡ Some e → tip_in s.script life (suc i) ≡ tip_over (blocks_in s.script) (tip_in s.script life i) e
       tip_next i e is = ap (λ (es : List Event). fold (tip_over (blocks_in s.script)) (position (anchor_in (blocks_in s.script) life.anchor)) es) (one_more life.events i e is)
@@ -287,13 +287,13 @@ module _ (s : Setting) (ends : List (Option CutAt)) (consistent : IsConsistentSc
 
       -- WHY A BLOCK IS REFUSED: for its range, for its height, or for its window
       pub record IsSkipped (j : ℕ) (its : made.Block directory.Unit) (own : Fault) : Type 0 where
-        pub fault_is : own ≡ SkippedHeight (awaited_height s l life j) its.height
-        pub above : awaited_height s l life j < its.height
-        pub some : 0 < awaited_height s l life j
+        pub fault_is : own ≡ SkippedHeight (awaited_height_after s l life j) its.height
+        pub above : awaited_height_after s l life j < its.height
+        pub some : 0 < awaited_height_after s l life j
 
       pub record IsOutside (j : ℕ) (its : made.Block directory.Unit) (own : Fault) : Type 0 where
         pub fault_is : own ≡ OutOfWindow its.height
-        pub first : awaited_height s l life j ≡ 0
+        pub first : awaited_height_after s l life j ≡ 0
         pub untaken : is_first_taken s.script l life its ≡ false
 
       pub refused_so : (j number : ℕ) (its : made.Block directory.Unit) → slice_get life.events j ≡ Some (event.Final number) → IsReached life.cut (suc j) → slice_get (blocks_in s.script) number ≡ Some its → Tips j
@@ -314,7 +314,7 @@ module _ (s : Setting) (ends : List (Option CutAt)) (consistent : IsConsistentSc
               by_window false taken e = inr (record { fault_is = sym (some_is e); first = sym tips.height ∙ ap awaited none; untaken = taken })
           by_tip (Some t) at chained refused =
               let its_own = only_skips s t its ((the_block.0).b) (the_block.0).same chained the_block.1 own refused in
-              let height : t.height + 1 ≡ awaited_height s l life j = sym (ap awaited at) ∙ tips.height in
+              let height : t.height + 1 ≡ awaited_height_after s l life j = sym (ap awaited at) ∙ tips.height in
               inl (record { fault_is = its_own.0 ∙ ap (λ (h : ℕ). SkippedHeight h its.height) height; above = subst (λ (h : ℕ). h < its.height) height its_own.1; some = subst (λ (h : ℕ). 0 < h) height (positive t.height) })
 
           by_range : (t : Bool) → is_beyond s.script its.height ≡ t → (if t then Some HeightRange else refusal_by s.script l life its (tip_in s.script life j)) ≡ Some own

@@ -12,7 +12,7 @@ use Rattle.dkg_ceremony.specs.declared.round.RoundError.{RoundError}
 use Rattle.dkg_ceremony.specs.declared.round.RoundParts.{RoundParts as Round}
 use Rattle.dkg_ceremony.specs.declared.signed_log.SignedDealerLog.{SignedDealerLog}
 use Rattle.dkg_secrets.specs.declared.secrets.SecretOp.TheVariants.{PutSeed, PutShare}
-use Rattle.dkg_store.specs.Acts.{Changes, Held, OnDisk, after}
+use Rattle.dkg_store.specs.Acts.{Changes, Held, OnDisk, held_after}
 use Rattle.dkg_journal.specs.Operations.{Bars, Opens}
 use Rattle.dkg_types.specs.BlockCodes.{info_of}
 use Rattle.dkg_types.specs.Blocks.{Block}
@@ -40,8 +40,8 @@ use Rattle.dkg_core.specs.Forms.{IsForm, round_for, seed_read, share_read}
 use Rattle.dkg_laws.specs.Idle.{IsAskedLine}
 use Rattle.dkg_core.specs.Including as i
 use Rattle.dkg_core.specs.Including.{cached_for, can_finish, job_for, retained_for, retains, verified}
-use Rattle.dkg_core.specs.Live.{Artifact, Deals, Dealer, Ends, Faulted, Finalized, Follows, GaveNone, Includes, Inclusion, Job, Live, Peer, Plays, Request, Seat, Sent, Stage, VerifiedLogs, Watches, awaited_height, is_last_height, of_epoch, phase_of, recorded_at, with_inclusion, with_participation, with_tip, with_told}
-use Rattle.dkg_core.specs.Logs.{canonical, is_accepted, log_event, logs_of}
+use Rattle.dkg_core.specs.Live.{Artifact, Deals, Dealer, Ends, Faulted, Finalized, Follows, GaveNone, Includes, Inclusion, Job, Live, Peer, Plays, Request, Seat, Sent, Stage, VerifiedLogs, Watches, awaited_height, is_last_height, records_of_epoch, phase_of, recorded_at, with_inclusion, with_participation, with_tip, with_told}
+use Rattle.dkg_core.specs.Logs.{canonical, is_accepted, carried_log_event, logs_of}
 use Rattle.dkg_core.specs.Node.{kept_material, node_opening, node_step, unless_once}
 use Rattle.dkg_core.specs.Plans as p
 use Rattle.dkg_core.specs.SayingThrough.{IsUnasked, SaysSo}
@@ -103,7 +103,7 @@ module _ {Dir : Type 0} (c : Fixed Dir) (So : ℕ → Option ℕ → Type 0) whe
 
   makes_player : (round : Round) (phase : Phase) (dealer : Option Dealer) (now : Live Dir) → SaysSo P (s.makes_player c round phase dealer now)
   makes_player round phase dealer now =
-      so_if P (not (has round.players c.me) || s.is_lost c round (of_epoch round.number now.records.dealings) (logs_of now round.number)) (s.takes_part c round phase dealer Watches now)
+      so_if P (not (has round.players c.me) || s.is_lost c round (records_of_epoch round.number now.records.dealings) (logs_of now round.number)) (s.takes_part c round phase dealer Watches now)
       (s.sits_down c round phase dealer (s.refused_in c round now) now) (λ e. takes_part round phase dealer Watches now) (λ e. sits_down round phase dealer (s.refused_in c round now) now)
 
   dealt_by : (round : Round) (phase : Phase) (now : Live Dir) (dealt : Result (List ℕ × List (ℕ × ℕ)) DealError) → SaysSo P (s.dealt_by c round phase now dealt)
@@ -116,14 +116,14 @@ module _ {Dir : Type 0} (c : Fixed Dir) (So : ℕ → Option ℕ → Type 0) whe
       so_if P (s.may_deal c round share now) (s.dealt_by c round phase now (c.rules.deal_of round c.me share seed)) (s.makes_player c round phase None now)
       (λ e. dealt_by round phase now (c.rules.deal_of round c.me share seed)) (λ e. makes_player round phase None now)
 
-  judged : (info : EpochInfo Dir) (now : Live Dir) (valid : Result (Unit {0}) ParticipantsError) → SaysSo P (s.judged c None s.WasCommitted info now valid)
+  judged : (info : EpochInfo Dir) (now : Live Dir) (valid : Result (Unit {0}) ParticipantsError) → SaysSo P (s.info_judged c None s.WasCommitted info now valid)
   judged info now (Err e) = tt
   judged info now (Ok passed) = λ h. in_round (phase_of c (awaited_height now)) (share_read c info h) (seed_read c info h) (record now { records = s.records_from (now.participation.epoch - 1) now.records })
       (round_for c now.participation.epoch info)
 
   sets_up : (info : EpochInfo Dir) (now : Live Dir) → SaysSo P (s.with_info c None s.WasCommitted info now)
   sets_up info now =
-      so_if P (info.epoch == now.participation.epoch) (s.judged c None s.WasCommitted info now (validity c info)) (Stops (WrongEpoch now.participation.epoch info.epoch)) (λ e. judged info now (validity c info)) (λ e. tt)
+      so_if P (info.epoch == now.participation.epoch) (s.info_judged c None s.WasCommitted info now (validity c info)) (Stops (WrongEpoch now.participation.epoch info.epoch)) (λ e. judged info now (validity c info)) (λ e. tt)
 
   draws_up : (its : Participants) (previous : Option Output) (share : Option ℕ) (seed : List ℕ) (now : Live Dir) → SaysSo P (s.draws_up c its previous share seed now)
   draws_up its previous share seed now =
@@ -137,11 +137,11 @@ module _ {Dir : Type 0} (c : Fixed Dir) (So : ℕ → Option ℕ → Type 0) whe
 
   commits_then : (info : EpochInfo Dir) (seed : List ℕ) (put : Option ℕ) (now : Live Dir) (next : Live Dir → Course Dir Fault (Live Dir)) (h : Held) → So info.epoch put → ((end : Live Dir) → SaysSo P (next end))
       → SaysOver P (bind (bind (s.commits info seed put now) (λ its. s.registers c info put its)) next) h
-  commits_then info seed None now next h told so = (told, (tt, anywhere P (next (behind_commit info None now)) (after (Changes (PutSeed info.epoch seed)) h) (so (behind_commit info None now))))
+  commits_then info seed None now next h told so = (told, (tt, anywhere P (next (behind_commit info None now)) (held_after (Changes (PutSeed info.epoch seed)) h) (so (behind_commit info None now))))
   commits_then info seed (Some value) now next h told so =
-      (told, (tt, anywhere P (next (behind_commit info (Some value) now)) (after (Changes (PutSeed info.epoch seed)) (after (Changes (PutShare info.epoch value)) h)) (so (behind_commit info (Some value) now))))
+      (told, (tt, anywhere P (next (behind_commit info (Some value) now)) (held_after (Changes (PutSeed info.epoch seed)) (held_after (Changes (PutShare info.epoch value)) h)) (so (behind_commit info (Some value) now))))
 
-  judged_new : (info : EpochInfo Dir) (now : Live Dir) (valid : Result (Unit {0}) ParticipantsError) (h : Held) → So info.epoch (share_read c info h) → SaysOver P (s.judged c None s.Uncommitted info now valid) h
+  judged_new : (info : EpochInfo Dir) (now : Live Dir) (valid : Result (Unit {0}) ParticipantsError) (h : Held) → So info.epoch (share_read c info h) → SaysOver P (s.info_judged c None s.Uncommitted info now valid) h
   judged_new info now (Err e) h so = tt
   judged_new info now (Ok passed) h so =
       commits_then info (seed_read c info h) (share_read c info h) now
@@ -157,7 +157,7 @@ module _ {Dir : Type 0} (c : Fixed Dir) (So : ℕ → Option ℕ → Type 0) whe
   from_boundary None now h so = (tt, tt)
   from_boundary (Some block) now h so =
       over_option P h (λ (info : EpochInfo Dir). s.with_info c None s.Uncommitted info now) (info_of block.payload) (Stops (MissingEpochInfo block.height))
-      (λ info e. over_if P h (info.epoch == now.participation.epoch) (s.judged c None s.Uncommitted info now (validity c info)) (Stops (WrongEpoch now.participation.epoch info.epoch))
+      (λ info e. over_if P h (info.epoch == now.participation.epoch) (s.info_judged c None s.Uncommitted info now (validity c info)) (Stops (WrongEpoch now.participation.epoch info.epoch))
       (λ same. judged_new info now (validity c info) h (so block info refl e (same_number info.epoch now.participation.epoch same))) (λ apart. tt)) tt
 
   sets_up_over : (committed : Option (EpochInfo Dir)) (now : Live Dir) (h : Held) → AtBoundary now.participation.epoch h → SaysOver P (s.sets_up_by c None committed now) h
@@ -183,11 +183,11 @@ module _ {Dir : Type 0} (c : Fixed Dir) (So : ℕ → Option ℕ → Type 0) whe
   -- AN OPENING of the form commits what is recovered for the info of its first epoch's boundary block, over the devices once the journal is open.
 
   abbrev pub opened_held : Held → Held
-  opened_held h = after (OnDisk (Opens c.opening_calls)) (after (OnDisk Bars) h)
+  opened_held h = held_after (OnDisk (Opens c.opening_calls)) (held_after (OnDisk Bars) h)
 
   module _ (form : IsForm c) (h : Held) (so : AtBoundary (first_epoch c) (opened_held h)) where
     abbrev next : Live Dir → Option (Material Dir) → Course Dir Fault (Live Dir)
-    next now found = p.in_range c (p.resolves_plan c (p.starts_from c now) found)
+    next now found = p.stays_in_range c (p.resolves_plan c (p.starts_from c now) found)
 
     goes : (now : Live Dir) → SaysOver P (next now None) (opened_held h)
     goes now = over_if P (opened_held h) (option_map_or (λ t. s.is_past_range c (t.height + 1)) (start c) false) (Stops HeightRange) (p.starts_from c now None) (λ e. tt)
@@ -250,9 +250,9 @@ module _ {Dir : Type 0} (c : Fixed Dir) (form : IsFormThrough c) (stored : OfSha
     commits_over : (put : Option ℕ) (seed : List ℕ) (now : Live Dir) (next : Live Dir → Course Dir Fault (Live Dir)) → Taken info.epoch put
         → SaysSo Q (next (s.with_registered info.epoch (s.scheme_for c info put) (with_participation (record now.participation { current = Some info }) now)))
         → SaysOver Q (bind (s.commits info seed put now) (λ its. bind (s.registers c info put its) next)) held
-    commits_over None seed now next told so = (told, (tt, anywhere Q (next (behind_commit c Taken info None now)) (after (Changes (PutSeed info.epoch seed)) held) so))
+    commits_over None seed now next told so = (told, (tt, anywhere Q (next (behind_commit c Taken info None now)) (held_after (Changes (PutSeed info.epoch seed)) held) so))
     commits_over (Some value) seed now next told so =
-        (told, (tt, anywhere Q (next (behind_commit c Taken info (Some value) now)) (after (Changes (PutSeed info.epoch seed)) (after (Changes (PutShare info.epoch value)) held)) so))
+        (told, (tt, anywhere Q (next (behind_commit c Taken info (Some value) now)) (held_after (Changes (PutSeed info.epoch seed)) (held_after (Changes (PutShare info.epoch value)) held)) so))
 
   -- WHILE FOLLOWING
   follows_over : st.participation.stage ≡ Follows → SaysOver Q (b.follows_at c block st) held
@@ -268,14 +268,14 @@ module _ {Dir : Type 0} (c : Fixed Dir) (form : IsFormThrough c) (stored : OfSha
 
   -- WHILE INCLUDING
   module _ (includes : st.participation.stage ≡ Includes) where
-    module _ (last : is_last_height c block.height ≡ true) (round : Round) (of_epoch : st.participation.round ≡ Some round) where
+    module _ (last : is_last_height c block.height ≡ true) (round : Round) (records_of_epoch : st.participation.round ≡ Some round) where
       abbrev logs : LogMap
       logs = canonical c st
 
       known : (info : EpochInfo Dir) × (st.participation.current ≡ Some info)
       known =
           let its = some_of (λ (info : EpochInfo Dir). (info.epoch ≡ st.participation.epoch) × (validity c info ≡ Ok tt) × (round_for c st.participation.epoch info ≡ Ok round))
-          st.participation.current (live.informed round of_epoch) in
+          st.participation.current (live.informed round records_of_epoch) in
           (its.0, its.1)
 
       abbrev with : Inclusion Dir → Live Dir
@@ -304,7 +304,7 @@ module _ {Dir : Type 0} (c : Fixed Dir) (form : IsFormThrough c) (stored : OfSha
               (λ now. bind (if is_some o then Goes now else s.registers c info share now)
               (λ now. bind (b.answers_all now.inclusion.queue (with_tip block now)) (λ now. if is_some o then b.ends_once c (Some info) now else s.setup c None now)))) held) (sym form.form.reshare)
               (commits_over last info of_next share (seed_read c info held) (with its) (λ now. bind (b.answers_all now.inclusion.queue (with_tip block now)) (λ now. s.setup c None now))
-              (taken_at last info carries of_next share Includes includes (round, known.0, of_epoch, known.1, (made, is, refl)))
+              (taken_at last info carries of_next share Includes includes (round, known.0, records_of_epoch, known.1, (made, is, refl)))
               (answers_all info of_next its.queue (with_tip block life) refl refl))
 
       by_result : (r : VerifiedLogs) (its : Inclusion Dir) → HasAsked c stored (with its) → r.logs ≡ logs → IsResultIn c round st r → SaysOver Q (i.artifact c r (with its) (b.concludes c block)) held
@@ -313,7 +313,7 @@ module _ {Dir : Type 0} (c : Fixed Dir) (form : IsFormThrough c) (stored : OfSha
             if_so = λ t x y one other. over_if Q held t x y one other;
             reads = λ f each. each held (λ epoch. reads held epoch refl);
             stopped = λ fault stop. tt;
-          }) form.form has of_epoch known.1 result (λ made at m.
+          }) form.form has records_of_epoch known.1 result (λ made at m.
           subst (λ (x : Live Dir). SaysOver Q (b.concludes c block made x) held) (sym m.same)
           (concludes made (subst (λ (l : LogMap). IsArtifactIn c stored round known.0 st l made) are m.artifact) (record its { cached = at.inclusion.cached })))
 
@@ -327,18 +327,18 @@ module _ {Dir : Type 0} (c : Fixed Dir) (form : IsFormThrough c) (stored : OfSha
           let found = verified c job in
           let result = verified_is c form.finishing round st job of_job in
           let starts : Inclusion Dir = record its { running = Some job; waiter = None } in
-          let started = included c stored st starts includes (λ none. refl) (λ other e. (round, of_epoch, subst (λ (x : Job). IsJobIn c round st x) (some_is job other e) of_job)) has.kept has.made in
-          let ended = verifying.retained c stored (with starts) (Some held) form.form form.finishing reads live.informed started round of_epoch includes found result starts started refl refl refl in
+          let started = included c stored st starts includes (λ none. refl) (λ other e. (round, records_of_epoch, subst (λ (x : Job). IsJobIn c round st x) (some_is job other e) of_job)) has.kept has.made in
+          let ended = verifying.retained c stored (with starts) (Some held) form.form form.finishing reads live.informed started round records_of_epoch includes found result starts started refl refl refl in
           by_result found (retains c found (with starts)).inclusion ended.has refl result
 
-      derived : (its : Inclusion Dir) → HasAsked c stored (with its) → (retained : Option VerifiedLogs) → retained_for its.retained logs ≡ retained → SaysOver Q (b.derives_now c round block logs retained (with its)) held
-      derived its has (Some r) is = by_result r its has (retained_logs its.retained logs r is) (of_round st (λ x. IsResultIn c x st r) round of_epoch (has.kept r (retained_is its.retained logs r is)))
+      derived : (its : Inclusion Dir) → HasAsked c stored (with its) → (retained : Option VerifiedLogs) → retained_for its.retained logs ≡ retained → SaysOver Q (b.derives_at_block c round block logs retained (with its)) held
+      derived its has (Some r) is = by_result r its has (retained_logs its.retained logs r is) (of_round st (λ x. IsResultIn c x st r) round records_of_epoch (has.kept r (retained_is its.retained logs r is)))
       derived its has None is = verifies its has (if can_finish c round logs (with its) then s.refused_in c round (with its) else None) refl
 
       concludes_by : (its : Inclusion Dir) → HasAsked c stored (with its) → (before now : Option (Artifact Dir)) → cached_for st.inclusion.cached logs ≡ before → cached_for its.cached logs ≡ now
           → SaysOver Q (b.concludes_by c round block logs before now (with its)) held
-      concludes_by its has (Some made) now is at = concludes made (cached_is c stored round known.0 st live.asked.has of_epoch known.1 logs made is) its
-      concludes_by its has None (Some made) is at = concludes made (cached_is c stored round known.0 (with its) has of_epoch known.1 logs made at) its
+      concludes_by its has (Some made) now is at = concludes made (cached_is c stored round known.0 st live.asked.has records_of_epoch known.1 logs made is) its
+      concludes_by its has None (Some made) is at = concludes made (cached_is c stored round known.0 (with its) has records_of_epoch known.1 logs made at) its
       concludes_by its has None None is at = derived its has (retained_for its.retained logs) refl
 
       final_over : SaysOver Q (b.final_block c round block st) held
@@ -359,7 +359,7 @@ module _ {Dir : Type 0} (c : Fixed Dir) (form : IsFormThrough c) (stored : OfSha
     observes_so round (Some log) = by_tests (is_accepted c round log) (is_some (recorded_at st.records.logs round.number log.dealer))
       where
         by_tests : (accepted kept : Bool)
-            → SaysSo {Dir = Dir} Q (if accepted then bind (if kept then Goes st else d.appends round.number (log_event log.dealer block.height log.log) (Goes (b.with_log round.number log.dealer block.height log.log st)))
+            → SaysSo {Dir = Dir} Q (if accepted then bind (if kept then Goes st else d.appends round.number (carried_log_event log.dealer block.height log.log) (Goes (b.with_log_at round.number log.dealer block.height log.log st)))
             (λ now. Goes (b.without_own_log c log.dealer now)) else Goes st)
         by_tests true true = tt
         by_tests true false = tt
@@ -373,8 +373,8 @@ module _ {Dir : Type 0} (c : Fixed Dir) (form : IsFormThrough c) (stored : OfSha
     includes_over : SaysOver Q (b.applies_in c block st Includes) held
     includes_over =
         over_option Q held (λ (round : Round). if is_last_height c block.height then b.final_block c round block st else b.includes c round block st) st.participation.round (Goes st)
-        (λ round of_epoch. over_if Q held (is_last_height c block.height) (b.final_block c round block st) (b.includes c round block st)
-        (λ last. final_over last round of_epoch) (λ below. anywhere Q (b.includes c round block st) held (below_so round))) tt
+        (λ round records_of_epoch. over_if Q held (is_last_height c block.height) (b.final_block c round block st) (b.includes c round block st)
+        (λ last. final_over last round records_of_epoch) (λ below. anywhere Q (b.includes c round block st) held (below_so round))) tt
 
   -- WHILE DEALING
   deals_over : SaysOver Q (b.deals_at c block st) held

@@ -14,7 +14,7 @@ use Rattle.dkg_types.specs.PayloadCodes.{its_log}
 use Rattle.dkg_infos.specs.declared.directory.Unit as directory
 use Rattle.dkg_text.specs.declared.script.BlockLine.{BlockLine}
 use Rattle.dkg_text.specs.declared.script.Life.{Life}
-use Rattle.dkg_script.specs.Blocks.{Block, anchor_number, block_at, chain, delivered_number, events_come_to, held_at_opening, used, used_in}
+use Rattle.dkg_script.specs.Blocks.{ScriptBlock, anchor_number, numbered_block, chain, delivered_number, events_come_to, held_at_opening, used, used_in}
 use Rattle.dkg_script.specs.Inclusion.{IsFormOfInclusion}
 use Rattle.dkg_script.specs.Setting.{Setting, blocks_per_epoch}
 use Rattle.dkg_lives.specs.Given.{AreBytes, blocks_in}
@@ -38,21 +38,21 @@ all_both P [] ys one other = other
 all_both P (x ∷ xs) ys one other = (one.0, all_both P xs ys one.1 other)
 
 module _ (s : Setting) where
-  abbrev IsNumbered : Block → Type 0
-  IsNumbered b = (number : ℕ) × (block_at s number ≡ Some b)
+  abbrev IsNumbered : ScriptBlock → Type 0
+  IsNumbered b = (number : ℕ) × (numbered_block s number ≡ Some b)
 
-  all_numbered : (numbers : List ℕ) → AllByRecursion IsNumbered (filter_map (block_at s) numbers)
+  all_numbered : (numbers : List ℕ) → AllByRecursion IsNumbered (filter_map (numbered_block s) numbers)
   all_numbered [] = tt
-  all_numbered (number ∷ numbers) = by_block (block_at s number) refl (all_numbered numbers)
+  all_numbered (number ∷ numbers) = by_block (numbered_block s number) refl (all_numbered numbers)
     where
-      by_block : (o : Option Block) → block_at s number ≡ o → AllByRecursion IsNumbered (filter_map (block_at s) numbers) → AllByRecursion IsNumbered (cons_option o (filter_map (block_at s) numbers))
+      by_block : (o : Option ScriptBlock) → numbered_block s number ≡ o → AllByRecursion IsNumbered (filter_map (numbered_block s) numbers) → AllByRecursion IsNumbered (cons_option o (filter_map (numbered_block s) numbers))
       by_block None is rest = rest
       by_block (Some b) is rest = ((number, is), rest)
 
   lives_numbered : (lives : List Life) → AllByRecursion IsNumbered (flat_map (used_in s) lives)
   lives_numbered [] = tt
   lives_numbered (life ∷ lives) = all_both IsNumbered (used_in s life) (flat_map (used_in s) lives)
-      (all_both IsNumbered (held_at_opening s life) (filter_map (block_at s) (option_to_list (option_map (λ line. line.block) life.sync) ++ filter_map delivered_number (events_come_to life.cut life.events)))
+      (all_both IsNumbered (held_at_opening s life) (filter_map (numbered_block s) (option_to_list (option_map (λ line. line.block) life.sync) ++ filter_map delivered_number (events_come_to life.cut life.events)))
       (all_numbered (option_to_list (option_map anchor_number life.anchor) ++ life.held)) (all_numbered (option_to_list (option_map (λ line. line.block) life.sync) ++ filter_map delivered_number (events_come_to life.cut life.events))))
       (lives_numbered lives)
 
@@ -62,24 +62,24 @@ module _ (s : Setting) where
 
   module _ (form : IsFormOfInclusion s.script) (bytes : AreBytes s.script.blocks) where
     -- the chain's block at a height is one of the node's
-    pub chain_made : (height : ℕ) (b : Block) → chain s height ≡ Some b → (number : ℕ) × (its : made.Block directory.Unit) × (slice_get (blocks_in s.script) number ≡ Some its) × (seen its ≡ b)
+    pub chain_made : (height : ℕ) (b : ScriptBlock) → chain s height ≡ Some b → (number : ℕ) × (its : made.Block directory.Unit) × (slice_get (blocks_in s.script) number ≡ Some its) × (seen its ≡ b)
     chain_made height b is =
         let numbered = (in_chain s IsNumbered height b used_numbered is).0 in
         let its = made_at s form bytes numbered.0 b numbered.1 in
         (numbered.0, its.0, its.1, its.2)
 
-    log_small : (b : Block) (signed : SignedDealerLog) → b.log ≡ Some signed → (height : ℕ) → chain s height ≡ Some b → signed.dealer < 2 ^ 32
+    log_small : (b : ScriptBlock) (signed : SignedDealerLog) → b.log ≡ Some signed → (height : ℕ) → chain s height ≡ Some b → signed.dealer < 2 ^ 32
     log_small b signed carried height is =
         let its = chain_made height b is in
         let line = (made_there s.script its.0 its.1 its.2).0 in
         let same = (made_there s.script its.0 its.1 its.2).1 in
         (log_read s.script.config (line.line).payload (holds_at (λ (line : BlockLine). IfSome line.payload IsBytes) s.script.blocks its.0 line.line bytes line.line_is) signed
-        (ap (option_and_then its_log) (sym line.payload) ∙ ap (λ (x : made.Block directory.Unit). option_and_then its_log x.payload) same ∙ ap (λ (x : Block). x.log) its.3 ∙ carried)).one
+        (ap (option_and_then its_log) (sym line.payload) ∙ ap (λ (x : made.Block directory.Unit). option_and_then its_log x.payload) same ∙ ap (λ (x : ScriptBlock). x.log) its.3 ∙ carried)).one
 
     pub keys : (epoch : ℕ) (round : Round) (height dealer : ℕ) (log : DealerLog) → brings_of s epoch round height ≡ Some (dealer, log) → dealer < 2 ^ 32
     keys epoch round height dealer log is = by_block (chain s height) refl is
       where
-        by_log : (b : Block) → chain s height ≡ Some b → (o : Option SignedDealerLog) → b.log ≡ o → counted_at s epoch round height o ≡ Some (dealer, log) → dealer < 2 ^ 32
+        by_log : (b : ScriptBlock) → chain s height ≡ Some b → (o : Option SignedDealerLog) → b.log ≡ o → counted_at s epoch round height o ≡ Some (dealer, log) → dealer < 2 ^ 32
         by_log b there None carried found = absurd (none_some found)
         by_log b there (Some signed) carried found = by_test (log_counts check_log_of (midpoint (blocks_per_epoch s) epoch) (last (blocks_per_epoch s) epoch) round (height, signed)) found
           where
@@ -87,6 +87,6 @@ module _ (s : Setting) where
             by_test true found = subst (λ (d : ℕ). d < 2 ^ 32) (ap (λ (p : ℕ × DealerLog). p.0) (some_is found)) (log_small b signed carried height there)
             by_test false found = absurd (none_some found)
 
-        by_block : (o : Option Block) → chain s height ≡ o → option_and_then (λ (b : Block). counted_at s epoch round height b.log) o ≡ Some (dealer, log) → dealer < 2 ^ 32
+        by_block : (o : Option ScriptBlock) → chain s height ≡ o → option_and_then (λ (b : ScriptBlock). counted_at s epoch round height b.log) o ≡ Some (dealer, log) → dealer < 2 ^ 32
         by_block None there found = absurd (none_some found)
         by_block (Some b) there found = by_log b there b.log refl found

@@ -19,7 +19,7 @@ use Rattle.dkg_journal.specs.Names.{Files}
 use Rattle.dkg_text.specs.declared.script.Event.{Event}
 use Rattle.dkg_text.specs.declared.script.Event.TheVariants.{Final}
 use Rattle.dkg_text.specs.declared.script.Life.{Life}
-use Rattle.dkg_script.specs.Blocks.{Block, anchor_number, block_at, block_of, blocks, info_at_boundary, known_info, reshare_round, round_at, used}
+use Rattle.dkg_script.specs.Blocks.{ScriptBlock, anchor_number, numbered_block, block_of, blocks, info_at_boundary, known_info, reshare_round, round_at, used}
 use Rattle.dkg_script.specs.Consistent.{IsConsistentScript}
 use Rattle.dkg_script.specs.Inclusion.{IsFormOfInclusion}
 use Rattle.dkg_script.specs.Readings.{Info, Limits, info_in, unit_payload, with_spelled}
@@ -84,14 +84,14 @@ module _ (s : Setting) (cuts : List (Option CutAt)) (form : IsFormOfInclusion s.
   Known info = known_info s info.epoch ≡ Some info
 
   -- what a block that begins an epoch carries as that epoch's info is known
-  abbrev pub Begins : Block → Type 0
+  abbrev pub Begins : ScriptBlock → Type 0
   Begins b = IfSome (info_at_boundary s b) Known
 
   pub used_begin : AllByRecursion Begins (used s)
   used_begin = all_sources Known (info_at_boundary s) (used s) (all_front Known (filter_map (info_at_boundary s) (used s)) _ consistent.one_info)
 
   abbrev pub Numbered : ℕ → Type 0
-  Numbered number = IfSome (block_at s number) Begins
+  Numbered number = IfSome (numbered_block s number) Begins
 
   pub same_limits : limits s ≡ limits_of s.script
   same_limits = rw form.reshares refl
@@ -101,7 +101,7 @@ module _ (s : Setting) (cuts : List (Option CutAt)) (form : IsFormOfInclusion s.
   round_is epoch = rw form.reshares refl
 
   module _ (number : ℕ) (made_it : IsMadeOf s.script number) (info : EpochInfo directory.Unit) (carries : info_of (made_it.block).payload ≡ Some info) where
-    abbrev pub own : Block
+    abbrev pub own : ScriptBlock
     own = block_of s (take number (blocks s)) made_it.line
 
     pub own_info : own.info ≡ Some (with_spelled unit_spelling info)
@@ -133,7 +133,7 @@ module _ (s : Setting) (cuts : List (Option CutAt)) (form : IsFormOfInclusion s.
         itself a b is = grind (arith, nat_tests)
 
     pub info_known : Numbered number → (made_it.block).height ≡ boundary (blocks_per_epoch s) info.epoch → known_info s info.epoch ≡ Some (with_spelled unit_spelling info)
-    info_known all at = subst (λ (o : Option Info). IfSome o Known) (at_boundary at) (subst (λ (o : Option Block). IfSome o Begins) (of_line s number made_it.line made_it.line_is) all)
+    info_known all at = subst (λ (o : Option Info). IfSome o Known) (at_boundary at) (subst (λ (o : Option ScriptBlock). IfSome o Begins) (of_line s number made_it.line made_it.line_is) all)
 
     pub round_known : Numbered number → (made_it.block).height ≡ boundary (blocks_per_epoch s) info.epoch → (round : Round)
         → round_of s.script.config.namespace info.epoch (Some info.output) s.script.config.mode V1 info.output.players info.players ≡ Ok round → round_at s info.epoch ≡ Some round

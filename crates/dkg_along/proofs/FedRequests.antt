@@ -14,7 +14,7 @@ use Rattle.dkg_text.specs.declared.script.Event.TheVariants as event
 use Rattle.dkg_text.specs.declared.script.Life.{Life}
 use Rattle.dkg_text.specs.declared.script.Script.{Script}
 use Rattle.dkg_script.specs.Asked.{AskAnew, IsAskedAnew, fed_to, fed_while_open}
-use Rattle.dkg_lives.specs.Asks.{RequestStanding, Unmade, Open, Closed, Cancelled, turns, standing_of, fed_in}
+use Rattle.dkg_lives.specs.Asks.{RequestStanding, Unmade, Open, Closed, Cancelled, turns, request_standing, fed_in}
 use Rattle.dkg_lives.specs.Given.{blocks_in, numbered}
 use Rattle.dkg_lives.proofs.Awaiting.{one_more}
 
@@ -92,14 +92,14 @@ module _ (request : ℕ) where
   -- ONE EVENT MORE
 
   module _ (life : Life) (i : ℕ) (e : Event) (is : slice_get life.events i ≡ Some e) where
-    pub stands_more : standing_of life request (suc i) ≡ turns request (standing_of life request i) e
+    pub stands_more : request_standing life request (suc i) ≡ turns request (request_standing life request i) e
     stands_more = ap (λ (es : List Event). fold (turns request) Unmade es) (one_more life.events i e is) ∙ fold-append (turns request) Unmade (take i life.events) (e ∷ [])
 
-    fed_numbers : fed_to request (take (suc i) life.events) ≡ fed_to request (take i life.events) ++ adds (standing_of life request i) e
+    fed_numbers : fed_to request (take (suc i) life.events) ≡ fed_to request (take i life.events) ++ adds (request_standing life request i) e
     fed_numbers = ap (λ (es : List Event). fed_to request es) (one_more life.events i e is) ∙ fed_more_from Unmade (take i life.events) e
 
-    pub fed_more : (script : Script) → fed_in script life request (suc i) ≡ fed_in script life request i ++ numbered (blocks_in script) (adds (standing_of life request i) e)
-    fed_more script = ap (numbered (blocks_in script)) fed_numbers ∙ filter_map-append (slice_get (blocks_in script)) (fed_to request (take i life.events)) (adds (standing_of life request i) e)
+    pub fed_more : (script : Script) → fed_in script life request (suc i) ≡ fed_in script life request i ++ numbered (blocks_in script) (adds (request_standing life request i) e)
+    fed_more script = ap (numbered (blocks_in script)) fed_numbers ∙ filter_map-append (slice_get (blocks_in script)) (fed_to request (take i life.events)) (adds (request_standing life request i) e)
 
   -- a block that an open request is fed
   pub adds_block : (blocks : List (Block U)) (number : ℕ) (b : Block U) → slice_get blocks number ≡ Some b → numbered blocks (adds Open (event.Feed request number)) ≡ b ∷ []
@@ -151,10 +151,10 @@ anew_at done (e ∷ events) (suc i) request anew there =
 pub asked_anew : (life : Life) (i request : ℕ) → AskAnew life.events → slice_get life.events i ≡ Some (event.Info request) → is_asked (take i life.events) request ≡ false
 asked_anew life i request anew there = anew_at [] life.events i request anew there
 
-pub made_anew : (life : Life) (i request : ℕ) → AskAnew life.events → slice_get life.events i ≡ Some (event.Info request) → standing_of life request i ≡ Unmade
+pub made_anew : (life : Life) (i request : ℕ) → AskAnew life.events → slice_get life.events i ≡ Some (event.Info request) → request_standing life request i ≡ Unmade
 made_anew life i request anew there = unmade request (take i life.events) (anew_at [] life.events i request anew there)
 
-pub becomes_open : (life : Life) (i request : ℕ) → AskAnew life.events → slice_get life.events i ≡ Some (event.Info request) → standing_of life request (suc i) ≡ Open
+pub becomes_open : (life : Life) (i request : ℕ) → AskAnew life.events → slice_get life.events i ≡ Some (event.Info request) → request_standing life request (suc i) ≡ Open
 becomes_open life i request anew there =
     stands_more request life i (event.Info request) there ∙ ap (λ (s : RequestStanding). turns request s (event.Info request)) (made_anew life i request anew there) ∙ ap (λ (t : Bool). if t then Open else Unmade) (itself request)
 
@@ -174,7 +174,7 @@ fed_grows request script life read zero all = ([], ap (fed_in script life reques
 fed_grows request script life read (suc more) all =
     let before = fed_grows request script life read more (λ i low. all i (later i low)) in
     let last = all (read + more) (next (read + more) (read + suc more) (one read more)) in
-    let added = numbered (blocks_in script) (adds request (standing_of life request (read + more)) last.0) in (
+    let added = numbered (blocks_in script) (adds request (request_standing life request (read + more)) last.0) in (
       before.0 ++ added,
       ap (fed_in script life request) (one read more) ∙ fed_more request life (read + more) last.0 last.1 script ∙ ap (λ (bs : List (Block U)). bs ++ added) before.1 ∙ append_assoc (fed_in script life request read) before.0 added,
     )

@@ -5,15 +5,15 @@ use Rattle.std.proofs.lemmas.List.Elements.{filter_map-append}
 use Rattle.std.proofs.lemmas.List.Sums.{fold-append}
 use Rattle.dkg_text.specs.declared.script.Event.{Event}
 use Rattle.dkg_text.specs.declared.script.Life.{Life}
-use Rattle.dkg_script.specs.Blocks.{Block, block_at, delivered_number, events_come_to}
-use Rattle.dkg_script.specs.Position.{awaited_epoch, awaited_height, start_height}
+use Rattle.dkg_script.specs.Blocks.{ScriptBlock, numbered_block, delivered_number, events_come_to}
+use Rattle.dkg_script.specs.Position.{awaited_epoch, awaited_height_after, first_height}
 use Rattle.dkg_script.specs.Setting.{Setting, blocks_per_epoch}
 use Rattle.dkg_lives.proofs.Delivered.{epochs_rise}
 
-abbrev higher : ℕ → Block → ℕ
+abbrev higher : ℕ → ScriptBlock → ℕ
 higher height b = max height (suc b.height)
 
-rises : (bs : List Block) (height : ℕ) → height ≤ fold higher height bs
+rises : (bs : List ScriptBlock) (height : ℕ) → height ≤ fold higher height bs
 rises [] height = omega arith
 rises (b ∷ bs) height = let more = rises bs (max height (suc b.height)) in below (fold higher (max height (suc b.height)) bs) height b.height more
   where
@@ -31,21 +31,21 @@ module _ (s : Setting) (l : ℕ) (life : Life) where
   abbrev events : List Event
   events = events_come_to life.cut life.events
 
-  abbrev those : List Event → List Block
-  those es = filter_map (block_at s) (filter_map delivered_number es)
+  abbrev those : List Event → List ScriptBlock
+  those es = filter_map (numbered_block s) (filter_map delivered_number es)
 
-  height_next : (j : ℕ) → awaited_height s l life j ≤ awaited_height s l life (suc j)
-  unfolding awaited_height
+  height_next : (j : ℕ) → awaited_height_after s l life j ≤ awaited_height_after s l life (suc j)
+  unfolding awaited_height_after
   height_next j =
       let next = take_next events j in
       let parts : those (take (suc j) events) ≡ those (take j events) ++ those next.0
-      = ap those next.1 ∙ ap (λ (ns : List ℕ). filter_map (block_at s) ns) (filter_map-append delivered_number (take j events) next.0) ∙ filter_map-append (block_at s) (filter_map delivered_number (take j events)) (filter_map delivered_number next.0) in
-      let sum : fold higher (start_height s l life) (those (take (suc j) events)) ≡ fold higher (fold higher (start_height s l life) (those (take j events))) (those next.0)
-      = ap (λ (bs : List Block). fold higher (start_height s l life) bs) parts ∙ fold-append higher (start_height s l life) (those (take j events)) (those next.0) in
-      subst (λ (n : ℕ). fold higher (start_height s l life) (those (take j events)) ≤ n) (sym sum) (rises (those next.0) (fold higher (start_height s l life) (those (take j events))))
+      = ap those next.1 ∙ ap (λ (ns : List ℕ). filter_map (numbered_block s) ns) (filter_map-append delivered_number (take j events) next.0) ∙ filter_map-append (numbered_block s) (filter_map delivered_number (take j events)) (filter_map delivered_number next.0) in
+      let sum : fold higher (first_height s l life) (those (take (suc j) events)) ≡ fold higher (fold higher (first_height s l life) (those (take j events))) (those next.0)
+      = ap (λ (bs : List ScriptBlock). fold higher (first_height s l life) bs) parts ∙ fold-append higher (first_height s l life) (those (take j events)) (those next.0) in
+      subst (λ (n : ℕ). fold higher (first_height s l life) (those (take j events)) ≤ n) (sym sum) (rises (those next.0) (fold higher (first_height s l life) (those (take j events))))
 
-  pub heights_rise : (a b : ℕ) → a ≤ b → awaited_height s l life a ≤ awaited_height s l life b
-  heights_rise a zero low = subst (λ (n : ℕ). awaited_height s l life n ≤ awaited_height s l life 0) (none a low) (itself (awaited_height s l life 0))
+  pub heights_rise : (a b : ℕ) → a ≤ b → awaited_height_after s l life a ≤ awaited_height_after s l life b
+  heights_rise a zero low = subst (λ (n : ℕ). awaited_height_after s l life n ≤ awaited_height_after s l life 0) (none a low) (itself (awaited_height_after s l life 0))
     where
       itself : (n : ℕ) → n ≤ n
       itself n = omega arith
@@ -66,9 +66,9 @@ module _ (s : Setting) (l : ℕ) (life : Life) where
       itself : (n : ℕ) → n ≤ n
       itself n = omega arith
 
-      by_test : (t : Bool) → nat_le a b ≡ t → (a ≤ b → awaited_height s l life a ≤ awaited_height s l life b) → awaited_height s l life a ≤ awaited_height s l life (suc b)
-      by_test true test on = both (awaited_height s l life a) (awaited_height s l life b) (awaited_height s l life (suc b)) (on (under a b test)) (height_next b)
-      by_test false test on = subst (λ (n : ℕ). awaited_height s l life n ≤ awaited_height s l life (suc b)) (equal a b low test) (itself (awaited_height s l life (suc b)))
+      by_test : (t : Bool) → nat_le a b ≡ t → (a ≤ b → awaited_height_after s l life a ≤ awaited_height_after s l life b) → awaited_height_after s l life a ≤ awaited_height_after s l life (suc b)
+      by_test true test on = both (awaited_height_after s l life a) (awaited_height_after s l life b) (awaited_height_after s l life (suc b)) (on (under a b test)) (height_next b)
+      by_test false test on = subst (λ (n : ℕ). awaited_height_after s l life n ≤ awaited_height_after s l life (suc b)) (equal a b low test) (itself (awaited_height_after s l life (suc b)))
 
   pub awaited_rise : 1 ≤ blocks_per_epoch s → (a b : ℕ) → a ≤ b → awaited_epoch s l life a ≤ awaited_epoch s l life b
-  awaited_rise some a b low = epochs_rise (blocks_per_epoch s) (awaited_height s l life a) (awaited_height s l life b) some (heights_rise a b low)
+  awaited_rise some a b low = epochs_rise (blocks_per_epoch s) (awaited_height_after s l life a) (awaited_height_after s l life b) some (heights_rise a b low)

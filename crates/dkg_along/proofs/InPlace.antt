@@ -9,7 +9,7 @@ use Rattle.dkg_infos.specs.declared.entry.Restored.{Restored}
 use Rattle.dkg_text.specs.declared.script.Cut as cut
 use Rattle.dkg_text.specs.declared.script.Life.{Life}
 use Rattle.dkg_script.specs.Ends.{EndsWell, is_fault}
-use Rattle.dkg_script.specs.Order.{IsInOrder, InLife, Begins, is_opened}
+use Rattle.dkg_script.specs.Order.{IsInOrder, InLife, LetsBegin, is_opened}
 use Rattle.dkg_script.specs.Progress.{Progress, read, is_last_step}
 use Rattle.dkg_script.specs.Setting.{Setting, life_at}
 use Rattle.dkg_life.specs.declared.stop.Stop.{Stop}
@@ -76,7 +76,7 @@ module _ (life : Life) (l j : ℕ) (s : Setting) (p : Progress) where
   in_life : (P : Life → Type 0) → life_at s l ≡ Some life → length p.cuts ≡ l → P life → InLife s p P
   in_life P life_is lives is = rw (lives, life_is) is
 
-  begun : (opened : Bool) → IsWithin life l j opened s p → Begins p life
+  begun : (opened : Bool) → IsWithin life l j opened s p → LetsBegin p life
   begun opened is = rw is.step is.begins
 
   one_more : (one : Entry) (w : List Entry) → is_opened one ≡ false → list_any is_opened (w ++ one ∷ []) ≡ list_any is_opened w
@@ -106,7 +106,7 @@ module _ (life : Life) (l j : ℕ) (s : Setting) (p : Progress) where
   quiet_place opened (entry.Cut step call) quiet is = absurd quiet
   quiet_place opened (entry.Step step) quiet is = absurd quiet
   quiet_place opened (entry.Fault fault) quiet is = absurd quiet
-  quiet_place opened _ quiet is = in_life (Begins p) is.life_is is.lives (begun opened is)
+  quiet_place opened _ quiet is = in_life (LetsBegin p) is.life_is is.lives (begun opened is)
 
   quiet_still : (opened : Bool) (one : Entry) → IsQuiet one → IsWithin life l j opened s p → IsWithin life l j opened s (read s p one)
   quiet_still opened (entry.Opened n restored) quiet is = absurd quiet
@@ -119,7 +119,7 @@ module _ (life : Life) (l j : ℕ) (s : Setting) (p : Progress) where
 
   opens : (restored : List Restored) → IsWithin life l 0 false s p → IsInOrder s p (entry.Opened l restored)
   opens restored is = record {
-    in_life = in_life (λ its. (l ≡ length p.cuts) × Begins p its) is.life_is is.lives (sym is.lives, rw is.step is.begins);
+    in_life = in_life (λ its. (l ≡ length p.cuts) × LetsBegin p its) is.life_is is.lives (sym is.lives, rw is.step is.begins);
     at_opening = is.step;
     once = is.opened_is;
   }
@@ -196,7 +196,7 @@ pub stopped_within : (life : Life) (l j : ℕ) (opened : Bool) (s : Setting) (p 
     → IsWithin life l j opened s p → IsStopped life l stop s p
 stopped_within life l j opened s p AtCut its is = cut_within life l j opened s p (its refl) is
 stopped_within life l j opened s p (Faulted fault) its is =
-    inr (inr (in_life life l j s p (Begins p) is.life_is is.lives (begun life l j s p opened is)))
+    inr (inr (in_life life l j s p (LetsBegin p) is.life_is is.lives (begun life l j s p opened is)))
 stopped_within life l j opened s p Failed its is = tt
 
 -- ALL ENTRIES OF A STEP

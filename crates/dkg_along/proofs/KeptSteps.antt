@@ -23,7 +23,7 @@ use Rattle.dkg_script.specs.Blocks.{round_at}
 use Rattle.dkg_script.specs.Due.{is_ack}
 use Rattle.dkg_script.specs.Kept.{AllCurrent, Gives, IsBroughtAtCut, IsBroughtNow}
 use Rattle.dkg_script.specs.Position.{awaited_epoch, cut_of, event_of_step}
-use Rattle.dkg_script.specs.Progress.{Progress, read, pair_of, with_pair, IsBrought}
+use Rattle.dkg_script.specs.Progress.{Progress, read, pair_of, with_restored, IsBrought}
 use Rattle.dkg_script.specs.Setting.{Setting, CutAt, life_at, me}
 use Rattle.dkg_script.proofs.EachEntry.{EachAfter}
 use Rattle.dkg_core.specs.Courses.{EndsSo, on_devices}
@@ -33,7 +33,7 @@ use Rattle.dkg_core.specs.Core.{step}
 use Rattle.dkg_core.specs.Node.{node_step}
 use Rattle.dkg_core.specs.Agreeing.{AreAgreed, CanRecord}
 use Rattle.dkg_core.specs.Behind.{EndsBehind, IsAside, IsSameBeside, RunsBehind, event_of}
-use Rattle.dkg_laws.specs.BlocksKept.{IsBlockLine, IsKeptBehind}
+use Rattle.dkg_laws.specs.BlocksKept.{IsLineOfBlock, IsKeptBehind}
 use Rattle.dkg_core.specs.Enduring.{IsKeptFrom, IsSaidFrom}
 use Rattle.dkg_core.specs.Endings.{CameTo}
 use Rattle.dkg_core.specs.Forms.{Judged, Refusal, Passed, Applied, IsForm, judged_block}
@@ -395,7 +395,7 @@ module _ {Dir : Type 0} (c : Fixed Dir) (b e l : ℕ) (life : Life) (j number : 
       dealer_is = ap (λ (k : ℕ × ℕ). k.1) its.at ∙ me_is
 
   abbrev Fine : Entry → Type 0
-  Fine line = IsBlockLine c st line × IsSaidFrom (c.rules.ack_of c.me) (b - 1) h line
+  Fine line = IsLineOfBlock c st line × IsSaidFrom (c.rules.ack_of c.me) (b - 1) h line
 
   -- ITS LINES
 
@@ -414,7 +414,7 @@ module _ {Dir : Type 0} (c : Fixed Dir) (b e l : ℕ) (life : Life) (j number : 
         now : IsBrought s l life j pair → IsBroughtNow s q pair
         now is = rw (ap length same.cuts ∙ at.lives, at.life_is, same.step ∙ at.step) is
 
-    stays : pair_of (with_pair q.recorded pair) epoch dealer ≡ Some pair
+    stays : pair_of (with_restored q.recorded pair) epoch dealer ≡ Some pair
     stays = with_pair_finds q.recorded pair epoch dealer ∙ by_found (pair_of q.recorded epoch dealer) refl
       where
         by_found : (o : Option Restored) → pair_of q.recorded epoch dealer ≡ o → option_or o (pair_of (pair ∷ []) epoch dealer) ≡ Some pair
@@ -490,7 +490,7 @@ module _ {Dir : Type 0} (c : Fixed Dir) (b0 e0 b e l : ℕ) (life : Life) (j num
   roundless : st.participation.round ≡ None → Left
   roundless none = idle kept.lines kept.out (all_aside kept.lines kept.said) (λ key pair got. elim (its_known key pair got) [ inl was ↦ was | inr its ↦ absurd (none_some its.round (sym none ∙ its.of_epoch)) ])
     where
-      one_aside : (line : Entry) → IsBlockLine c st line → IsAside line
+      one_aside : (line : Entry) → IsLineOfBlock c st line → IsAside line
       one_aside (entry.Opened life restored) fine = absurd fine
       one_aside (entry.Cut step call) fine = absurd fine
       one_aside (entry.Step step) fine = absurd fine
@@ -500,7 +500,7 @@ module _ {Dir : Type 0} (c : Fixed Dir) (b0 e0 b e l : ℕ) (life : Life) (j num
       one_aside (entry.Offer epoch player public private) fine = let its : IsOffered c st epoch player public private = fine in absurd (none_some its.round (sym none ∙ its.of_epoch))
       one_aside other fine = tt
 
-      all_aside : (lines : List Entry) → AllByRecursion (IsBlockLine c st) lines → AllByRecursion IsAside lines
+      all_aside : (lines : List Entry) → AllByRecursion (IsLineOfBlock c st) lines → AllByRecursion IsAside lines
       all_aside [] all = tt
       all_aside (line ∷ lines) all = (one_aside line all.0, all_aside lines all.1)
 
@@ -527,12 +527,12 @@ module _ {Dir : Type 0} (c : Fixed Dir) (b0 e0 b e l : ℕ) (life : Life) (j num
     both_said [] (y ∷ ys) said aside = (aside_said y aside.0, both_said [] ys tt aside.1)
     both_said (x ∷ xs) ys said aside = (said.0, both_said xs ys said.1 aside)
 
-    both_fine : (lines : List Entry) → AllByRecursion (IsBlockLine c st) lines → AllByRecursion (IsSaidFrom (c.rules.ack_of c.me) (b - 1) new.held) lines
-        → AllByRecursion (λ line. IsBlockLine c st line × IsSaidFrom (c.rules.ack_of c.me) (b - 1) new.held line) lines
+    both_fine : (lines : List Entry) → AllByRecursion (IsLineOfBlock c st) lines → AllByRecursion (IsSaidFrom (c.rules.ack_of c.me) (b - 1) new.held) lines
+        → AllByRecursion (λ line. IsLineOfBlock c st line × IsSaidFrom (c.rules.ack_of c.me) (b - 1) new.held line) lines
     both_fine [] one other = tt
     both_fine (line ∷ lines) one other = ((one.0, other.0), both_fine lines one.1 other.1)
 
-    fine : AllByRecursion (λ line. IsBlockLine c st line × IsSaidFrom (c.rules.ack_of c.me) (b - 1) new.held line) kept.lines
+    fine : AllByRecursion (λ line. IsLineOfBlock c st line × IsSaidFrom (c.rules.ack_of c.me) (b - 1) new.held line) kept.lines
     fine = both_fine kept.lines kept.said (subst (λ (ls : List Entry). AllByRecursion (IsSaidFrom (c.rules.ack_of c.me) (b - 1) new.held) ls) lines_are
         (both_said half.added behind.lines (subst (λ (x : Held). AllByRecursion (IsSaidFrom (c.rules.ack_of c.me) (b - 1) x) half.added) (sym behind.held) half.said) behind.aside))
 

@@ -25,13 +25,13 @@ use Rattle.dkg_store.specs.Noted.{logs_in}
 use Rattle.dkg_store.specs.Recorded.{restored_list}
 use Rattle.dkg_script.specs.Consistent.{IsConsistentScript}
 use Rattle.dkg_script.specs.Blocks.{delivered_number, round_at}
-use Rattle.dkg_script.specs.Due.{IsDue, IsDueEvent, WroteAck, is_ack}
+use Rattle.dkg_script.specs.Due.{IsDueNow, IsDueEvent, WroteAck, is_ack}
 use Rattle.dkg_script.specs.Epochs.{alone}
 use Rattle.dkg_script.specs.Inclusion.{IsEventIn}
 use Rattle.dkg_script.specs.Kept.{AllCurrent, Gives}
 use Rattle.dkg_script.specs.LogsKnown.{LogsKnown}
 use Rattle.dkg_script.specs.OwnMarks.{IsKnownInStep, IsOwnMarkKnown}
-use Rattle.dkg_script.specs.Position.{awaited_before, awaited_epoch, awaited_height, begun, begun_before, event_of_step, follows}
+use Rattle.dkg_script.specs.Position.{awaited_before, awaited_epoch, awaited_height_after, begun, begun_before, event_of_step, life_follows}
 use Rattle.dkg_script.specs.Progress.{Progress}
 use Rattle.dkg_script.specs.Setting.{Setting, CutAt, blocks_per_epoch, found, is_oneshot, life_at, me}
 use Rattle.dkg_core.specs.Agreeing.{AreAgreed, BringsRecords, CanRecord}
@@ -62,7 +62,7 @@ use Rattle.dkg_laws.proofs.NodeKept.{node_openings_agree, node_openings_restore,
 use Rattle.dkg_laws.proofs.Openings.{node_openings_lead_over}
 use Rattle.dkg_laws.proofs.NodeThrough.{node_openings_through, node_steps_lead_through_over}
 use Rattle.dkg_laws.proofs.RecordingLogs.{node_steps_record_logs}
-use Rattle.dkg_lives.specs.Epochs.{IsAt, IsLifeInForm, any_shares}
+use Rattle.dkg_lives.specs.Epochs.{IsAtEvent, IsLifeInForm, any_shares}
 use Rattle.dkg_lives.specs.Given.{Lived, at_step, lived}
 use Rattle.dkg_along.proofs.Alone.{epoch_alike, follows_alike, height_alike}
 use Rattle.dkg_lives.proofs.Awaiting.{HasHeight, IsReached, has_height}
@@ -96,7 +96,7 @@ some_is e = cc
 
 -- the acknowledgement that was due is written, where this is known of logs
 abbrev pub IsSettled : Type 0 → Setting → Progress → Type 0
-IsSettled marks s q = marks → IsDue s q → WroteAck q.written
+IsSettled marks s q = marks → IsDueNow s q → WroteAck q.written
 
 -- WHAT A LIFE IS GIVEN, of this setting: its script is consistent where its first lives ended so
 pub record IsLifeOfSetting (s : Setting) (ends : List (Option CutAt)) (g : Lived) : Type 0 where
@@ -147,14 +147,14 @@ module _ (s : Setting) (ends : List (Option CutAt)) (l : ℕ) (life : Life) (see
     -- A STATE behind the first i events, up to which this is known of logs
     pub record IsGoing (marks : Type 0) (i : ℕ) (st : Live U) (h : Held) (p : Progress) : Type 0 where
       pub carries : CarriesAt (c i) (b i) (e i) l st h s p
-      pub at : IsAt g i st
+      pub at : IsAtEvent g i st
       pub of_round : HasRoundOf s st
       pub in_bound : HasFew st
       pub plays : marks → PlaysWhere s st
       pub logs : marks → LogsKnown s (b i) p.recorded (logs_in (notes h))
 
     -- its round is that of the awaited epoch
-    module _ (i : ℕ) (st : Live U) (at : IsAt g i st) (of_round : HasRoundOf s st) (round : Round) (is : st.participation.round ≡ Some round) where
+    module _ (i : ℕ) (st : Live U) (at : IsAtEvent g i st) (of_round : HasRoundOf s st) (round : Round) (is : st.participation.round ≡ Some round) where
       number_is : round.number ≡ e i
       number_is = ((at.live).stands).numbered round is ∙ at.stands.epoch (with_round (c i) (unasked st) round (at.live).stands is) ∙ sym (epoch_alike s l life no_sync meant.none_found i)
 
@@ -200,7 +200,7 @@ module _ (s : Setting) (ends : List (Option CutAt)) (l : ℕ) (life : Life) (see
       -- the life that it goes to
       pub record IsFollowed (end : Live U) : Type 0 where
         pub through : IsNodeThrough (c (suc i)) any_shares st m.message (Some w.held) end (Some new.held)
-        pub at : IsAt g (suc i) end
+        pub at : IsAtEvent g (suc i) end
         pub of_round : HasRoundOf s end
         pub in_bound : HasFew end
 
@@ -371,22 +371,22 @@ module _ (s : Setting) (ends : List (Option CutAt)) (l : ℕ) (life : Life) (see
         kept = message_kept (c (suc i)) (b i) (e i) l life (suc i) from bytes st ended w new s p stands event_is awaits its_carries its_can small goes_on its_run
 
         -- what is due is due by the node's course
-        due_then : (q : Progress) → length q.cuts ≡ l → q.step ≡ suc i → q.recorded ≡ p.recorded → marks → IsDue s q → node.IsDue (c (suc i)) st from bytes
+        due_then : (q : Progress) → length q.cuts ≡ l → q.step ≡ suc i → q.recorded ≡ p.recorded → marks → IsDueNow s q → node.IsDue (c (suc i)) st from bytes
         unfolding at_step
         due_then q lives step same known due =
             owed (c (suc i)) (b i) (e i) st w.held s p q life l (suc i) from bytes its_carries.half awaits life_is lives step event_is same deals in_round (going.plays known) due
           where
-            deals : awaited_height s l life (suc i - 1) < midpoint (blocks_per_epoch s) (e i) → (round : Round) → st.participation.round ≡ Some round → st.participation.stage ≡ Deals
-            deals low round there = early (subst (λ (x : ℕ). awaited_height s l life x < midpoint n (e i)) back low) round there
+            deals : awaited_height_after s l life (suc i - 1) < midpoint (blocks_per_epoch s) (e i) → (round : Round) → st.participation.round ≡ Some round → st.participation.stage ≡ Deals
+            deals low round there = early (subst (λ (x : ℕ). awaited_height_after s l life x < midpoint n (e i)) back low) round there
               where
-                stands_at : core.awaited_height st ≡ awaited_height s l life i
+                stands_at : core.awaited_height st ≡ awaited_height_after s l life i
                 stands_at = going.at.stands.awaits ∙ sym (height_alike s l life no_sync meant.none_found i)
 
-                early : awaited_height s l life i < midpoint n (e i) → (round : Round) → st.participation.round ≡ Some round → st.participation.stage ≡ Deals
+                early : awaited_height_after s l life i < midpoint n (e i) → (round : Round) → st.participation.round ≡ Some round → st.participation.stage ≡ Deals
                 early low round there = deals_early (c i) (unasked st) round (going.at.live).stands there (subst (λ (x : ℕ). x < midpoint n (epoch_of n x)) (sym stands_at) low)
 
-            in_round : follows s l life (e i) ≡ false → (round : Round) × (st.participation.round ≡ Some round)
-            in_round part = has_round (c i) (unasked st) (going.at.live).stands (λ stage. bools_apart (follows s l life (e i)) (follows_alike s l life no_sync meant.none_found (e i) ∙ ap (follows (alone s.script) l life) (epoch_alike s l life no_sync meant.none_found i) ∙ going.at.stands.blind stage) part)
+            in_round : life_follows s l life (e i) ≡ false → (round : Round) × (st.participation.round ≡ Some round)
+            in_round part = has_round (c i) (unasked st) (going.at.live).stands (λ stage. bools_apart (life_follows s l life (e i)) (follows_alike s l life no_sync meant.none_found (e i) ∙ ap (life_follows (alone s.script) l life) (epoch_alike s l life no_sync meant.none_found i) ∙ going.at.stands.blind stage) part)
               where
                 bools_apart : (t : Bool) → t ≡ true → t ≡ false → ⊥
                 bools_apart t x y = let wrong : true ≡ false = sym x ∙ y in cc
@@ -450,7 +450,7 @@ module _ (s : Setting) (ends : List (Option CutAt)) (l : ℕ) (life : Life) (see
             apart : st.participation.stage ≡ Follows → ⊥
             apart = with_round (c (suc i)) (unasked st) round live.stands there
 
-            stands_at : core.awaited_height st ≡ awaited_height s l life i
+            stands_at : core.awaited_height st ≡ awaited_height_after s l life i
             stands_at = going.at.stands.awaits ∙ sym (height_alike s l life no_sync meant.none_found i)
 
             epoch_there : st.participation.epoch ≡ e i
@@ -606,7 +606,7 @@ module _ (s : Setting) (ends : List (Option CutAt)) (l : ℕ) (life : Life) (see
         pub read : Seen
         pub k : Held
         pub begun_so : IsNodeBegun (c 0) read k end
-        pub at : IsAt g 0 end
+        pub at : IsAtEvent g 0 end
         pub of_round : HasRoundOf s end
         pub in_bound : HasFew end
         pub agreed : AreAgreed end.records new.held

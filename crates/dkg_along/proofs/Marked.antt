@@ -10,7 +10,7 @@ use Rattle.dkg_infos.specs.declared.entry.Entry.{Entry}
 use Rattle.dkg_infos.specs.declared.entry.Entry.TheVariants as entry
 use Rattle.dkg_infos.specs.declared.entry.Restored.{Restored}
 use Rattle.dkg_script.specs.Blocks.{round_at}
-use Rattle.dkg_script.specs.Due.{IsDue, WroteAck}
+use Rattle.dkg_script.specs.Due.{IsDueNow, WroteAck}
 use Rattle.dkg_script.specs.Kept.{IsSound}
 use Rattle.dkg_script.specs.OwnMarks.{IsKnownAt, IsOwnMarkKnown}
 use Rattle.dkg_script.specs.Progress.{Progress, read, pair_of}
@@ -55,7 +55,7 @@ marks_after s marks p (one ∷ more) = marks_after s (marks × IsKnownAt s p one
 
 -- Where a step ends, the acknowledgement that was due in it was written, if no log up to there bears one that this node never gave.
 abbrev pub IsAnsweredStep : Setting → Type 0 → Progress → Entry → Type 0
-IsAnsweredStep s marks p (entry.Step step) = marks → IsDue s p → WroteAck p.written
+IsAnsweredStep s marks p (entry.Step step) = marks → IsDueNow s p → WroteAck p.written
 IsAnsweredStep s marks p _ = Unit {0}
 
 abbrev pub IsMarkedEntry : Setting → Type 0 → Progress → Entry → Type 0

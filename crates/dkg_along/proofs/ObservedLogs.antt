@@ -16,7 +16,7 @@ use Rattle.dkg_types.specs.PayloadCodes.{its_log}
 use Rattle.dkg_infos.specs.Units.{unit_spelling}
 use Rattle.dkg_infos.specs.declared.directory.Unit as directory
 use Rattle.dkg_text.specs.declared.script.Life.{Life}
-use Rattle.dkg_script.specs.Blocks.{Block, chain}
+use Rattle.dkg_script.specs.Blocks.{ScriptBlock, chain}
 use Rattle.dkg_script.specs.Setting.{Setting, blocks_per_epoch}
 use Rattle.dkg_script.specs.Views.{seen_block}
 use Rattle.dkg_core.specs.Fixed.{Fixed}
@@ -55,7 +55,7 @@ module _ (s : Setting) (l : ℕ) (life : Life) (seen : Held → Seen) (files : F
     carried = option_and_then its_log b.payload
 
     brings_here : brings_of s epoch round b.height ≡ counted_at s epoch round b.height carried
-    brings_here = ap (option_and_then (λ (x : Block). counted_at s epoch round b.height x.log)) on_chain
+    brings_here = ap (option_and_then (λ (x : ScriptBlock). counted_at s epoch round b.height x.log)) on_chain
 
     -- a log counts where it is accepted
     accepted_counts : (log : SignedDealerLog) → is_accepted c round log ≡ true → log_counts check_log_of (midpoint (blocks_per_epoch s) epoch) (last (blocks_per_epoch s) epoch) round (b.height, log) ≡ true

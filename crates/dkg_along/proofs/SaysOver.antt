@@ -4,19 +4,19 @@ use Rattle.std.specs.Prelude.{if◌then◌else◌}
 use Rattle.std.specs.List.{AllByRecursion}
 use Rattle.std.specs.Option.{option_map_or}
 use Rattle.dkg_infos.specs.declared.entry.Entry.{Entry as Line}
-use Rattle.dkg_store.specs.Acts.{Ended, Held, World, after}
+use Rattle.dkg_store.specs.Acts.{Ended, Held, World, held_after}
 use Rattle.dkg_core.specs.Behind.{OnlySays}
 use Rattle.dkg_core.specs.Courses.{Ask, Call, Course, Do, EndsSo, Goes, Say, Stops, bind, deeds_of, under}
 use Rattle.dkg_core.specs.Forms.{ComesOver}
 use Rattle.dkg_core.specs.SayingThrough.{SaysSo}
-use Rattle.dkg_core.specs.Transcripts.{AddsDeeds, lines_of}
+use Rattle.dkg_core.specs.Transcripts.{AddsDeeds, deed_lines}
 use Rattle.dkg_core.proofs.Lines.{runs_add_deeds}
 use Rattle.dkg_along.proofs.Used.{all_front}
 
 -- Each line of the course is such a one.
 abbrev pub SaysOver : {Dir F S : Type 0} → (Line → Type 0) → Course Dir F S → Held → Type 0
 SaysOver P (Say line course) h = P line × SaysOver P course h
-SaysOver P (Do op course) h = SaysOver P course (after op h)
+SaysOver P (Do op course) h = SaysOver P course (held_after op h)
 SaysOver P (Call outer course) h = SaysOver P course h
 SaysOver P (Ask f) h = SaysOver P (f h) h
 SaysOver P (Goes end) h = Unit {0}
@@ -25,7 +25,7 @@ SaysOver P (Stops fault) h = Unit {0}
 -- so it is where it is whatever is read
 pub anywhere : {Dir F S : Type 0} (P : Line → Type 0) (course : Course Dir F S) (h : Held) → SaysSo P course → SaysOver P course h
 anywhere P (Say line course) h so = (so.0, anywhere P course h so.1)
-anywhere P (Do op course) h so = anywhere P course (after op h) so
+anywhere P (Do op course) h so = anywhere P course (held_after op h) so
 anywhere P (Call outer course) h so = anywhere P course h so
 anywhere P (Ask f) h so = anywhere P (f h) h (so h)
 anywhere P (Goes end) h so = tt
@@ -52,7 +52,7 @@ module _ {Dir F S : Type 0} (P : Line → Type 0) (h : Held) where
 -- one behind another
 pub over_behind : {Dir F S T : Type 0} (P : Line → Type 0) (course : Course Dir F S) (next : S → Course Dir F T) (h : Held) → SaysOver P course h → ((end : S) → SaysSo P (next end)) → SaysOver P (bind course next) h
 over_behind P (Say line course) next h so more = (so.0, over_behind P course next h so.1 more)
-over_behind P (Do op course) next h so more = over_behind P course next (after op h) so more
+over_behind P (Do op course) next h so more = over_behind P course next (held_after op h) so more
 over_behind P (Call outer course) next h so more = over_behind P course next h so more
 over_behind P (Ask f) next h so more = over_behind P (f h) next h so more
 over_behind P (Goes end) next h so more = anywhere P (next end) h (more end)
@@ -71,7 +71,7 @@ over_only L P Q stops first (Stops fault) next h only so comes more = tt
 -- .. under other names for its faults
 pub over_under : {Dir F G S : Type 0} (P : Line → Type 0) (name : F → G) (course : Course Dir F S) (h : Held) → SaysOver P course h → SaysOver P (under name course) h
 over_under P name (Say line course) h so = (so.0, over_under P name course h so.1)
-over_under P name (Do op course) h so = over_under P name course (after op h) so
+over_under P name (Do op course) h so = over_under P name course (held_after op h) so
 over_under P name (Call outer course) h so = over_under P name course h so
 over_under P name (Ask f) h so = over_under P name (f h) h so
 over_under P name (Goes end) h so = tt
@@ -79,9 +79,9 @@ over_under P name (Stops fault) h so = tt
 
 -- A RUN of it adds such lines, wherever it ends.
 
-deeds_say : {Dir F S : Type 0} (P : Line → Type 0) (course : Course Dir F S) (h : Held) → SaysOver P course h → AllByRecursion P (lines_of (deeds_of course h))
+deeds_say : {Dir F S : Type 0} (P : Line → Type 0) (course : Course Dir F S) (h : Held) → SaysOver P course h → AllByRecursion P (deed_lines (deeds_of course h))
 deeds_say P (Say line course) h so = (so.0, deeds_say P course h so.1)
-deeds_say P (Do op course) h so = deeds_say P course (after op h) so
+deeds_say P (Do op course) h so = deeds_say P course (held_after op h) so
 deeds_say P (Call outer course) h so = deeds_say P course h so
 deeds_say P (Ask f) h so = deeds_say P (f h) h so
 deeds_say P (Goes end) h so = tt

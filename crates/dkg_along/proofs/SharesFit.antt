@@ -171,13 +171,13 @@ module _ (Such : (epoch share : ℕ) → Type 0) where
         walk.then_next c A tell (s.commits_new standing c info seed share st) (λ st. bind (s.prunes (st.participation.epoch - 1) st) last) w (commits_new standing info st w needs q)
         (λ st w q. walk.then_next c A tell (s.prunes (st.participation.epoch - 1) st) last w (prunes (st.participation.epoch - 1) st w q) (λ st w q. behind_prune floor info share seed st w q))
 
-    judged : (floor : Option ℕ) (standing : s.Standing) (info : EpochInfo Dir) (st : Live Dir) (valid : Result (Unit {0}) ParticipantsError) (w : World) → Needs standing info → A w → Throughout A (s.judged c floor standing info st valid) w
+    judged : (floor : Option ℕ) (standing : s.Standing) (info : EpochInfo Dir) (st : Live Dir) (valid : Result (Unit {0}) ParticipantsError) (w : World) → Needs standing info → A w → Throughout A (s.info_judged c floor standing info st valid) w
     judged floor standing info st (Err e) w needs q = q
     judged floor standing info st (Ok passed) w needs q = with_share_and_seed floor standing info st w needs q
 
     with_info : (floor : Option ℕ) (standing : s.Standing) (info : EpochInfo Dir) (st : Live Dir) (w : World) → (info.epoch ≡ st.participation.epoch → Needs standing info) → A w → Throughout A (s.with_info c floor standing info st) w
     with_info floor standing info st w needs q =
-        along_if A w (info.epoch == st.participation.epoch) (s.judged c floor standing info st (validation (s.participants_of info) c.limit (Some info.output) info.epoch)) (Stops (WrongEpoch st.participation.epoch info.epoch))
+        along_if A w (info.epoch == st.participation.epoch) (s.info_judged c floor standing info st (validation (s.participants_of info) c.limit (Some info.output) info.epoch)) (Stops (WrongEpoch st.participation.epoch info.epoch))
         (λ e. judged floor standing info st (validation (s.participants_of info) c.limit (Some info.output) info.epoch) w (needs (eqb-true info.epoch st.participation.epoch e)) q) (λ e. q)
 
     -- The info of that epoch which the block at its boundary carries serves, if the source has one.

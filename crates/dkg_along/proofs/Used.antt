@@ -6,7 +6,7 @@ use Rattle.std.proofs.lemmas.Bool.Decides.{nat_tests}
 use Rattle.dkg_text.specs.declared.script.Anchor.{Anchor}
 use Rattle.dkg_text.specs.declared.script.Event.TheVariants.{Final}
 use Rattle.dkg_text.specs.declared.script.Life.{Life}
-use Rattle.dkg_script.specs.Blocks.{Block, anchor_number, block_at, chain, chain_in, delivered_number, events_come_to, held_at_opening, used, used_in}
+use Rattle.dkg_script.specs.Blocks.{ScriptBlock, anchor_number, numbered_block, chain, chain_in, delivered_number, events_come_to, held_at_opening, used, used_in}
 use Rattle.dkg_script.specs.Setting.{Setting, life_at}
 use Rattle.dkg_lives.proofs.Living.{holds_at}
 
@@ -35,47 +35,47 @@ module _ {A : Type 0} (P : A → Type 0) where
 
 -- WHAT HOLDS OF EACH BLOCK THAT IS USED, in a life
 
-module _ (s : Setting) (l : ℕ) (life : Life) (P : Block → Type 0) (life_is : life_at s l ≡ Some life) (all : AllByRecursion P (used s)) where
+module _ (s : Setting) (l : ℕ) (life : Life) (P : ScriptBlock → Type 0) (life_is : life_at s l ≡ Some life) (all : AllByRecursion P (used s)) where
   abbrev Numbered : ℕ → Type 0
-  Numbered number = IfSome (block_at s number) P
+  Numbered number = IfSome (numbered_block s number) P
 
   in_life : AllByRecursion P (used_in s life)
   unfolding used
   in_life = holds_at (λ its. AllByRecursion P (used_in s its)) s.script.lives l life (all_parts P (used_in s) s.script.lives all) life_is
 
   pub held : AllByRecursion Numbered (option_to_list (option_map anchor_number life.anchor) ++ life.held)
-  held = all_sources P (block_at s) (option_to_list (option_map anchor_number life.anchor) ++ life.held) (all_front P (held_at_opening s life) _ in_life)
+  held = all_sources P (numbered_block s) (option_to_list (option_map anchor_number life.anchor) ++ life.held) (all_front P (held_at_opening s life) _ in_life)
 
   -- .. of its anchor's
-  pub of_anchor : (anchor : Anchor) → life.anchor ≡ Some anchor → IfSome (block_at s (anchor_number anchor)) P
+  pub of_anchor : (anchor : Anchor) → life.anchor ≡ Some anchor → IfSome (numbered_block s (anchor_number anchor)) P
   of_anchor anchor is = (rw is at (all_front Numbered (option_to_list (option_map anchor_number life.anchor)) life.held held)).0
 
   -- .. and of one that is delivered by an event that the life comes to
-  pub of_delivered : (i number : ℕ) → slice_get (events_come_to life.cut life.events) i ≡ Some (Final number) → IfSome (block_at s number) P
+  pub of_delivered : (i number : ℕ) → slice_get (events_come_to life.cut life.events) i ≡ Some (Final number) → IfSome (numbered_block s number) P
   of_delivered i number is =
-      let later = all_sources P (block_at s) _ (all_back P (held_at_opening s life) _ in_life) in
+      let later = all_sources P (numbered_block s) _ (all_back P (held_at_opening s life) _ in_life) in
       let numbers = all_back Numbered _ (filter_map delivered_number (events_come_to life.cut life.events)) later in
       let events = all_sources Numbered delivered_number (events_come_to life.cut life.events) numbers in
       holds_at (λ event. IfSome (delivered_number event) Numbered) (events_come_to life.cut life.events) i (Final number) events is
 
 -- A BLOCK OF THE CHAIN is one that is used, at its height
 
-none_there : (b : Block) → None ≡ Some b → ⊥
+none_there : (b : ScriptBlock) → None ≡ Some b → ⊥
 none_there b e = cc
 
-some_is : (a b : Block) → Some a ≡ Some b → a ≡ b
+some_is : (a b : ScriptBlock) → Some a ≡ Some b → a ≡ b
 some_is a b e = cc
 
 at_height : (a b : ℕ) → (a == b) ≡ true → a ≡ b
 at_height a b test = grind (arith, nat_tests)
 
-found_in : (P : Block → Type 0) (bs : List Block) (height : ℕ) (b : Block) → AllByRecursion P bs → chain_in bs height ≡ Some b → P b × (b.height ≡ height)
+found_in : (P : ScriptBlock → Type 0) (bs : List ScriptBlock) (height : ℕ) (b : ScriptBlock) → AllByRecursion P bs → chain_in bs height ≡ Some b → P b × (b.height ≡ height)
 found_in P [] height b all is = absurd (none_there b is)
 found_in P (x ∷ bs) height b all is = by_test (x.height == height) refl is (found_in P bs height b all.1)
   where
     by_test : (t : Bool) → (x.height == height) ≡ t → cond t (Some x) (chain_in bs height) ≡ Some b → (chain_in bs height ≡ Some b → P b × (b.height ≡ height)) → P b × (b.height ≡ height)
-    by_test true test is rest = subst (λ (y : Block). P y × (y.height ≡ height)) (some_is x b is) (all.0, at_height x.height height test)
+    by_test true test is rest = subst (λ (y : ScriptBlock). P y × (y.height ≡ height)) (some_is x b is) (all.0, at_height x.height height test)
     by_test false test is rest = rest is
 
-pub in_chain : (s : Setting) (P : Block → Type 0) (height : ℕ) (b : Block) → AllByRecursion P (used s) → chain s height ≡ Some b → P b × (b.height ≡ height)
+pub in_chain : (s : Setting) (P : ScriptBlock → Type 0) (height : ℕ) (b : ScriptBlock) → AllByRecursion P (used s) → chain s height ≡ Some b → P b × (b.height ≡ height)
 in_chain s P height b all is = found_in P (used s) height b all is

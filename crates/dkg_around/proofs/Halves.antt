@@ -28,7 +28,7 @@ use Rattle.dkg_core.specs.Entering as core
 use Rattle.dkg_core.specs.Entering.{Acknowledges, Withholds, acked_at, acked_late, active, asks_again, takes_delivered, delivered_in, enters, enters_at, is_ready, leaves, starts_engine, stops_engine, tracks_peers, wait_for, waited_for}
 use Rattle.dkg_core.specs.Fixed.{Fixed}
 use Rattle.dkg_core.specs.Live.{Faulted, Live, NodeStop, Orchestrator, Waiting, with_orchestrator}
-use Rattle.dkg_core.specs.Splitting.{named}
+use Rattle.dkg_core.specs.Splitting.{fault_named}
 use Rattle.dkg_life.specs.Ends.{by_cause, cause_in}
 use Rattle.dkg_life.specs.Made.{Speaks}
 use Rattle.dkg_life.specs.declared.stop.Stop.{Stop}
@@ -36,7 +36,7 @@ use Rattle.dkg_life.specs.declared.stop.Stop.TheVariants as stop
 use Rattle.dkg_life.proofs.Under.{on_bind}
 use Rattle.dkg_lives.specs.Ended.{by_node_stop, ends_node}
 use Rattle.dkg_around.specs.Halves.{beginning_of}
-use Rattle.dkg_around.specs.Orchestrator.{HasHalf, IsSettled, MayGoOn, MayPass, ends_on, with_half}
+use Rattle.dkg_around.specs.Orchestrator.{HasOrchestratorHalf, IsSettled, MayGoOn, MayPass, ends_on, with_orchestrator_half}
 use Rattle.dkg_around.specs.declared.half.Half.{Half}
 
 apart_bools : (t : Bool) → t ≡ true → t ≡ false → ⊥
@@ -103,8 +103,8 @@ module _ {S T : Type 0} (course : Course directory.Unit NodeStop S) (next : S �
   pub early_speaks : (its : Stop) (out now : List Line) → Speaks course (by_node_stop its) out now → Speaks (bind course next) (by_node_stop its) out now
   early_speaks its out now a = λ h f. as_bound (by_node_stop its) (world_of out h f) (world_of now h f) (in_stop its (world_of out h f) (world_of now h f) (a h f))
     where
-      in_cause : (cause : Option Cause) (its : Fault) (w new : World) → Runs (on_devices course) (named {S = S} Faulted (by_cause cause its)) w new
-          → Runs (acts_of.bind (on_devices course) behind_acts) (named {S = T} Faulted (by_cause cause its)) w new
+      in_cause : (cause : Option Cause) (its : Fault) (w new : World) → Runs (on_devices course) (fault_named {S = S} Faulted (by_cause cause its)) w new
+          → Runs (acts_of.bind (on_devices course) behind_acts) (fault_named {S = T} Faulted (by_cause cause its)) w new
       in_cause (Some cause) its w new a = breaks_first behind_acts cause (on_devices course) w new a
       in_cause None its w new a = faults_first behind_acts (on_devices course) w new (Faulted its) a
 
@@ -121,7 +121,7 @@ wants_speaks {S} course its is out now same =
 
 -- ANY BLOCK, where the half waits for nothing
 
-module _ (c : Fixed directory.Unit) (b : Block directory.Unit) (st : Live directory.Unit) (half : Half) (has : HasHalf half st) where
+module _ (c : Fixed directory.Unit) (b : Block directory.Unit) (st : Live directory.Unit) (half : Half) (has : HasOrchestratorHalf half st) where
   abbrev answers : core.Half directory.Unit → Course directory.Unit NodeStop (Live directory.Unit)
   answers its = acked_at b.height its.answer its.live
 

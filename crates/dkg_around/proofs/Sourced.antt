@@ -8,11 +8,11 @@ use Rattle.dkg_infos.specs.declared.directory.Unit as directory
 use Rattle.dkg_text.specs.declared.script.Anchor as declared
 use Rattle.dkg_text.specs.declared.script.Anchor.TheVariants as anchor
 use Rattle.dkg_core.specs.Sources.{anchored, source_over}
-use Rattle.dkg_lives.specs.Given.{Lived, anchor_at, anchor_in, blocks_in, numbered, source_at, unsealed}
+use Rattle.dkg_lives.specs.Given.{Lived, anchor_of_line, anchor_in, blocks_in, numbered, source_at, unsealed}
 use Rattle.dkg_around.specs.Sources.{IsSourceOf, anchor_numbers}
 use Rattle.dkg_around.specs.declared.held.HeldBlocks.{HeldBlocks}
 
-one_anchored : (its : declared.Anchor) (o : Option (Block directory.Unit)) → anchored (option_map (anchor_at its) o) ≡ cons_option o []
+one_anchored : (its : declared.Anchor) (o : Option (Block directory.Unit)) → anchored (option_map (anchor_of_line its) o) ≡ cons_option o []
 one_anchored its None = refl
 one_anchored (anchor.Processed number) (Some b) = refl
 one_anchored (anchor.Absent number) (Some b) = refl

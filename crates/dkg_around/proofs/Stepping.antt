@@ -13,7 +13,7 @@ use Rattle.dkg_infos.specs.declared.fault.Fault.TheVariants.{NoMemory}
 use Rattle.dkg_store.specs.Acts.{Ended, Moment, Stands, at, by_cut, by_want, broken, went}
 use Rattle.dkg_core.specs.Courses.{Course, on_devices}
 use Rattle.dkg_core.specs.Live.{Faulted, Live, NodeStop}
-use Rattle.dkg_core.specs.Splitting.{named}
+use Rattle.dkg_core.specs.Splitting.{fault_named}
 use Rattle.dkg_life.specs.Ends.{by_fault}
 use Rattle.dkg_life.specs.Made.{MakesAt, Tells}
 use Rattle.dkg_life.specs.declared.stop.Stop.{Stop}
@@ -134,7 +134,7 @@ module _ {W : Type 0} (way : Way W) (g : Lived) (events : List Event) (st : Live
 -- OVER LINES
 
 -- no other fault is a cut
-fault_uncut : (its : Fault) → ◌≡◌ {A = Ended NodeStop (Live directory.Unit)} (named Faulted (by_fault its)) (broken by_cut) → ⊥
+fault_uncut : (its : Fault) → ◌≡◌ {A = Ended NodeStop (Live directory.Unit)} (fault_named Faulted (by_fault its)) (broken by_cut) → ⊥
 fault_uncut fault.NoMemory is = cc
 fault_uncut fault.Disk is = cc
 fault_uncut fault.Secrets is = cc

@@ -19,18 +19,18 @@ use Rattle.dkg_lives.specs.Given.{IsUnplanned}
 use Rattle.dkg_around.specs.declared.half.Half.{Half}
 
 -- What this half has in memory of a life. It doesn't wait.
-pub record HasHalf (half : Half) (st : Live directory.Unit) : Type 0 where
+pub record HasOrchestratorHalf (half : Half) (st : Live directory.Unit) : Type 0 where
   pub entered : st.orchestrator.entered ≡ half.entered
   pub halted : st.orchestrator.halted ≡ half.halted
   pub unawaited : st.orchestrator.waiting ≡ None
 
 -- the life with this half, and with this fence
-abbrev pub with_half : Half → Readiness → Live directory.Unit → Live directory.Unit
-with_half half fence st =
+abbrev pub with_orchestrator_half : Half → Readiness → Live directory.Unit → Live directory.Unit
+with_orchestrator_half half fence st =
     with_orchestrator (record st.orchestrator { fence = fence; entered = half.entered; halted = half.halted; waiting = None }) st
 
 abbrev pub ends_half : Readiness → Live directory.Unit → Result Half Stop → Ended NodeStop (Live directory.Unit)
-ends_half fence st (Ok half) = went (with_half half fence st)
+ends_half fence st (Ok half) = went (with_orchestrator_half half fence st)
 ends_half fence st (Err stop) = by_node_stop stop
 
 -- A Fixed that this half's opening is given: no plan is read.

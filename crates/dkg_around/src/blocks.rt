@@ -4,7 +4,7 @@ ghost use Rattle.std.specs.Int.NonZero.{non_zero_u32_get, non_zero_u64_get};
 ghost use Rattle.dkg_values.specs.Codec.{IsBytes};
 ghost use Rattle.dkg_ceremony.specs.Schedule.{epoch_of};
 ghost use Rattle.dkg_script.specs.Readings.{unit_payload};
-ghost use Rattle.dkg_lives.specs.Given.{AreBytes, block_on, blocks_in, parent_in, payload_in};
+ghost use Rattle.dkg_lives.specs.Given.{AreBytes, block_on, blocks_in, parent_digest_in, payload_in};
 
 use dkg_ceremony::{Digest, Epoch, Height, Key, Mem};
 use dkg_infos::Unit;
@@ -44,7 +44,7 @@ fn payload_of(
 
 /// The digest of the block that a line names as its parent, and zeros where it names none.
 fn parent_digest(line: &BlockLine, before: &[Block<Unit>]) -> Digest
-    ensures { result ≡ parent_in before.now line.now.parent }
+    ensures { result ≡ parent_digest_in before.now line.now.parent }
 {
     match line.parent {
         None => Digest([0; 32]),

@@ -14,7 +14,7 @@ use Rattle.dkg_types.specs.Paths.{log_counts, logs_from, logs_of_path, log_of_bl
 use Rattle.dkg_types.specs.PayloadCodes.{its_log}
 use Rattle.dkg_artifact.specs.declared.scan.Tip.{Tip}
 use Rattle.dkg_artifact.specs.Found.{with_log}
-use Rattle.dkg_artifact.specs.Scans.{Check, lowest, is_counted, counted, added, is_above, above}
+use Rattle.dkg_artifact.specs.Scans.{Check, lowest, is_counted, counted_log, added, is_above_tip, above}
 
 -- THE LAST NEEDED HEIGHT
 
@@ -26,12 +26,12 @@ tip_first : (middle : ℕ) (t : Tip) → t.height < lowest middle (Some t)
 tip_first middle t = elim (cases_lt t.height middle) [ inl lt ↦ rw (lt-ltb t.height middle lt) lt | inr ge ↦ rw (le-ltb t.height middle ge) (omega arith) ]
 
 module _ {Dir : Type 0} where
-  needed_above : (middle : ℕ) (tip : Option Tip) (b : Block Dir) → lowest middle tip ≤ b.height → is_above tip b ≡ true
+  needed_above : (middle : ℕ) (tip : Option Tip) (b : Block Dir) → lowest middle tip ≤ b.height → is_above_tip tip b ≡ true
   needed_above middle None b le = refl
   needed_above middle (Some t) b le = lt-ltb t.height b.height (omega (arith, tip_first middle t))
 
   -- a block above the tip that isn't needed is below the midpoint
-  unneeded : (middle : ℕ) (tip : Option Tip) (b : Block Dir) → b.height < lowest middle tip → is_above tip b ≡ true → b.height < middle
+  unneeded : (middle : ℕ) (tip : Option Tip) (b : Block Dir) → b.height < lowest middle tip → is_above_tip tip b ≡ true → b.height < middle
   unneeded middle None b lt is = lt
   unneeded middle (Some t) b lt is = elim (cases_lt t.height middle) [
     | inl early ↦ let e : lowest middle (Some t) ≡ middle = rw (lt-ltb t.height middle early) refl in omega arith
@@ -76,7 +76,7 @@ module _ (check : Check) (middle last : ℕ) (round : Round) where
   adds_none height None found none = refl
   adds_none height (Some s) found none = rw (none s) refl
 
-  adds_log : (height : ℕ) (log : Option SignedDealerLog) (found : LogMap) → middle ≤ height → height < last → adds height log found ≡ with_log (counted check round log) found
+  adds_log : (height : ℕ) (log : Option SignedDealerLog) (found : LogMap) → middle ≤ height → height < last → adds height log found ≡ with_log (counted_log check round log) found
   unfolding adds
   adds_log height None found ge lt = refl
   adds_log height (Some s) found ge lt = rw (within (height, s) ge lt) (elim (is_counted check round s) as (λ (b : Bool). cond b (with_pair (s.dealer, s.log) found) found ≡ with_log (cond b (Some (s.dealer, s.log)) None) found) [ true ↦ refl | false ↦ refl ])
@@ -90,9 +90,9 @@ module _ (check : Check) (middle last : ℕ) (round : Round) where
     ]
 
     -- a block that adds nothing
-    same_path : (tip : Option Tip) (b : Block Dir) (path : List (Block Dir)) → (is_above tip b ≡ true → (s : SignedDealerLog) → log_counts check middle last round (b.height, s) ≡ false)
+    same_path : (tip : Option Tip) (b : Block Dir) (path : List (Block Dir)) → (is_above_tip tip b ≡ true → (s : SignedDealerLog) → log_counts check middle last round (b.height, s) ≡ false)
         → logs_of_path check middle last round (above tip (b ∷ path)) ≡ logs_of_path check middle last round (above tip path)
-    same_path tip b path none = elim (is_above tip b) as (λ (v : Bool). is_above tip b ≡ v → logs_of_path check middle last round (cond v (b ∷ above tip path) (above tip path)) ≡ logs_of_path check middle last round (above tip path)) [
+    same_path tip b path none = elim (is_above_tip tip b) as (λ (v : Bool). is_above_tip tip b ≡ v → logs_of_path check middle last round (cond v (b ∷ above tip path) (above tip path)) ≡ logs_of_path check middle last round (above tip path)) [
       | true ↦ λ is. path_more b (above tip path) ∙ adds_none b.height (option_and_then its_log b.payload) (logs_of_path check middle last round (above tip path)) (none is)
       | false ↦ λ is. refl
     ] refl

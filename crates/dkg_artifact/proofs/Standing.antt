@@ -21,8 +21,8 @@ use Rattle.dkg_artifact.specs.declared.scan.Stand.{Stand}
 use Rattle.dkg_artifact.specs.declared.scan.Stand.TheVariants.{Final, Between, Lowest, Refused}
 use Rattle.dkg_artifact.specs.declared.scan.Tip.{Tip}
 use Rattle.dkg_artifact.specs.Found.{with_log}
-use Rattle.dkg_artifact.specs.Scans.{Check, lowest, tip_below, first_next, is_final, is_other, link_of, stand_of, added, with_lower, answers, feeds, above}
-use Rattle.dkg_artifact.specs.Ancestries.{IsLinked, BeginsBelow, IsUnderWay, awaited, named, IsNamed, StandsAtPath, IsNext, CompletesPath, IsLogs, SaysOfBlock, Says, SaysOfPath}
+use Rattle.dkg_artifact.specs.Scans.{Check, lowest, tip_below, first_next, is_final, names_another, link_of, stand_of, added, with_lower, answers_block, feeds, above}
+use Rattle.dkg_artifact.specs.Ancestries.{IsLinked, BeginsBelow, IsUnderWay, awaited, named_on_path, IsNamed, StandsAtPath, IsNextOnPath, CompletesPath, IsLogs, SaysOfBlock, Says, SaysOfPath}
 use Rattle.dkg_artifact.proofs.ScanLaws.{from_none, lower_path, final_path}
 
 -- WHAT A TEST SAYS
@@ -47,11 +47,11 @@ is_nothing : {A : Type 0} (o : Option A) → is_none o ≡ true → o ≡ None
 is_nothing None e = refl
 is_nothing (Some a) e = absurd (cc)
 
-is_the_same : (named : Option (List ℕ)) (digest : List ℕ) → is_other named digest ≡ false → IfSome named (λ d. d ≡ digest)
+is_the_same : (named_on_path : Option (List ℕ)) (digest : List ℕ) → names_another named_on_path digest ≡ false → IfSome named_on_path (λ d. d ≡ digest)
 is_the_same None digest e = tt
 is_the_same (Some d) digest e = (bytes_eq-Decides d digest).0 (was_true (bytes_eq d digest) e)
 
-is_another : (named : Option (List ℕ)) (digest : List ℕ) → is_other named digest ≡ true → IfSome named (λ d. d ≡ digest) → ⊥
+is_another : (named_on_path : Option (List ℕ)) (digest : List ℕ) → names_another named_on_path digest ≡ true → IfSome named_on_path (λ d. d ≡ digest) → ⊥
 is_another None digest e same = absurd (cc)
 is_another (Some d) digest e same = let equal : bytes_eq d digest ≡ true = (bytes_eq-Decides d digest).1 same in absurd (cc)
 
@@ -60,8 +60,8 @@ is_another (Some d) digest e same = let equal : bytes_eq d digest ≡ true = (by
 -- why a block is refused, by the scan's own tests
 abbrev Refused_as : {Dir : Type 0} → Scan → Next → Block Dir → Why → Type 0
 Refused_as s n b (WrongHeight wanted got) = (wanted ≡ n.height) × (got ≡ b.height) × (got ≢ wanted) × (n.digest ≡ None → b.height ≢ s.last)
-Refused_as s n b (Unlinked height) = (height ≡ b.height) × (b.height ≡ n.height) × (is_other n.digest b.digest ≡ true)
-Refused_as s n b (Detached height) = (height ≡ b.height) × (b.height ≡ n.height) × (is_other n.digest b.digest ≡ false) × (b.height ≤ s.down_to) × (is_other s.below (link_of s.down_to b) ≡ true)
+Refused_as s n b (Unlinked height) = (height ≡ b.height) × (b.height ≡ n.height) × (names_another n.digest b.digest ≡ true)
+Refused_as s n b (Detached height) = (height ≡ b.height) × (b.height ≡ n.height) × (names_another n.digest b.digest ≡ false) × (b.height ≤ s.down_to) × (names_another s.below (link_of s.down_to b) ≡ true)
 Refused_as s n b Short = ⊥
 Refused_as s n b Following = ⊥
 Refused_as s n b Terminal = ⊥
@@ -70,8 +70,8 @@ Refused_as s n b Held = ⊥
 
 abbrev Stood : {Dir : Type 0} → Scan → Next → Block Dir → Stand → Type 0
 Stood s n b Final = (n.digest ≡ None) × (b.height ≡ s.last)
-Stood s n b Between = (b.height ≡ n.height) × (is_other n.digest b.digest ≡ false) × (s.down_to < b.height)
-Stood s n b Lowest = (b.height ≡ n.height) × (is_other n.digest b.digest ≡ false) × (b.height ≤ s.down_to) × (is_other s.below (link_of s.down_to b) ≡ false)
+Stood s n b Between = (b.height ≡ n.height) × (names_another n.digest b.digest ≡ false) × (s.down_to < b.height)
+Stood s n b Lowest = (b.height ≡ n.height) × (names_another n.digest b.digest ≡ false) × (b.height ≤ s.down_to) × (names_another s.below (link_of s.down_to b) ≡ false)
 Stood s n b (Refused why) = Refused_as s n b why
 
 other_height : (a b : ℕ) → not (a == b) ≡ true → a ≢ b
@@ -83,9 +83,9 @@ other_last false final e is = absurd (cc)
 
 stood : {Dir : Type 0} (s : Scan) (n : Next) (b : Block Dir) → Stood s n b (stand_of s n b)
 stood s n b =
-    let lowest_or = cond (is_other s.below (link_of s.down_to b)) (Refused (Detached b.height)) Lowest in
+    let lowest_or = cond (names_another s.below (link_of s.down_to b)) (Refused (Detached b.height)) Lowest in
     let between_or = cond (nat_lt s.down_to b.height) Between lowest_or in
-    let linked_or = cond (is_other n.digest b.digest) (Refused (Unlinked b.height)) between_or in
+    let linked_or = cond (names_another n.digest b.digest) (Refused (Unlinked b.height)) between_or in
     let at_or = cond (not (b.height == n.height)) (Refused (WrongHeight n.height b.height)) linked_or in
     let P : Stand → Type 0 = Stood s n b in
     either P (is_final s n b) Final at_or (λ e. (is_nothing n.digest (first (is_none n.digest) (b.height == s.last) e), eqb-true b.height s.last (second (is_none n.digest) (b.height == s.last) e))) (λ not_final.
@@ -100,15 +100,15 @@ stood s n b =
           absurd (cc),
     )) (λ e.
     let same : b.height ≡ n.height = eqb-true b.height n.height (was_true (b.height == n.height) e) in
-    either P (is_other n.digest b.digest) (Refused (Unlinked b.height)) between_or (λ other. (refl, same, other)) (λ linked.
+    either P (names_another n.digest b.digest) (Refused (Unlinked b.height)) between_or (λ other. (refl, same, other)) (λ linked.
     either P (nat_lt s.down_to b.height) Between lowest_or (λ higher. (same, linked, grind (arith, nat_tests))) (λ not_higher.
     let low : b.height ≤ s.down_to = grind (arith, nat_tests) in
-    either P (is_other s.below (link_of s.down_to b)) (Refused (Detached b.height)) Lowest (λ off. (refl, same, linked, low, off)) (λ on. (same, linked, low, on))))))
+    either P (names_another s.below (link_of s.down_to b)) (Refused (Detached b.height)) Lowest (λ off. (refl, same, linked, low, off)) (λ on. (same, linked, low, on))))))
 
 -- ONE BLOCK MORE
 
 module _ {Dir : Type 0} (bounds : Bounds) (tip : Option Tip) (some : 0 < bounds.last) where
-  no_path : (path : List (Block Dir)) → named path ≡ None → path ≡ []
+  no_path : (path : List (Block Dir)) → named_on_path path ≡ None → path ≡ []
   no_path [] e = refl
   no_path (c ∷ path) e = absurd (cc)
 
@@ -121,22 +121,22 @@ module _ {Dir : Type 0} (bounds : Bounds) (tip : Option Tip) (some : 0 < bounds.
   awaited_below [] linked begins = omega (arith, some)
   awaited_below (c ∷ path) linked begins = let le = under_final c path linked begins in omega (arith, some)
 
-  links : (b : Block Dir) (path : List (Block Dir)) → IsUnderWay bounds tip path → IsNext bounds.last path b → IsLinked (b ∷ path)
+  links : (b : Block Dir) (path : List (Block Dir)) → IsUnderWay bounds tip path → IsNextOnPath bounds.last path b → IsLinked (b ∷ path)
   links b [] under next = tt
   links b (c ∷ path) under next =
       let at : b.height ≡ c.height - 1 = next.0 in
       let more : 0 < c.height = elim under.higher.0 [ inl lt ↦ omega arith | inr e ↦ omega (arith, some) ] in
       (omega arith, next.1, under.linked)
 
-  begins_at : (b : Block Dir) (path : List (Block Dir)) → IsUnderWay bounds tip path → IsNext bounds.last path b → BeginsBelow bounds.last (b ∷ path)
+  begins_at : (b : Block Dir) (path : List (Block Dir)) → IsUnderWay bounds tip path → IsNextOnPath bounds.last path b → BeginsBelow bounds.last (b ∷ path)
   begins_at b [] under next = inr (let at : b.height ≡ bounds.last - 1 = next.0 in omega (arith, some))
   begins_at b (c ∷ path) under next = under.begins
 
-  final_way : (b : Block Dir) (path : List (Block Dir)) → named path ≡ None → b.height ≡ bounds.last → IsUnderWay bounds tip (b ∷ path)
+  final_way : (b : Block Dir) (path : List (Block Dir)) → named_on_path path ≡ None → b.height ≡ bounds.last → IsUnderWay bounds tip (b ∷ path)
   final_way b [] none at = record { linked = tt; begins = inl at; higher = (inr at, tt) }
   final_way b (c ∷ path) none at = absurd (cc)
 
-  between_way : (b : Block Dir) (path : List (Block Dir)) → IsUnderWay bounds tip path → IsNext bounds.last path b → lowest bounds.midpoint tip < b.height → IsUnderWay bounds tip (b ∷ path)
+  between_way : (b : Block Dir) (path : List (Block Dir)) → IsUnderWay bounds tip path → IsNextOnPath bounds.last path b → lowest bounds.midpoint tip < b.height → IsUnderWay bounds tip (b ∷ path)
   between_way b path under next higher = record { linked = links b path under next; begins = begins_at b path under next; higher = (inl higher, under.higher) }
 
 module _ {Dir : Type 0} (check : Check) (round : Round) (bounds : Bounds) (tip : Option Tip) where
@@ -155,7 +155,7 @@ module _ {Dir : Type 0} (check : Check) (round : Round) (bounds : Bounds) (tip :
 
   module _ (path : List (Block Dir)) (s : Scan) (b : Block Dir) (known : StandsAtPath check round bounds tip path s) where
     abbrev next : Next
-    next = record { height = awaited bounds.last path; digest = named path }
+    next = record { height = awaited bounds.last path; digest = named_on_path path }
 
     lower_logs : b.height < bounds.last → with_lower check s b ≡ logs_of_path check bounds.midpoint bounds.last round (above tip (b ∷ path))
     lower_logs lt =
@@ -167,15 +167,15 @@ module _ {Dir : Type 0} (check : Check) (round : Round) (bounds : Bounds) (tip :
     below_final : b.height ≡ awaited bounds.last path → b.height < bounds.last
     below_final at = let lt = awaited_below bounds tip known.some path known.under_way.linked known.under_way.begins in omega arith
 
-    is_next : b.height ≡ awaited bounds.last path → is_other (named path) b.digest ≡ false → IsNext bounds.last path b
-    is_next at linked = (at, is_the_same (named path) b.digest linked)
+    is_next : b.height ≡ awaited bounds.last path → names_another (named_on_path path) b.digest ≡ false → IsNextOnPath bounds.last path b
+    is_next at linked = (at, is_the_same (named_on_path path) b.digest linked)
 
     -- whether a digest is another than the tip's, where one is asked
-    tip_test : (v : Bool) → is_other s.below (link_of s.down_to b) ≡ v → is_other (tip_below bounds.midpoint tip) (link_of (lowest bounds.midpoint tip) b) ≡ v
+    tip_test : (v : Bool) → names_another s.below (link_of s.down_to b) ≡ v → names_another (tip_below bounds.midpoint tip) (link_of (lowest bounds.midpoint tip) b) ≡ v
     tip_test v e =
-        sym (ap (λ (d : Option (List ℕ)). is_other d (link_of s.down_to b)) known.its_below ∙ ap (λ (d : ℕ). is_other (tip_below bounds.midpoint tip) (link_of d b)) known.its_lowest) ∙ e
+        sym (ap (λ (d : Option (List ℕ)). names_another d (link_of s.down_to b)) known.its_below ∙ ap (λ (d : ℕ). names_another (tip_below bounds.midpoint tip) (link_of d b)) known.its_lowest) ∙ e
 
-    says_of : (stand : Stand) → Stood s next b stand → Says check round bounds tip path b (answers check s b stand).0 (answers check s b stand).1
+    says_of : (stand : Stand) → Stood s next b stand → Says check round bounds tip path b (answers_block check s b stand).0 (answers_block check s b stand).1
     says_of Final at =
         let height : b.height ≡ bounds.last = at.1 ∙ known.its_last in
         let way = final_way bounds tip known.some b path at.0 height in
@@ -222,8 +222,8 @@ module _ {Dir : Type 0} (check : Check) (round : Round) (bounds : Bounds) (tip :
           );
           goes_on = λ e. absurd (cc);
         }
-    says_of (Refused (WrongHeight wanted got)) at = record { answers = (at.0, at.1, at.2, λ none e. at.3 (ap named none) (sym at.1 ∙ e ∙ sym known.its_last)); goes_on = λ e. absurd (cc) }
-    says_of (Refused (Unlinked height)) at = record { answers = (at.0, at.0 ∙ at.1, is_another (named path) b.digest at.2); goes_on = λ e. absurd (cc) }
+    says_of (Refused (WrongHeight wanted got)) at = record { answers = (at.0, at.1, at.2, λ none e. at.3 (ap named_on_path none) (sym at.1 ∙ e ∙ sym known.its_last)); goes_on = λ e. absurd (cc) }
+    says_of (Refused (Unlinked height)) at = record { answers = (at.0, at.0 ∙ at.1, is_another (named_on_path path) b.digest at.2); goes_on = λ e. absurd (cc) }
     says_of (Refused (Detached height)) at = record {
       answers = (
         at.0,
@@ -241,7 +241,7 @@ module _ {Dir : Type 0} (check : Check) (round : Round) (bounds : Bounds) (tip :
 
     pub feed_says : Says check round bounds tip path b (feeds check s b).0 (feeds check s b).1
     feed_says =
-        let fed : feeds check s b ≡ answers check s b (stand_of s next b) = ap (λ (o : Option Next). option_map_or (λ m. answers check s b (stand_of s m b)) o (Unavailable Short, s)) known.its_next in
+        let fed : feeds check s b ≡ answers_block check s b (stand_of s next b) = ap (λ (o : Option Next). option_map_or (λ m. answers_block check s b (stand_of s m b)) o (Unavailable Short, s)) known.its_next in
         subst (λ (p : Fed × Scan). Says check round bounds tip path b p.0 p.1) (sym fed) (says_of (stand_of s next b) (stood s next b))
 
 pub says_of_path : {Dir : Type 0} (check : Check) (s : Scan) (b : Block Dir) (result : Result Fed NoMemory) (after : Scan) → IfOk result (λ fed. (fed, after) ≡ feeds check s b)

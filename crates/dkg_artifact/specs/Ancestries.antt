@@ -43,13 +43,13 @@ awaited last [] = last - 1
 awaited last (b ∷ path) = b.height - 1
 
 -- the digest that the block read last names
-abbrev pub named : {Dir : Type 0} → (path : List (Block Dir)) → Option (List ℕ)
-named [] = None
-named (b ∷ path) = Some b.parent
+abbrev pub named_on_path : {Dir : Type 0} → (path : List (Block Dir)) → Option (List ℕ)
+named_on_path [] = None
+named_on_path (b ∷ path) = Some b.parent
 
 -- the block above, if one was read, names this one
 abbrev pub IsNamed : {Dir : Type 0} → Block Dir → (path : List (Block Dir)) → Type 0
-IsNamed b path = IfSome (named path) (λ digest. digest ≡ b.digest)
+IsNamed b path = IfSome (named_on_path path) (λ digest. digest ≡ b.digest)
 
 -- Where the tip's successor is the last needed height, the lowest link is the tip: the block itself, where nothing above the tip is needed, or
 -- else its parent.
@@ -66,12 +66,12 @@ pub record StandsAtPath {Dir : Type 0} (check : Check) (round : Round) (bounds :
   pub its_last : s.last ≡ bounds.last
   pub its_lowest : s.down_to ≡ lowest bounds.midpoint tip
   pub its_below : s.below ≡ tip_below bounds.midpoint tip
-  pub its_next : s.next ≡ Some (record { height = awaited bounds.last path; digest = named path })
+  pub its_next : s.next ≡ Some (record { height = awaited bounds.last path; digest = named_on_path path })
   pub its_logs : s.found ≡ logs_of_path check bounds.midpoint bounds.last round (above tip path)
 
 -- the awaited block, which the one above names
-abbrev pub IsNext : {Dir : Type 0} → (last : ℕ) → (path : List (Block Dir)) → Block Dir → Type 0
-IsNext last path b = (b.height ≡ awaited last path) × IsNamed b path
+abbrev pub IsNextOnPath : {Dir : Type 0} → (last : ℕ) → (path : List (Block Dir)) → Block Dir → Type 0
+IsNextOnPath last path b = (b.height ≡ awaited last path) × IsNamed b path
 
 -- Why a block is refused behind a path. No cause but these is told.
 abbrev pub Refuses : {Dir : Type 0} → Bounds → Option Tip → (path : List (Block Dir)) → Block Dir → Why → Type 0
@@ -79,7 +79,7 @@ Refuses bounds tip path b (WrongHeight wanted got) =
     (wanted ≡ awaited bounds.last path) × (got ≡ b.height) × (got ≢ wanted) × (path ≡ [] → got ≢ bounds.last)
 Refuses bounds tip path b (Unlinked height) = (height ≡ b.height) × (height ≡ awaited bounds.last path) × (IsNamed b path → ⊥)
 Refuses bounds tip path b (Detached height) =
-    (height ≡ b.height) × IsNext bounds.last path b × (height ≤ lowest bounds.midpoint tip) × (IsOnTip bounds.midpoint tip b → ⊥)
+    (height ≡ b.height) × IsNextOnPath bounds.last path b × (height ≤ lowest bounds.midpoint tip) × (IsOnTip bounds.midpoint tip b → ⊥)
 Refuses bounds tip path b Short = ⊥
 Refuses bounds tip path b Following = ⊥
 Refuses bounds tip path b Terminal = ⊥

@@ -26,8 +26,8 @@ pub record IsResult (outcome_of : Round → LogMap → Option Output) (share_pub
 
 -- WHAT IS VERIFIED
 
-abbrev pub observed : Output → Verified
-observed output = record { output = output; share = None }
+abbrev pub observed_output : Output → Verified
+observed_output output = record { output = output; share = None }
 
 abbrev pub finished : Output × ℕ → Verified
 finished found = record { output = found.0; share = Some found.1 }
@@ -40,7 +40,7 @@ finished_by (Err e) = None
 -- The outcome that all see, or what a player finishes with.
 abbrev pub result_of : (Round → LogMap → Option Output)
     → (Round → ℕ → DealingMap → LogMap → Result (Option (Output × ℕ)) FinishError) → Round → Option Dealings → LogMap → Option Verified
-result_of outcome_of finish_of round None logs = option_map observed (outcome_of round logs)
+result_of outcome_of finish_of round None logs = option_map observed_output (outcome_of round logs)
 result_of outcome_of finish_of round (Some player) logs = finished_by (finish_of round player.me player.dealings logs)
 
 abbrev pub checked : (Round → LogMap → Option Output)

@@ -54,8 +54,8 @@ abbrev pub is_final : {Dir : Type 0} → Scan → Next → Block Dir → Bool
 is_final s n b = is_none n.digest && (b.height == s.last)
 
 -- a digest is named, and another than this
-abbrev pub is_other : Option (List ℕ) → List ℕ → Bool
-is_other named digest = option_map_or (λ d. not (bytes_eq d digest)) named false
+abbrev pub names_another : Option (List ℕ) → List ℕ → Bool
+names_another named digest = option_map_or (λ d. not (bytes_eq d digest)) named false
 
 -- the digest that the tip has to have: the block's own, where the block is the final one's parent and nothing above the tip is needed
 abbrev pub link_of : {Dir : Type 0} → (down_to : ℕ) → Block Dir → List ℕ
@@ -65,9 +65,9 @@ abbrev pub stand_of : {Dir : Type 0} → Scan → Next → Block Dir → Stand
 stand_of s n b =
     if is_final s n b then Final
     else (if not (b.height == n.height) then Refused (WrongHeight n.height b.height)
-    else (if is_other n.digest b.digest then Refused (Unlinked b.height)
+    else (if names_another n.digest b.digest then Refused (Unlinked b.height)
     else (if nat_lt s.down_to b.height then Between
-    else (if is_other s.below (link_of s.down_to b) then Refused (Detached b.height)
+    else (if names_another s.below (link_of s.down_to b) then Refused (Detached b.height)
     else Lowest))))
 
 -- WHAT A SCAN ANSWERS
@@ -81,12 +81,12 @@ abbrev pub is_counted : Check → Round → SignedDealerLog → Bool
 is_counted check round s = is_some (place_of s.dealer round.dealers) && check round s
 
 -- a log that counts, with its dealer
-abbrev pub counted : Check → Round → Option SignedDealerLog → Option (ℕ × DealerLog)
-counted check round log = option_and_then (λ s. if is_counted check round s then Some (s.dealer, s.log) else None) log
+abbrev pub counted_log : Check → Round → Option SignedDealerLog → Option (ℕ × DealerLog)
+counted_log check round log = option_and_then (λ s. if is_counted check round s then Some (s.dealer, s.log) else None) log
 
 -- The log that a block adds to those found: a block below the last needed height adds none.
 abbrev pub added : {Dir : Type 0} → Check → Round → (down_to : ℕ) → Block Dir → Option (ℕ × DealerLog)
-added check round down_to b = if nat_lt b.height down_to then None else counted check round (option_and_then its_log b.payload)
+added check round down_to b = if nat_lt b.height down_to then None else counted_log check round (option_and_then its_log b.payload)
 
 abbrev pub with_lower : {Dir : Type 0} → Check → Scan → Block Dir → LogMap
 with_lower check s b = with_log (added check s.round s.down_to b) s.found
@@ -99,24 +99,24 @@ passes s b found = record s { next = Some (record { height = b.height - 1; diges
 abbrev pub closes : Scan → Scan
 closes s = record s { next = None; found = [] }
 
-abbrev pub answers : {Dir : Type 0} → Check → Scan → Block Dir → Stand → Fed × Scan
-answers check s b Final = (Need, passes s b s.found)
-answers check s b Between = (Need, passes s b (with_lower check s b))
-answers check s b Lowest = (Logs (with_lower check s b), closes s)
-answers check s b (Refused why) = (Unavailable why, closes s)
+abbrev pub answers_block : {Dir : Type 0} → Check → Scan → Block Dir → Stand → Fed × Scan
+answers_block check s b Final = (Need, passes s b s.found)
+answers_block check s b Between = (Need, passes s b (with_lower check s b))
+answers_block check s b Lowest = (Logs (with_lower check s b), closes s)
+answers_block check s b (Refused why) = (Unavailable why, closes s)
 
 -- What a scan answers to a block, and where it stands then. To one that has answered the ancestry has ended.
 abbrev pub feeds : {Dir : Type 0} → Check → Scan → Block Dir → Fed × Scan
-feeds check s b = option_map_or (λ n. answers check s b (stand_of s n b)) s.next (Unavailable Short, s)
+feeds check s b = option_map_or (λ n. answers_block check s b (stand_of s n b)) s.next (Unavailable Short, s)
 
 -- A PATH ABOVE A TIP
 
 -- the blocks above a tip
-abbrev pub is_above : {Dir : Type 0} → Option Tip → Block Dir → Bool
-is_above tip b = option_map_or (λ t. nat_lt t.height b.height) tip true
+abbrev pub is_above_tip : {Dir : Type 0} → Option Tip → Block Dir → Bool
+is_above_tip tip b = option_map_or (λ t. nat_lt t.height b.height) tip true
 
 abbrev pub above : {Dir : Type 0} → Option Tip → List (Block Dir) → List (Block Dir)
-above tip = filter (is_above tip)
+above tip = filter (is_above_tip tip)
 
 -- WHETHER A SCAN AWAITS A BLOCK
 

@@ -8,7 +8,7 @@ ghost use Rattle.std.specs.Prelude.{◌≡◌, ◌+◌, ◌^◌, ◌<◌, ◌++�
 ghost use Rattle.std.specs.BTreeMap.{IsOrdered, get, insert_entry, values};
 ghost use Rattle.std.specs.Ordering.{nat_cmp};
 ghost use Rattle.dkg_artifact.specs.Requested.{ended_for, fed_for, is_other};
-ghost use Rattle.dkg_artifact.specs.Places.{AreKnown, IsAbove, IsBelow, IsNext, changed_at, KeepsNumbers};
+ghost use Rattle.dkg_artifact.specs.Places.{AreKnown, IsAbove, IsBelow, IsNextPlace, changed_at, KeepsNumbers};
 
 use dkg_ceremony::Mem;
 use dkg_infos::Directory;
@@ -45,7 +45,7 @@ pub struct Request<Dir: Directory> {
 }
 
 impl<Dir: Directory> Model for Request<Dir> {
-    ghost use Rattle.dkg_artifact.specs.Requested.{Request as Seen};
+    ghost use Rattle.dkg_artifact.specs.Requested.{WaitingRequest as Seen};
 
     ghost Value = { Seen Dir };
 
@@ -112,7 +112,7 @@ pub struct Requests<Dir: Directory> {
 impl<Dir: Directory> Model for Requests<Dir> {
     ghost use Rattle.std.specs.Prelude.{List, reverse};
     ghost use Rattle.std.specs.BTreeMap.{values};
-    ghost use Rattle.dkg_artifact.specs.Requested.{Request as Seen};
+    ghost use Rattle.dkg_artifact.specs.Requested.{WaitingRequest as Seen};
     ghost use Rattle.dkg_artifact.specs.Places.{AreKnown};
 
     ghost Value = { List (Seen Dir) };
@@ -174,7 +174,7 @@ fn put<Dir: Directory + Drop>(
 
 /// The first place at which a request of a number waits.
 fn first_of(numbers: &BTreeSet<(Reverse<u64>, u64)>, number: u64) -> Option<u64>
-    ensures { IsNext numbers.now number 0 result }
+    ensures { IsNextPlace numbers.now number 0 result }
 {
     match numbers.range((Reverse(number), 0)..).next() {
         Some(pair) if pair.0.0 == number => Some(pair.1),
@@ -184,7 +184,7 @@ fn first_of(numbers: &BTreeSet<(Reverse<u64>, u64)>, number: u64) -> Option<u64>
 
 /// .. behind a place
 fn next_of(numbers: &BTreeSet<(Reverse<u64>, u64)>, number: u64, place: u64) -> Option<u64>
-    ensures next { IsNext numbers.now number (place + 1) result }
+    ensures next { IsNextPlace numbers.now number (place + 1) result }
     ensures fits { place < 2 ^ 64 }
 {
     let from = Bound::Excluded((Reverse(number), place));

@@ -5,7 +5,7 @@ ghost use Rattle.std.specs.Prelude.{◌≡◌, ◌↔◌, ◌+◌, ◌<◌, ◌^
 ghost use Rattle.std.specs.Option.{option_copied};
 ghost use Rattle.dkg_types.specs.PayloadCodes.{its_log};
 ghost use Rattle.dkg_artifact.specs.Ancestries.{SaysOfPath, StandsAtPath};
-ghost use Rattle.dkg_artifact.specs.Scans.{IsAwaiting, added, closes, counted, feeds, first_answer, first_next, is_other, link_of, lowest, passes, stand_of, starts, tip_below, with_lower};
+ghost use Rattle.dkg_artifact.specs.Scans.{IsAwaiting, added, closes, counted_log, feeds, first_answer, first_next, names_another, link_of, lowest, passes, stand_of, starts, tip_below, with_lower};
 
 use crate::lowest::Lowest;
 use dkg_ceremony::{Bounds, Ceremony, DealerLog, Round, SignedDealerLog};
@@ -127,7 +127,7 @@ fn first_of(last: Height) -> Option<Next>
 
 /// Whether a digest is named, and another than this.
 fn is_other(named: Option<Digest>, digest: Digest) -> bool
-    ensures { result ≡ is_other named digest }
+    ensures { result ≡ names_another named digest }
 {
     match named {
         Some(named) => named != digest,
@@ -163,7 +163,7 @@ fn counted_log<C: Ceremony, Dir: Directory>(
     round: &Round,
     block: &Block<Dir>,
 ) -> Mem<Option<(Key, DealerLog)>>
-    ensures { IfOk result (λ log. log ≡ counted C.check_log_of round.now (option_and_then its_log block.now.payload)) }
+    ensures { IfOk result (λ log. log ≡ counted_log C.check_log_of round.now (option_and_then its_log block.now.payload)) }
 {
     let Some(signed) = log_in(block) else {
         return Ok(None);

@@ -1,7 +1,7 @@
 //! The outcome of a round's logs, as one node sees it: the output, and for a player its share.
 ghost use Rattle.std.specs.Prelude.{◌≡◌, ◌↔◌, ℕ, IfOk, IfSome, IsOk, IsTrue, Contains, Ok, Some, None, option_map};
 ghost use Rattle.dkg_values.specs.Rising.{lookup};
-ghost use Rattle.dkg_artifact.specs.Results.{IsResult, checked, finished_by, observed, result_of};
+ghost use Rattle.dkg_artifact.specs.Results.{IsResult, checked, finished_by, observed_output, result_of};
 
 use crate::job::Dealings;
 use dkg_ceremony::{Ceremony, DealerLog, FinishError, Output, Round, Share, finishes_agree};
@@ -55,7 +55,7 @@ fn observe_logs<C: Ceremony>(
     round: &Round,
     logs: &Map<DealerLog>,
 ) -> Mem<Option<Verified>>
-    ensures { IfOk result (λ r. r ≡ option_map observed (C.outcome_of round.now logs.now)) }
+    ensures { IfOk result (λ r. r ≡ option_map observed_output (C.outcome_of round.now logs.now)) }
 {
     match ceremony.observe(alloc, round, logs)? {
         None => Ok(None),

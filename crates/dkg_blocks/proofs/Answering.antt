@@ -8,7 +8,7 @@ use Rattle.dkg_infos.specs.declared.entry.Entry.{Entry as Line}
 use Rattle.dkg_infos.specs.declared.entry.Why.TheVariants.{Finished}
 use Rattle.dkg_infos.specs.declared.fault.Fault.{Fault}
 use Rattle.dkg_infos.specs.declared.fault.Fault.TheVariants.{NoMemory}
-use Rattle.dkg_artifact.specs.Requested.{Request}
+use Rattle.dkg_artifact.specs.Requested.{WaitingRequest}
 use Rattle.dkg_store.specs.Acts as acts_of
 use Rattle.dkg_store.specs.Acts.{Breaks, Ended, Held, Runs, World, broken, by_want, stopped, went}
 use Rattle.dkg_store.proofs.Acts.{breaks_none}
@@ -18,7 +18,7 @@ use Rattle.dkg_core.specs.Including as including
 use Rattle.dkg_core.specs.Live as core
 use Rattle.dkg_core.specs.Live.{Live, GaveNone, with_told}
 use Rattle.dkg_life.specs.Ends.{by_stop}
-use Rattle.dkg_verifying.specs.InclusionOf.{IsSeen, in_front, request_of}
+use Rattle.dkg_verifying.specs.InclusionOf.{IsSeen, in_front, waiting_request_of}
 use Rattle.dkg_life.specs.LiveOf.{Beside, EndsWith, live_of}
 use Rattle.dkg_life.specs.Made.{Speaks}
 use Rattle.dkg_verifying.specs.declared.inclusion.Hand.{Hand}
@@ -69,41 +69,41 @@ with_its beside fence life i = live_of (record beside { inclusion = i }) fence l
 module _ {C Dir Signer Cfg : Type 0} (beside : Beside Dir) (fence : Readiness) (life : Life Dir) where
   pub record IsLeft (its : Inclusion C Dir Signer Cfg) (out told : List Line) : Type 0 where
     pub now : core.Inclusion Dir
-    pub seen : IsSeen its (record now { queue = map request_of its.requests })
-    pub on : (how : Ended Fault (Live Dir)) (last : List Line) → Speaks (blocks.answers_all (map request_of its.requests) (with_its beside fence life now)) how told last
+    pub seen : IsSeen its (record now { queue = map waiting_request_of its.requests })
+    pub on : (how : Ended Fault (Live Dir)) (last : List Line) → Speaks (blocks.answers_all (map waiting_request_of its.requests) (with_its beside fence life now)) how told last
         → Speaks (blocks.answers_all beside.inclusion.queue (live_of beside fence life)) how out last
 
   -- all of them
   pub all_left : (its : Inclusion C Dir Signer Cfg) → its.hand ≡ None → IsSeen its beside.inclusion → (out : List Line) → IsLeft its out out
   all_left its none seen out =
-      let queue : beside.inclusion.queue ≡ map request_of its.requests = seen.queue ∙ ap (λ (h : Option (Hand Dir Cfg)). map request_of (in_front h its.requests)) none in
+      let queue : beside.inclusion.queue ≡ map waiting_request_of its.requests = seen.queue ∙ ap (λ (h : Option (Hand Dir Cfg)). map waiting_request_of (in_front h its.requests)) none in
       record {
         now = beside.inclusion;
         seen = subst (λ (q : List (core.Request Dir)). IsSeen its (record beside.inclusion { queue = q })) queue seen;
         on = λ how last speaks. subst (λ (q : List (core.Request Dir)). Speaks (blocks.answers_all q (live_of beside fence life)) how out last) (sym queue) speaks;
       }
 
-  module _ (its : Inclusion C Dir Signer Cfg) (out told : List Line) (left : IsLeft its out told) (none : its.hand ≡ None) (request : Request Dir) (rest : List (Request Dir)) (are : its.requests ≡ request ∷ rest) where
+  module _ (its : Inclusion C Dir Signer Cfg) (out told : List Line) (left : IsLeft its out told) (none : its.hand ≡ None) (request : WaitingRequest Dir) (rest : List (WaitingRequest Dir)) (are : its.requests ≡ request ∷ rest) where
     abbrev then_live : Live Dir
     then_live = with_told request.number (GaveNone Finished) (with_its beside fence life left.now)
 
-    first_on : (how : Ended Fault (Live Dir)) (last : List Line) → Speaks (blocks.answers_all (map request_of (request ∷ rest)) (with_its beside fence life left.now)) how told last
+    first_on : (how : Ended Fault (Live Dir)) (last : List Line) → Speaks (blocks.answers_all (map waiting_request_of (request ∷ rest)) (with_its beside fence life left.now)) how told last
         → Speaks (blocks.answers_all beside.inclusion.queue (live_of beside fence life)) how out last
-    first_on how last speaks = left.on how last (subst (λ (rs : List (Request Dir)). Speaks (blocks.answers_all (map request_of rs) (with_its beside fence life left.now)) how told last) (sym are) speaks)
+    first_on how last speaks = left.on how last (subst (λ (rs : List (WaitingRequest Dir)). Speaks (blocks.answers_all (map waiting_request_of rs) (with_its beside fence life left.now)) how told last) (sym are) speaks)
 
     told_first : (new : Inclusion C Dir Signer Cfg) → new ≡ record its { requests = rest; told = insert its.told request.number (Info (Unavailable Finished)) } → (more : List Line)
         → Speaks (including.answers_none request.number Finished (with_its beside fence life left.now)) (went then_live) told more → IsLeft new out more
     told_first new same more speaks = subst (λ (x : Inclusion C Dir Signer Cfg). IsLeft x out more) (sym same) (record {
       now = record left.now { told = (request.number, GaveNone Finished) ∷ left.now.told };
-      seen = shorter (seen_told its (record left.now { queue = map request_of its.requests }) request.number (Info (Unavailable Finished)) (GaveNone Finished) refl left.seen);
-      on = λ how last behind. first_on how last (line_then _ then_live (blocks.answers_all (map request_of rest) then_live) then_live how told more last speaks behind);
+      seen = shorter (seen_told its (record left.now { queue = map waiting_request_of its.requests }) request.number (Info (Unavailable Finished)) (GaveNone Finished) refl left.seen);
+      on = λ how last behind. first_on how last (line_then _ then_live (blocks.answers_all (map waiting_request_of rest) then_live) then_live how told more last speaks behind);
     })
       where
         shorter : {i : core.Inclusion Dir} → IsSeen (record its { told = insert its.told request.number (Info (Unavailable Finished)) }) i
-            → IsSeen (record its { requests = rest; told = insert its.told request.number (Info (Unavailable Finished)) }) (record i { queue = map request_of rest })
+            → IsSeen (record its { requests = rest; told = insert its.told request.number (Info (Unavailable Finished)) }) (record i { queue = map waiting_request_of rest })
         shorter seen = record {
           served = seen.served;
-          queue = ap (λ (h : Option (Hand Dir Cfg)). map request_of (in_front h rest)) (sym none);
+          queue = ap (λ (h : Option (Hand Dir Cfg)). map waiting_request_of (in_front h rest)) (sym none);
           running = seen.running;
           waiter = seen.waiter;
           retained = seen.retained;
@@ -114,7 +114,7 @@ module _ {C Dir Signer Cfg : Type 0} (beside : Beside Dir) (fence : Readiness) (
 
     found_none : (stop : Stop) → stop ≡ Faulted NoMemory → (more : List Line) → Speaks (including.answers_none request.number Finished (with_its beside fence life left.now)) (by_stop stop) told more
         → Speaks (blocks.answers_all beside.inclusion.queue (live_of beside fence life)) (by_stop stop) out more
-    found_none stop ends more speaks = first_on (by_stop stop) more (line_wants _ then_live (blocks.answers_all (map request_of rest) then_live) stop ends told more speaks)
+    found_none stop ends more speaks = first_on (by_stop stop) more (line_wants _ then_live (blocks.answers_all (map waiting_request_of rest) then_live) stop ends told more speaks)
 
     -- the first, which has this number, was told, ..
     pub one_less : (n : ℕ) → n ≡ request.number → (new : Inclusion C Dir Signer Cfg) → new ≡ record its { requests = rest; told = insert its.told n (Info (Unavailable Finished)) } → (more : List Line)
@@ -136,9 +136,9 @@ module _ {C Dir Signer Cfg : Type 0} (beside : Beside Dir) (fence : Readiness) (
       → EndsWith beside (λ i. IsSeen its i) (λ more. more ≡ []) (λ now. Speaks (blocks.answers_all beside.inclusion.queue (live_of beside fence life)) (went (live_of now fence life)) out told)
   none_left its out told left empty =
       ends_with beside (record left.now { queue = [] })
-      (subst (λ (rs : List (Request Dir)). IsSeen its (record left.now { queue = map request_of rs })) empty left.seen) refl
+      (subst (λ (rs : List (WaitingRequest Dir)). IsSeen its (record left.now { queue = map waiting_request_of rs })) empty left.seen) refl
       (left.on (went (with_its beside fence life (record left.now { queue = [] }))) told
-      (subst (λ (rs : List (Request Dir)). Speaks (blocks.answers_all (map request_of rs) (with_its beside fence life left.now)) (went (with_its beside fence life (record left.now { queue = [] }))) told told) (sym empty)
+      (subst (λ (rs : List (WaitingRequest Dir)). Speaks (blocks.answers_all (map waiting_request_of rs) (with_its beside fence life left.now)) (went (with_its beside fence life (record left.now { queue = [] }))) told told) (sym empty)
       (goes_speaks (blocks.answers_all [] (with_its beside fence life left.now)) (with_its beside fence life (record left.now { queue = [] })) (with_its beside fence life (record left.now { queue = [] })) refl refl told)))
 
   pub none_behind : (its new : Inclusion C Dir Signer Cfg) (out told : List Line) → IsLeft its out told → its.requests ≡ [] → new ≡ record its { requests = [] }

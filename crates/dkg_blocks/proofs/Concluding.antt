@@ -30,7 +30,7 @@ use Rattle.dkg_ceremony.specs.Schedule.{midpoint}
 use Rattle.dkg_verifying.specs.Concluded.{FindsBy, canonical_in, derives_kept, sees_verified, sees_verified_by, takes_cached, verifies}
 use Rattle.dkg_life.specs.Ends.{by_stop}
 use Rattle.dkg_verifying.specs.Including.{artifact_in, artifact_over, derives_by, derives_by_in, derives_final, derives_in, derives_now, derives_now_by, with_cached_in}
-use Rattle.dkg_verifying.specs.InclusionOf.{IsInHand, IsReadyInclusion, IsRunnable, artifact_of, cached_of, job_of, result_of}
+use Rattle.dkg_verifying.specs.InclusionOf.{IsInHand, IsReadyInclusion, IsRunnable, artifact_of, cached_of, job_of, checked_result_of}
 use Rattle.dkg_life.specs.LiveOf.{Beside, IsPlaced, live_of}
 use Rattle.dkg_life.specs.Made.{MakesAt, Speaks, Tells}
 use Rattle.dkg_life.specs.Rules.{AckOf, BearsAckOf, CheckAckOf, CheckLogOf, DealOf, DealingOf, FinishOf, IncludesBy, IsRuledBy, OutcomeOf, PartialPublicOf, RoundOf, SameProvided, SharePublicOf, SignLogOf}
@@ -164,14 +164,14 @@ module _ {Dir : Type 0} (c : Fixed Dir) (round : Round) (logs : LogMap) (st : Li
       gives_speaks (verifies c round logs st) stop (LocalState (StoredDealing round.number is.0)) is.1 (verifies_ill c round logs st is.0 is.2) refl out
 
   -- The result for these logs is kept already, ..
-  pub sees_kept : (kept : Option Checked) → st.inclusion.retained ≡ option_map result_of kept → IsSomeAnd kept (λ r. r.logs ≡ logs) → sees_verified c round logs st ≡ Goes st
+  pub sees_kept : (kept : Option Checked) → st.inclusion.retained ≡ option_map checked_result_of kept → IsSomeAnd kept (λ r. r.logs ≡ logs) → sees_verified c round logs st ≡ Goes st
   sees_kept None seen is = absurd is
   sees_kept (Some r) seen is =
       ap (λ (o : Option core.VerifiedLogs). sees_verified_by c round logs (including.retained_for o logs) st) seen
       ∙ ap (λ (o : Option core.VerifiedLogs). sees_verified_by c round logs o st) (kept_some logs (Some r) is)
 
   -- .. or it is not
-  pub sees_none : (kept : Option Checked) → st.inclusion.retained ≡ option_map result_of kept → (IsSomeAnd kept (λ r. r.logs ≡ logs) → ⊥) → sees_verified c round logs st ≡ verifies c round logs st
+  pub sees_none : (kept : Option Checked) → st.inclusion.retained ≡ option_map checked_result_of kept → (IsSomeAnd kept (λ r. r.logs ≡ logs) → ⊥) → sees_verified c round logs st ≡ verifies c round logs st
   sees_none kept seen apart =
       ap (λ (o : Option core.VerifiedLogs). sees_verified_by c round logs (including.retained_for o logs) st) seen
       ∙ ap (λ (o : Option core.VerifiedLogs). sees_verified_by c round logs o st) (kept_none logs kept apart)
@@ -185,8 +185,8 @@ checked_logs outcome_of finish_of j verified logs is same = ap (λ (r : Checked)
 
 -- what is found for a job is what the relation finds
 pub found_as : {Dir : Type 0} (c : Fixed Dir) (outcome_of : OutcomeOf) (finish_of : FinishOf) (outcome : c.rules.outcome_of ≡ outcome_of) (finish : c.rules.finish_of ≡ finish_of) (j : job.Job) (verified : Checked)
-    → verified ≡ checked outcome_of finish_of j.round j.player j.logs → (made : core.Job) → job_of j ≡ made → result_of verified ≡ including.verified c made
-found_as c outcome_of finish_of outcome finish j verified is made same = ap result_of is ∙ verified_is c outcome_of finish_of outcome finish j ∙ ap (including.verified c) same
+    → verified ≡ checked outcome_of finish_of j.round j.player j.logs → (made : core.Job) → job_of j ≡ made → checked_result_of verified ≡ including.verified c made
+found_as c outcome_of finish_of outcome finish j verified is made same = ap checked_result_of is ∙ verified_is c outcome_of finish_of outcome finish j ∙ ap (including.verified c) same
 
 -- BY IT THE ARTIFACT
 

@@ -28,11 +28,11 @@ use Rattle.dkg_core.specs.Courses as courses
 use Rattle.dkg_core.specs.Courses.{Course, Goes, on_devices}
 use Rattle.dkg_core.specs.Dealing.{appends}
 use Rattle.dkg_core.specs.Live.{Live, recorded_at}
-use Rattle.dkg_core.specs.Logs.{log_event, recorded_log}
+use Rattle.dkg_core.specs.Logs.{carried_log_event, recorded_log}
 use Rattle.dkg_core.specs.Said.{Said}
 use Rattle.dkg_life.specs.declared.life.Life.{Life}
 use Rattle.dkg_life.specs.declared.stop.Stop.{Stop}
-use Rattle.dkg_life.specs.Ends.{by_stop, fault_of}
+use Rattle.dkg_life.specs.Ends.{by_stop, fault_of_store}
 use Rattle.dkg_life.specs.LiveOf.{Beside, live_of}
 use Rattle.dkg_life.specs.Made.{MakesAt, Speaks}
 use Rattle.dkg_life.proofs.Burning.{makes_early, makes_next, makes_nothing}
@@ -51,16 +51,16 @@ log_store {new = new} kept = λ i. record new { acks = kept.acks i; dealings = k
 module _ {Dir : Type 0} (epoch dealer height : ℕ) (log : DealerLog) (st : Live Dir) where
   -- what is in memory then
   abbrev logged_in : (recorded : Bool) → Live Dir
-  logged_in recorded = if recorded then st else blocks.with_log epoch dealer height log st
+  logged_in recorded = if recorded then st else blocks.with_log_at epoch dealer height log st
 
   abbrev its_acts : (recorded : Bool) → Acts Fault Bool
-  its_acts recorded = acts_of.under fault_of (noting recorded (epoch, event_spelling (events.LogAt dealer height log)))
+  its_acts recorded = acts_of.under fault_of_store (noting recorded (epoch, event_spelling (events.LogAt dealer height log)))
 
   abbrev then_goes : (recorded : Bool) → Bool → Acts Fault (Live Dir)
   then_goes recorded made = acts_of.Goes (logged_in recorded)
 
   logs_as : (recorded : Bool)
-      → on_devices {Dir = Dir} (if recorded then courses.Goes st else appends epoch (log_event dealer height log) (courses.Goes (blocks.with_log epoch dealer height log st)))
+      → on_devices {Dir = Dir} (if recorded then courses.Goes st else appends epoch (carried_log_event dealer height log) (courses.Goes (blocks.with_log_at epoch dealer height log st)))
       ≡ acts_of.bind (its_acts recorded) (then_goes recorded)
   logs_as true = refl
   logs_as false = refl
@@ -91,14 +91,14 @@ module _ {Dir : Type 0} (life : Life Dir) (beside : Beside Dir) (fence : Readine
 
   course_is : on_devices course ≡ acts_of.bind of_store next
   course_is =
-      ap (λ (r : Bool). on_devices {Dir = Dir} (if r then courses.Goes st else appends epoch (log_event signed.dealer height signed.log) (courses.Goes (blocks.with_log epoch signed.dealer height signed.log st)))) recorded_is
+      ap (λ (r : Bool). on_devices {Dir = Dir} (if r then courses.Goes st else appends epoch (carried_log_event signed.dealer height signed.log) (courses.Goes (blocks.with_log_at epoch signed.dealer height signed.log st)))) recorded_is
       ∙ logs_as epoch signed.dealer height signed.log st recorded
 
   -- WHAT WAS RECORDED BEFORE
   pub known_speaks : recorded ≡ true → (out : List Line) → Speaks course (went (live_of beside fence (record life { store = old }))) out out
   known_speaks is out =
       goes_speaks course (live_of beside fence (record life { store = old })) st
-      (ap (λ (r : Bool). let its : Course Dir Fault (Live Dir) = if r then Goes st else appends epoch (log_event signed.dealer height signed.log) (Goes (blocks.with_log epoch signed.dealer height signed.log st)) in its) (recorded_is ∙ is))
+      (ap (λ (r : Bool). let its : Course Dir Fault (Live Dir) = if r then Goes st else appends epoch (carried_log_event signed.dealer height signed.log) (Goes (blocks.with_log_at epoch signed.dealer height signed.log st)) in its) (recorded_is ∙ is))
       (λ i. live_of beside fence (record life { store = sym stored i })) out
 
   module _ (store : Store Dir) (kept : store ≡ record old { journal = store.journal; logs = store.logs }) where

@@ -18,7 +18,7 @@ use Rattle.dkg_life.specs.declared.life.Stage.{Stage}
 use Rattle.dkg_life.specs.declared.life.Stage.TheVariants.{Dealing, Including, Following}
 use Rattle.dkg_life.specs.declared.stop.Stop.{Stop}
 use Rattle.dkg_life.specs.Ready.{IsReadyLife}
-use Rattle.dkg_life.specs.LiveOf.{DealsIn, IsDealing, IsPlaced, PlayerSits, IsToSign, IsWithin, Sits, SitsIn}
+use Rattle.dkg_life.specs.LiveOf.{DealsIn, IsDealing, IsPlaced, PlayerSits, IsToSign, IsRoundWithin, Sits, SitsIn}
 use Rattle.dkg_life.specs.Moved.{IsFirm}
 use Rattle.dkg_life.specs.Rules.{AckOf, CheckAckOf, DealOf}
 use Rattle.dkg_blocks.proofs.Applying.{tip_at}
@@ -130,6 +130,6 @@ module _ {Dir D X : Type 0} (tells : Bool) (files : D → Files) (image : D → 
             dealing = subst (λ (k : ℕ). IsDealing deal_of check_ack_of k new) (sym mine) dealing;
             placed = placed_behind n b.height b.digest terms.long new (ap (λ (l : Life Dir). l.tip) rest ∙ ap (λ (t : Tip). Some t) tip_is) (at ∙ sym epoch) (middle ∙ middle_is ∙ ap (midpoint n) (sym epoch)) (subst LiesWithin (sym epoch) range_is) (subst (λ (o : Option Round). IsSome o) (sym (ap (λ (l : Life Dir). l.round) rest)) joins_is)
                 (subst (λ (m : ℕ). b.height < m) (sym middle) early) (λ deals. absurd (let at : new.stage ≡ Including = is in let h : ◌≡◌ {A = Stage} Including Dealing = sym at ∙ deals in cc)) (λ including. omega (arith, end, middle));
-            within = subst (λ (o : Option Round). IsWithin (non_zero_u32_get terms.limit) o) (sym (ap (λ (l : Life Dir). l.round) rest)) ready.within;
+            within = subst (λ (o : Option Round). IsRoundWithin (non_zero_u32_get terms.limit) o) (sym (ap (λ (l : Life Dir). l.round) rest)) ready.within;
             firm = λ told. subst (λ (s : Store Dir). IsFirm s.journal (files devices.disk.now) (image devices.disk.now)) (sym (ap (λ (l : Life Dir). l.store) rest)) (ready.firm told);
           }

@@ -75,15 +75,15 @@ half_at poly base (x ∷ xs) player place e =
     ]
 
 -- the check, part by part
-pub record Passes (round : Round) (me dealer : ℕ) (public : List ℕ) (private : ℕ) : Type 0 where
+pub record DealingPasses (round : Round) (me dealer : ℕ) (public : List ℕ) (private : ℕ) : Type 0 where
   pub dealer_there : is_some (place_of dealer round.dealers) ≡ true
   pub degree : length public ≡ quorum_of (length round.players)
   pub again : reshares round.previous dealer public ≡ true
   pub fits : fits_at (place_of me round.players) public private ≡ true
 
-pub passing : (round : Round) (me dealer : ℕ) (public : List ℕ) (private : ℕ) → Passes round me dealer public private → dealing_of round me dealer public private ≡ Ok tt
+pub dealing_passes : (round : Round) (me dealer : ℕ) (public : List ℕ) (private : ℕ) → DealingPasses round me dealer public private → dealing_of round me dealer public private ≡ Ok tt
 unfolding dealing_of
-passing round me dealer public private p = let long = eq-eqb (length public) (quorum_of (length round.players)) p.degree in rw (p.dealer_there, long, p.again, p.fits) refl
+dealing_passes round me dealer public private p = let long = eq-eqb (length public) (quorum_of (length round.players)) p.degree in rw (p.dealer_there, long, p.again, p.fits) refl
 
 first_dealt : (share : ℕ) (seed : List ℕ) (count : ℕ) → 0 < count → dealt_poly (Some share) seed count ≡ share ∷ map (dealt_at (Some share) seed) (range_with_len (0 + 1) (count - 1))
 first_dealt share seed zero lt = absurd (omega arith)
@@ -107,7 +107,7 @@ halves_pass round signer share seed is_dealer ok me (k, lt, is) =
     let some : 0 < quorum_of (length round.players) = omega arith in
     let enough : dealt_length (length round.players) ≡ quorum_of (length round.players) = let least : 1 ≤ quorum_of (length round.players) = omega arith in max-eq_left least in
     let more : 0 < count = omega (arith, enough, some) in
-    let passes : dealing_of round me signer poly (value_at poly (place.0 + 1)) ≡ Ok tt = passing round me signer poly (value_at poly (place.0 + 1)) (record {
+    let passes : dealing_of round me signer poly (value_at poly (place.0 + 1)) ≡ Ok tt = dealing_passes round me signer poly (value_at poly (place.0 + 1)) (record {
       dealer_there = place_of-Contains signer round.dealers is_dealer;
       degree = length-map-range_with_len (dealt_at (again_of round.previous share) seed) 0 count ∙ enough;
       again = dealt_again round.previous signer share seed count more ok;

@@ -83,7 +83,7 @@ one_does (suc n) x h some few =
     ]
 
 -- the power of one of these, and that it is no factor of the prime
-pub record IsFirst (x : ℕ) : Type 0 where
+pub record HasPowerOne (x : ℕ) : Type 0 where
   pub power : x ^ (2 * half) % prime ≡ 1
   pub factor : x ≡ 1 ⊎ (prime % x ≡ 0 → ⊥)
 
@@ -98,7 +98,7 @@ no_factor x e =
       | inr more ↦ inr (λ zero_is. let h : not (prime % x == 0) ≡ true = rw more at e in let z : (prime % x == 0) ≡ true = rw zero_is refl in let f : false ≡ true = rw z at h in cc)
     ]
 
-first : (x : ℕ) → 0 < x → x ≤ 256 → IsFirst x
+first : (x : ℕ) → 0 < x → x ≤ 256 → HasPowerOne x
 first x some few =
     let parts = and_parts (((x ^ 16 % prime) ^ 63 % prime) ^ 65 % prime == 1) ((x == 1) || not (prime % x == 0)) (one_does 256 x all_do some few) in
     record {

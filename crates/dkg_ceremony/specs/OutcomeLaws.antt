@@ -9,7 +9,7 @@ use Rattle.dkg_ceremony.specs.declared.output.Output.{Output}
 use Rattle.dkg_ceremony.specs.Agreement.{parts_agree}
 use Rattle.dkg_ceremony.specs.Outputs.{OutputParts, output_parts, do_parts_agree, output_where, output_from}
 use Rattle.dkg_ceremony.specs.OutputGrammar.{output_of_parts}
-use Rattle.dkg_ceremony.specs.Outcomes.{LogMap, keeps_key, output_for, output_with, summary_of, sharing_for, outcome_parts, reveals_at, revealed_from}
+use Rattle.dkg_ceremony.specs.Outcomes.{LogMap, keeps_key, output_for, output_with, round_summary, sharing_for, outcome_parts, reveals_at, revealed_from}
 
 -- ---- the loop that lists revealed players
 
@@ -66,7 +66,7 @@ pub no_output : (p : OutputParts) → do_parts_agree p ≡ false → result_ok (
 no_output p e = none_where p (do_parts_agree p) refl e
 
 -- an output with these parts is the output of them
-pub output_made : (round : Round) (poly revealed : List ℕ) (o : Output) → o.summary ≡ summary_of round → o.sharing ≡ sharing_for round poly → o.dealers ≡ round.dealers → o.players ≡ round.players → o.revealed ≡ revealed
+pub output_made : (round : Round) (poly revealed : List ℕ) (o : Output) → o.summary ≡ round_summary round → o.sharing ≡ sharing_for round poly → o.dealers ≡ round.dealers → o.players ≡ round.players → o.revealed ≡ revealed
     → Some o ≡ result_ok (output_from (outcome_parts round poly revealed))
 output_made round poly revealed o summary sharing dealers players shown =
     let parts : output_parts o ≡ outcome_parts round poly revealed = cc in

@@ -26,12 +26,12 @@ abbrev pub has_valid : Round → LogMap → (dealer : ℕ) → Bool
 has_valid round logs dealer = option_map_or (is_valid round dealer) (lookup dealer logs) false
 
 -- the first so many, where there are that many
-abbrev pub first_of : ℕ → List ℕ → Option (List ℕ)
-first_of count dealers = if nat_lt (length dealers) count then None else Some (take count dealers)
+abbrev pub first_many : ℕ → List ℕ → Option (List ℕ)
+first_many count dealers = if nat_lt (length dealers) count then None else Some (take count dealers)
 
 -- The dealers whose logs the outcome is made of: the first quorum of those with valid logs.
 unfoldable pub selected_of : Round → LogMap → Option (List ℕ)
-selected_of round logs = first_of (quorum_of (length round.dealers)) (filter (has_valid round logs) round.dealers)
+selected_of round logs = first_many (quorum_of (length round.dealers)) (filter (has_valid round logs) round.dealers)
 
 -- ---- what is made of them
 
@@ -63,14 +63,14 @@ abbrev pub keeps_key : Option Output → List ℕ → Bool
 keeps_key None poly = true
 keeps_key (Some o) poly = begin_alike poly o.sharing.poly
 
-unfoldable pub summary_of : Round → List ℕ
-summary_of round = mark_of 0 domains.Round (round_bytes round)
+unfoldable pub round_summary : Round → List ℕ
+round_summary round = mark_of 0 domains.Round (round_bytes round)
 
 abbrev pub sharing_for : Round → List ℕ → Sharing
 sharing_for round poly = record { mode = round.mode; total = length round.players; poly = poly }
 
 abbrev pub outcome_parts : Round → List ℕ → List ℕ → OutputParts
-outcome_parts round poly revealed = (summary_of round, (sharing_for round poly, (round.dealers, (round.players, revealed))))
+outcome_parts round poly revealed = (round_summary round, (sharing_for round poly, (round.dealers, (round.players, revealed))))
 
 -- the output of these parts, where they make one
 unfoldable pub output_with : Round → List ℕ → List ℕ → Option Output

@@ -33,8 +33,8 @@ parts_of_output p true e o is =
 parts_of_output p false e o is = absurd cc
 
 -- Outputs with the same parts are the same.
-pub same_output : (a b : Output) → a.summary ≡ b.summary → a.sharing ≡ b.sharing → a.dealers ≡ b.dealers → a.players ≡ b.players → a.revealed ≡ b.revealed → a ≡ b
-same_output a b summary sharing dealers players revealed =
+pub output_by_parts : (a b : Output) → a.summary ≡ b.summary → a.sharing ≡ b.sharing → a.dealers ≡ b.dealers → a.players ≡ b.players → a.revealed ≡ b.revealed → a ≡ b
+output_by_parts a b summary sharing dealers players revealed =
     let parts : output_parts a ≡ output_parts b = cc in
     let one : output_from (output_parts a) ≡ Ok a = output_of_parts (output_parts a) a.agree (do_parts_agree (output_parts a)) refl in
     let other : output_from (output_parts b) ≡ Ok b = output_of_parts (output_parts b) b.agree (do_parts_agree (output_parts b)) refl in

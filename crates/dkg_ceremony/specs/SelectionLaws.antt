@@ -11,7 +11,7 @@ use Rattle.dkg_ceremony.specs.declared.round.RoundParts.{RoundParts as Round}
 use Rattle.dkg_ceremony.specs.declared.dealer_log.DealerLog.{DealerLog}
 use Rattle.dkg_ceremony.specs.Thresholds.{quorum_of}
 use Rattle.dkg_ceremony.specs.ValidLogs.{is_valid}
-use Rattle.dkg_ceremony.specs.Outcomes.{LogMap, has_valid, first_of, selected_of, public_in}
+use Rattle.dkg_ceremony.specs.Outcomes.{LogMap, has_valid, first_many, selected_of, public_in}
 
 -- ---- the loop that selects
 
@@ -24,17 +24,17 @@ found_first f dealers i =
 found_few : (f : ℕ → Bool) (dealers : List ℕ) (i : ℕ) → length (filter f (take i dealers)) ≤ length (filter f dealers)
 found_few f dealers i = omega (arith, ap length (found_first f dealers i), length-take (length (filter f (take i dealers))) (filter f dealers))
 
-pub found_enough : (f : ℕ → Bool) (dealers found : List ℕ) (i count : ℕ) → found ≡ filter f (take i dealers) → length found ≡ count → first_of count (filter f dealers) ≡ Some found
+pub found_enough : (f : ℕ → Bool) (dealers found : List ℕ) (i count : ℕ) → found ≡ filter f (take i dealers) → length found ≡ count → first_many count (filter f dealers) ≡ Some found
 found_enough f dealers found i count is enough =
     let n : length (filter f (take i dealers)) ≡ count = ap length (sym is) ∙ enough in
     let many : ltb (length (filter f dealers)) count ≡ false = le-ltb _ _ (omega (arith, n, found_few f dealers i)) in
     let first : take count (filter f dealers) ≡ found = ap (λ (k : ℕ). take k (filter f dealers)) (sym n) ∙ found_first f dealers i ∙ sym is in
     rw many (ap (λ (xs : List ℕ). Some xs) first)
 
-pub found_all : (f : ℕ → Bool) (dealers found : List ℕ) (i count : ℕ) → found ≡ filter f (take i dealers) → length dealers ≤ i → length found ≤ count → count ≤ length found → first_of count (filter f dealers) ≡ Some found
+pub found_all : (f : ℕ → Bool) (dealers found : List ℕ) (i count : ℕ) → found ≡ filter f (take i dealers) → length dealers ≤ i → length found ≤ count → count ≤ length found → first_many count (filter f dealers) ≡ Some found
 found_all f dealers found i count is le few many = found_enough f dealers found i count is (omega arith)
 
-pub found_too_few : (f : ℕ → Bool) (dealers found : List ℕ) (i count : ℕ) → found ≡ filter f (take i dealers) → length dealers ≤ i → length found < count → first_of count (filter f dealers) ≡ None
+pub found_too_few : (f : ℕ → Bool) (dealers found : List ℕ) (i count : ℕ) → found ≡ filter f (take i dealers) → length dealers ≤ i → length found < count → first_many count (filter f dealers) ≡ None
 found_too_few f dealers found i count is le below =
     let all : found ≡ filter f dealers = is ∙ ap (filter f) (take_all i dealers le) in
     let few : ltb (length (filter f dealers)) count ≡ true = lt-ltb _ _ (omega (arith, below, ap length all)) in
@@ -55,7 +55,7 @@ all_taken P zero xs h = tt
 all_taken P (suc n) [] h = tt
 all_taken P (suc n) (x ∷ xs) h = (h.0, all_taken P n xs h.1)
 
-first_all : (P : ℕ → Type 0) (count : ℕ) (xs found : List ℕ) → AllByRecursion P xs → first_of count xs ≡ Some found → AllByRecursion P found
+first_all : (P : ℕ → Type 0) (count : ℕ) (xs found : List ℕ) → AllByRecursion P xs → first_many count xs ≡ Some found → AllByRecursion P found
 first_all P count xs found h e =
     elim (cases_Bool (ltb (length xs) count)) [
       | inl few ↦ absurd (let n = rw few at e in cc)

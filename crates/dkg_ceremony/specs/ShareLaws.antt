@@ -311,14 +311,14 @@ finish_agrees round me dealings logs = same_from round me dealings logs (selecte
 -- ---- which dealing is missing
 
 -- the first that passes a test is one of them, and passes it
-pub record IsFirst (test : ℕ → Bool) (dealers : List ℕ) (dealer : ℕ) : Type 0 where
+pub record IsFirstPassing (test : ℕ → Bool) (dealers : List ℕ) (dealer : ℕ) : Type 0 where
   pub one_of : Contains dealers dealer
   pub passes : test dealer ≡ true
 
-one_behind : (test : ℕ → Bool) (d : ℕ) (ds : List ℕ) (dealer : ℕ) → IsFirst test ds dealer → IsFirst test (d ∷ ds) dealer
+one_behind : (test : ℕ → Bool) (d : ℕ) (ds : List ℕ) (dealer : ℕ) → IsFirstPassing test ds dealer → IsFirstPassing test (d ∷ ds) dealer
 one_behind test d ds dealer f = record { one_of = (suc f.one_of.0, omega (arith, f.one_of.1), f.one_of.2); passes = f.passes }
 
-first_found : (test : ℕ → Bool) (dealers : List ℕ) (dealer : ℕ) → first_that test dealers ≡ Some dealer → IsFirst test dealers dealer
+first_found : (test : ℕ → Bool) (dealers : List ℕ) (dealer : ℕ) → first_that test dealers ≡ Some dealer → IsFirstPassing test dealers dealer
 first_found test [] dealer e = absurd cc
 first_found test (d ∷ ds) dealer e =
     elim (cases_Bool (test d)) [

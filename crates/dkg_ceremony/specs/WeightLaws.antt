@@ -29,9 +29,9 @@ odd_turn r b e odd =
     let grouped : r * b * b ^ (2 * (e / 2)) ≡ r * b ^ e = mul_assoc r b (b ^ (2 * (e / 2))) ∙ ap (λ (x : ℕ). r * x) (sym (pow-succ' b (2 * (e / 2)))) ∙ ap (λ (n : ℕ). r * b ^ n) whole in
     by_square (r * b % prime) b (e / 2) ∙ first_rest (r * b) (b ^ (2 * (e / 2))) ∙ ap (λ (x : ℕ). x % prime) grouped
 
-pub at_start : (x : ℕ) → (1 * (x % prime) ^ 65519) % prime ≡ inverse_of x
+pub inverse_at_start : (x : ℕ) → (1 * (x % prime) ^ 65519) % prime ≡ inverse_of x
 unfolding inverse_of
-at_start x = ap (λ (y : ℕ). y % prime) (one-mul ((x % prime) ^ 65519)) ∙ pow-mod x 65519 prime
+inverse_at_start x = ap (λ (y : ℕ). y % prime) (one-mul ((x % prime) ^ 65519)) ∙ pow-mod x 65519 prime
 
 pub at_end : (r b : ℕ) → r < prime → (r * b ^ 0) % prime ≡ r
 at_end r b lt = ap (λ (y : ℕ). r * y % prime) (pow-zero b) ∙ ap (λ (y : ℕ). y % prime) (mul-one r) ∙ mod-eq_of_lt lt

@@ -2,7 +2,7 @@
 ghost use Rattle.std.specs.Prelude.{◌≡◌, ℕ, ◌<◌, ◌≤◌, ◌^◌, length, map, slice_index, vec_len, replicate, Some, IfOk};
 ghost use Rattle.std.specs.List.{list_any, zip};
 ghost use Rattle.dkg_ceremony.specs.Agreement.{PartsAgree};
-ghost use Rattle.dkg_ceremony.specs.Outcomes.{combined_of, keeps_key, output_with, outcome_of, public_in, reveals_at, revealed_from, revealed_of, selected_of, sum_of, summary_of};
+ghost use Rattle.dkg_ceremony.specs.Outcomes.{combined_of, keeps_key, output_with, outcome_of, public_in, reveals_at, revealed_from, revealed_of, selected_of, sum_of, round_summary};
 ghost use Rattle.dkg_ceremony.specs.PolynomialLaws.{poly_sum, poly_times, weighted_sum};
 ghost use Rattle.dkg_ceremony.specs.Thresholds.{quorum_of};
 ghost use Rattle.dkg_ceremony.specs.Weights.{weights_of};
@@ -145,9 +145,9 @@ fn keeps(previous: &Option<Output>, poly: &Public) -> bool
 }
 
 /// What an output says of its round: a mark on the round's bytes.
-#[tactic(auto, unfolding(crate::specs::Outcomes::summary_of))]
+#[tactic(auto, unfolding(crate::specs::Outcomes::round_summary))]
 fn summarize(round: &Round) -> Mark
-    ensures { result ≡ summary_of round.now }
+    ensures { result ≡ round_summary round.now }
 {
     mark_of(Key(0), Domain::Round, round.bytes())
 }

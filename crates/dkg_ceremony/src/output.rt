@@ -81,7 +81,7 @@ impl Value for Output {
         })
     }
 
-    #[tactic(auto, using(crate::specs::OutputGrammar::same_output))]
+    #[tactic(auto, using(crate::specs::OutputGrammar::output_by_parts))]
     fn same(&self, other: &Output) -> bool {
         self.summary.same(&other.summary)
             && self.sharing.same(&other.sharing)

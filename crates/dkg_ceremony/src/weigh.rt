@@ -10,7 +10,7 @@ use dkg_values::{Key, Mem, Set};
 use std::alloc::Global;
 
 /// The inverse modulo 65,521, by squares.
-#[tactic(auto, using(crate::specs::WeightLaws::even_turn, crate::specs::WeightLaws::odd_turn, crate::specs::WeightLaws::at_start, crate::specs::WeightLaws::at_end, crate::specs::InverseLaws::inverse_is))]
+#[tactic(auto, using(crate::specs::WeightLaws::even_turn, crate::specs::WeightLaws::odd_turn, crate::specs::WeightLaws::inverse_at_start, crate::specs::WeightLaws::at_end, crate::specs::InverseLaws::inverse_is))]
 fn inverse(number: u32) -> u32
     ensures exact { result ≡ inverse_of number }
     ensures one { 0 < number % 65521 → number * result % 65521 ≡ 1 }

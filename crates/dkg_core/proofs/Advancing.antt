@@ -13,7 +13,7 @@ use Rattle.dkg_store.specs.Acts.{Held}
 use Rattle.dkg_core.specs.Courses.{Course, Goes, bind}
 use Rattle.dkg_core.specs.Sources.{Tip}
 use Rattle.dkg_core.specs.Fixed.{Fixed}
-use Rattle.dkg_core.specs.Live.{Live, Stage, Deals, Includes, Follows, Ends, Inclusion, Request, Job, VerifiedLogs, Artifact, Cached, Told, GaveInfo, GaveNone, with_inclusion, with_queue, with_told}
+use Rattle.dkg_core.specs.Live.{Live, Stage, Deals, Includes, Follows, Ends, Inclusion, Request, Job, VerifiedLogs, Artifact, Cached, RequestAnswer, GaveInfo, GaveNone, with_inclusion, with_queue, with_told}
 use Rattle.dkg_core.specs.Logs.{canonical, filled_by}
 use Rattle.dkg_core.specs.Same.{same_logs}
 use Rattle.dkg_core.specs.Setup.{refused_in}
@@ -86,18 +86,18 @@ module _ {Dir : Type 0} (c : Fixed Dir) (round : Round) (st other : Live Dir) (t
   -- one block, by what is found behind it
   abbrev reads_block : Live Dir → Option (Block Dir) → LogMap → Block Dir → Fed → (LogMap → Fed) → Fed
   reads_block now above found b final next =
-      if inc.is_final c now above b then final
+      if inc.is_final_read c now above b then final
       else if not (b.height == inc.next_height c now above) then Lacks (WrongHeight (inc.next_height c now above) b.height)
       else if inc.is_unlinked above b then Lacks (Unlinked b.height)
-      else if nat_lt (inc.lowest c now) b.height then next (inc.with_lower c round now b found)
+      else if nat_lt (inc.lowest_needed c now) b.height then next (inc.with_lower_log c round now b found)
       else if inc.is_detached c now b then Lacks (Detached b.height)
-      else Found (inc.with_lower c round now b found)
+      else Found (inc.with_lower_log c round now b found)
 
   scan_as : (above : Option (Block Dir)) (found : LogMap) (bs : List (Block Dir)) (ended : Bool) → inc.scan c round other above found bs ended ≡ inc.scan c round st above found bs ended
   scan_as above found [] ended = refl
   scan_as above found (b ∷ bs) ended =
       ap (λ (f : Fed). reads_block other above found b f (λ l. inc.scan c round other (Some b) l bs ended)) (scan_as (Some b) found bs ended)
-      ∙ ap (λ (f : Fed). reads_block other above found b (inc.scan c round st (Some b) found bs ended) (λ l. f)) (scan_as (Some b) (inc.with_lower c round other b found) bs ended)
+      ∙ ap (λ (f : Fed). reads_block other above found b (inc.scan c round st (Some b) found bs ended) (λ l. f)) (scan_as (Some b) (inc.with_lower_log c round other b found) bs ended)
       ∙ ap (λ (t : Option Tip). reads_block (with_these t other.participation.epoch) above found b (inc.scan c round st (Some b) found bs ended) (λ l. inc.scan c round st (Some b) l bs ended)) tip
       ∙ ap (λ (e : ℕ). reads_block (with_these st.tip e) above found b (inc.scan c round st (Some b) found bs ended) (λ l. inc.scan c round st (Some b) l bs ended)) epoch
 
@@ -137,7 +137,7 @@ module _ {Dir : Type 0} (c : Fixed Dir) (stored : OfShares) (st : Live Dir) wher
   }
 
   -- other requests, used numbers and answers
-  pub requeued : (i : Inclusion Dir) (queue : List (Request Dir)) (used : List ℕ) (told : List (ℕ × Told Dir)) → HasAsked c stored (at i) → (st.participation.stage ≡ Follows → queue ≡ [])
+  pub requeued : (i : Inclusion Dir) (queue : List (Request Dir)) (used : List ℕ) (told : List (ℕ × RequestAnswer Dir)) → HasAsked c stored (at i) → (st.participation.stage ≡ Follows → queue ≡ [])
       → HasAsked c stored (at (record i { queue = queue; used = used; told = told }))
   requeued i queue used told has none = record { served = has.served; none = none; early = has.early; waits = has.waits; runs = has.runs; kept = has.kept; made = has.made }
 
@@ -183,7 +183,7 @@ module _ {Dir : Type 0} (c : Fixed Dir) (stored : OfShares) (st : Live Dir) (dev
       abbrev Next_to : Live Dir → Option Held → Type 0
       Next_to = IsOn round r i
 
-      told : (answer : Told Dir) → Next_to (with_told r.number answer (with i)) devices
+      told : (answer : RequestAnswer Dir) → Next_to (with_told r.number answer (with i)) devices
       told answer = record {
         untouched = refl;
         now = record i { told = (r.number, answer) ∷ i.told };
@@ -198,15 +198,15 @@ module _ {Dir : Type 0} (c : Fixed Dir) (stored : OfShares) (st : Live Dir) (dev
 
       module _ (logs : LogMap) where
         -- by a result that was retained
-        by_retained : (result : VerifiedLogs) → i.retained ≡ Some result → ComesOver Stop Next_to (inc.artifact c result (with i) (inc.answers c r.number)) devices
+        by_retained : (result : VerifiedLogs) → i.retained ≡ Some result → ComesOver Stop Next_to (inc.artifact c result (with i) (inc.answers_request c r.number)) devices
         by_retained result is =
-            artifacts_lead c stored round known.0 result (with i) (inc.answers c r.number) devices Stop Next_to form (reads result (sym still ∙ is)) has of_epoch known.1
+            artifacts_lead c stored round known.0 result (with i) (inc.answers_request c r.number) devices Stop Next_to form (reads result (sym still ∙ is)) has of_epoch known.1
             (of_round st (λ x. IsResultIn c x (with i) result) round of_epoch (has.kept result is)) (λ fault stop. (round, known.0, of_epoch, known.1, stop))
             (λ made here its. answered made here its)
           where
-            answered : (made : Artifact Dir) (here : Live Dir) → IsMadeIn c stored round known.0 (with i) result.logs made here → ComesOver Stop Next_to (inc.answers c r.number made here) devices
+            answered : (made : Artifact Dir) (here : Live Dir) → IsMadeIn c stored round known.0 (with i) result.logs made here → ComesOver Stop Next_to (inc.answers_request c r.number made here) devices
             answered made here its =
-                let answer : Told Dir = GaveInfo (option_map info_payload made.info) in
+                let answer : RequestAnswer Dir = GaveInfo (option_map info_payload made.info) in
                 let now : Inclusion Dir = record i { cached = here.inclusion.cached; told = (r.number, answer) ∷ i.told } in
                 record {
                   untouched = refl;

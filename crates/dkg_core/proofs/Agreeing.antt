@@ -41,7 +41,7 @@ use Rattle.dkg_types.specs.MessageCodes.{message_at}
 use Rattle.dkg_infos.specs.NextInfos.{info_by}
 use Rattle.dkg_types.specs.PayloadCodes.{its_log}
 use Rattle.dkg_infos.specs.Validation.{validation}
-use Rattle.dkg_store.specs.Acts.{Held, OnDisk, Changes, World, says, does, after, notes}
+use Rattle.dkg_store.specs.Acts.{Held, OnDisk, Changes, World, says, does, held_after, notes}
 use Rattle.dkg_store.specs.Events.{event_spelling, IsEvent}
 use Rattle.dkg_store.specs.declared.event.Event.{Event}
 use Rattle.dkg_store.specs.declared.event.Event.TheVariants as events
@@ -61,8 +61,8 @@ use Rattle.dkg_secrets.proofs.Tried.{all_done}
 use Rattle.dkg_core.specs.Sources.{Tip, startup}
 use Rattle.dkg_core.specs.Courses.{Course, Say, Do, Call, Ask, Goes, Stops, Tracks, bind, Finishes}
 use Rattle.dkg_core.specs.Fixed.{Fixed, Material, OneShot, has, start}
-use Rattle.dkg_core.specs.Live.{Live, Records, Dealer, Seat, Plays, Watches, Stage, Deals, Includes, Follows, Ends, Request, Job, Verified, VerifiedLogs, Artifact, Message, Sent, Peer, Finalized, NextLog, ReleaseLog, EpochInfoOf, Feed, Over, Cancel, Work, awaited_height, recorded_at, of_epoch, phase_of, with_tip, with_participation, with_inclusion, with_queue, with_used, is_last_height}
-use Rattle.dkg_core.specs.Logs.{canonical, filled_by, is_accepted, log_event, logs_of, recorded_log}
+use Rattle.dkg_core.specs.Live.{Live, Records, Dealer, Seat, Plays, Watches, Stage, Deals, Includes, Follows, Ends, Request, Job, Verified, VerifiedLogs, Artifact, Message, Sent, Peer, Finalized, NextLog, ReleaseLog, EpochInfoOf, Feed, Over, Cancel, Work, awaited_height, recorded_at, records_of_epoch, phase_of, with_tip, with_participation, with_inclusion, with_queue, with_used, is_last_height}
+use Rattle.dkg_core.specs.Logs.{canonical, filled_by, is_accepted, carried_log_event, logs_of, recorded_log}
 use Rattle.dkg_core.specs.Setup as s
 use Rattle.dkg_core.specs.Dealing as d
 use Rattle.dkg_core.specs.Including as i
@@ -78,7 +78,7 @@ use Rattle.dkg_core.proofs.Keeping.{fold_silent, silent_whole}
 
 abbrev Lands : {Dir : Type 0} → Course Dir Fault (Live Dir) → Held → Type 0
 Lands (Say line course) h = Lands course h
-Lands (Do op course) h = Lands course (after op h)
+Lands (Do op course) h = Lands course (held_after op h)
 Lands (Call outer course) h = Lands course h
 Lands (Ask f) h = Lands (f h) h
 Lands (Goes st) h = AreAgreed st.records h
@@ -87,7 +87,7 @@ Lands (Stops fault) h = Unit {0}
 lands_bind : {Dir : Type 0} (course : Course Dir Fault (Live Dir)) (next : Live Dir → Course Dir Fault (Live Dir)) (h : Held) → Lands course h
     → ((st : Live Dir) (h : Held) → AreAgreed st.records h → Lands (next st) h) → Lands (bind course next) h
 lands_bind (Say line course) next h l more = lands_bind course next h l more
-lands_bind (Do op course) next h l more = lands_bind course next (after op h) l more
+lands_bind (Do op course) next h l more = lands_bind course next (held_after op h) l more
 lands_bind (Call outer course) next h l more = lands_bind course next h l more
 lands_bind (Ask f) next h l more = lands_bind (f h) next h l more
 lands_bind (Goes st) next h l more = more st h l
@@ -190,7 +190,7 @@ module _ (min : ℕ) (s t : Secrets) (halves : (k : ℕ × ℕ) → min ≤ k.0 
         | false ↦ λ is. whole_kept es all.1
       ] refl
 
-pruned : (r : Records) (min : ℕ) (h : Held) → AreAgreed r h → AreAgreed (s.records_from min r) (after (Changes (Prune min)) (after (OnDisk (Prunes min)) h))
+pruned : (r : Records) (min : ℕ) (h : Held) → AreAgreed r h → AreAgreed (s.records_from min r) (held_after (Changes (Prune min)) (held_after (OnDisk (Prunes min)) h))
 pruned r min h a =
     let t : Secrets = of_secrets.after (Prune min) h.secrets in
     let halves : (k : ℕ × ℕ) → min ≤ k.0 → get t.privates k ≡ get h.secrets.privates k = λ k above. prune_halves min h.secrets t k (all_done (Prune min) h.secrets t refl) above in
@@ -217,7 +217,7 @@ put_same m records k v same = ap (put key_cmp k v) same ∙ sym (entries-insert 
 module _ (epoch : ℕ) (h : Held) where
   -- an acknowledgement more
   ack_more : (r : Records) (player : ℕ) (ack : List ℕ) → IsEvent (events.Ack player ack) → recorded_at r.acks epoch player ≡ None → AreAgreed r h
-      → AreAgreed (record r { acks = put key_cmp (epoch, player) ack r.acks }) (after (OnDisk (Appends (epoch, event_spelling (events.Ack player ack)))) h)
+      → AreAgreed (record r { acks = put key_cmp (epoch, player) ack r.acks }) (held_after (OnDisk (Appends (epoch, event_spelling (events.Ack player ack)))) h)
   ack_more r player ack is none a =
       let e : SectionEntry = (epoch, event_spelling (events.Ack player ack)) in
       let silent : recorded_dealing e ≡ None = says_dealing epoch (events.Ack player ack) is in
@@ -231,23 +231,23 @@ module _ (epoch : ℕ) (h : Held) where
 
   -- a log more
   log_more : (r : Records) (log : SignedDealerLog) (height : ℕ) → IsEvent (events.LogAt log.dealer height log.log) → recorded_at r.logs epoch log.dealer ≡ None → AreAgreed r h
-      → AreAgreed (record r { logs = put key_cmp (epoch, log.dealer) (recorded_log height log.log) r.logs }) (after (OnDisk (Appends (epoch, event_spelling (log_event log.dealer height log.log)))) h)
+      → AreAgreed (record r { logs = put key_cmp (epoch, log.dealer) (recorded_log height log.log) r.logs }) (held_after (OnDisk (Appends (epoch, event_spelling (carried_log_event log.dealer height log.log)))) h)
   log_more r log height is none a =
-      let e : SectionEntry = (epoch, event_spelling (log_event log.dealer height log.log)) in
-      let silent : recorded_dealing e ≡ None = says_dealing epoch (log_event log.dealer height log.log) is in
+      let e : SectionEntry = (epoch, event_spelling (carried_log_event log.dealer height log.log)) in
+      let silent : recorded_dealing e ≡ None = says_dealing epoch (carried_log_event log.dealer height log.log) is in
       record {
         whole = silent_whole h.secrets e silent (notes h) a.whole;
         dealings = a.dealings ∙ ap maps.entries (sym (fold_silent h.secrets e silent (notes h) empty));
-        acks = a.acks ∙ ap maps.entries (sym (noted_silent noted_ack e (notes h) (says_ack epoch (log_event log.dealer height log.log) is)));
+        acks = a.acks ∙ ap maps.entries (sym (noted_silent noted_ack e (notes h) (says_ack epoch (carried_log_event log.dealer height log.log) is)));
         logs = put_same (logs_in (notes h)) r.logs (epoch, log.dealer) (recorded_log height log.log) a.logs
-            ∙ ap maps.entries (sym (noted_placed noted_log (epoch, log.dealer) (recorded_log height log.log) e (notes h) (says_log epoch (log_event log.dealer height log.log) is)
+            ∙ ap maps.entries (sym (noted_placed noted_log (epoch, log.dealer) (recorded_log height log.log) e (notes h) (says_log epoch (carried_log_event log.dealer height log.log) is)
             (unnoted (logs_in (notes h)) r.logs (epoch, log.dealer) a.logs none)));
       }
 
   -- a dealing more
   pub dealing_more : (r : Records) (dealer : ℕ) (public : List ℕ) (private : ℕ) → IsEvent (events.Dealing dealer public) → recorded_at r.dealings epoch dealer ≡ None → AreAgreed r h
       → AreAgreed (record r { dealings = put key_cmp (epoch, dealer) (public, private) r.dealings })
-      (after (OnDisk (Appends (epoch, event_spelling (events.Dealing dealer public)))) (after (Changes (PutDealing epoch dealer private)) h))
+      (held_after (OnDisk (Appends (epoch, event_spelling (events.Dealing dealer public)))) (held_after (Changes (PutDealing epoch dealer private)) h))
   dealing_more r dealer public private is none a =
       let e : SectionEntry = (epoch, event_spelling (events.Dealing dealer public)) in
       let fresh : get (recovered_in h) (epoch, dealer) ≡ None = unnoted (recovered_in h) r.dealings (epoch, dealer) a.dealings none in
@@ -265,7 +265,7 @@ module _ {Dir : Type 0} (c : Fixed Dir) where
   commits : (info : EpochInfo Dir) (seed : List ℕ) (share : Option ℕ) (st : Live Dir) (h : Held) → AreAgreed st.records h → Lands (s.commits info seed share st) h
   commits info seed None st h a = same_halves st.records h (of_secrets.after (PutSeed info.epoch seed) h.secrets) refl a
   commits info seed (Some share) st h a =
-      let shared : Held = after (Changes (PutShare info.epoch share)) h in
+      let shared : Held = held_after (Changes (PutShare info.epoch share)) h in
       same_halves st.records shared (of_secrets.after (PutSeed info.epoch seed) shared.secrets) refl (same_halves st.records h (of_secrets.after (PutShare info.epoch share) h.secrets) refl a)
 
   commits_new : (standing : s.Standing) (info : EpochInfo Dir) (seed : List ℕ) (share : Option ℕ) (st : Live Dir) (h : Held) → AreAgreed st.records h → Lands (s.commits_new standing c info seed share st) h
@@ -283,7 +283,7 @@ module _ {Dir : Type 0} (c : Fixed Dir) where
 
   makes_player : (round : Round) (phase : Phase) (dealer : Option Dealer) (st : Live Dir) (h : Held) → AreAgreed st.records h → Lands (s.makes_player c round phase dealer st) h
   makes_player round phase dealer st h a =
-      lands_if (not (has round.players c.me) || s.is_lost c round (of_epoch round.number st.records.dealings) (logs_of st round.number))
+      lands_if (not (has round.players c.me) || s.is_lost c round (records_of_epoch round.number st.records.dealings) (logs_of st round.number))
       (s.takes_part c round phase dealer Watches st) (s.sits_down c round phase dealer (s.refused_in c round st) st) h
       (λ e. takes_part round phase dealer Watches st h a) (λ e. sits_down round phase dealer (s.refused_in c round st) st h a)
 
@@ -314,14 +314,14 @@ module _ {Dir : Type 0} (c : Fixed Dir) where
       (λ e. a) (λ e. draws_up (s.participants_of info) (Some info.output) share seed st h a)))
 
   judged : (floor : Option ℕ) (standing : s.Standing) (info : EpochInfo Dir) (st : Live Dir) (valid : Result (Unit {0}) ParticipantsError) (h : Held) → AreAgreed st.records h
-      → Lands (s.judged c floor standing info st valid) h
+      → Lands (s.info_judged c floor standing info st valid) h
   judged floor standing info st (Err e) h a = tt
   judged floor standing info st (Ok passed) h a =
       with_share_and_seed floor standing info (s.recovered_share c (c.seen h) info) (s.seed_for c info.epoch (lookup info.epoch (c.seen h).seeds)) st h a
 
   with_info : (floor : Option ℕ) (standing : s.Standing) (info : EpochInfo Dir) (st : Live Dir) (h : Held) → AreAgreed st.records h → Lands (s.with_info c floor standing info st) h
   with_info floor standing info st h a =
-      lands_if (info.epoch == st.participation.epoch) (s.judged c floor standing info st (validation (s.participants_of info) c.limit (Some info.output) info.epoch)) (Stops (WrongEpoch st.participation.epoch info.epoch)) h
+      lands_if (info.epoch == st.participation.epoch) (s.info_judged c floor standing info st (validation (s.participants_of info) c.limit (Some info.output) info.epoch)) (Stops (WrongEpoch st.participation.epoch info.epoch)) h
       (λ e. judged floor standing info st (validation (s.participants_of info) c.limit (Some info.output) info.epoch) h a) (λ e. tt)
 
   from_boundary : (found : Option (Block Dir)) (st : Live Dir) (h : Held) → AreAgreed st.records h → Lands (s.from_boundary c found st) h
@@ -351,7 +351,7 @@ module _ {Dir : Type 0} (c : Fixed Dir) where
   gives request height (Some log) st h a = a
 
   -- how an artifact goes on
-  abbrev Each : Held → i.Next Dir → Type 0
+  abbrev Each : Held → i.Continuation Dir → Type 0
   Each h next = (made : Artifact Dir) (st : Live Dir) → AreAgreed st.records h → Lands (next made st) h
 
   with_directory : (info : EpochInfo Dir) (course : Course Dir Fault (Live Dir)) (h : Held) → Lands course h → Lands (i.with_directory c info course) h
@@ -370,32 +370,32 @@ module _ {Dir : Type 0} (c : Fixed Dir) where
       lands_if (nat_le (2 ^ 64) epoch) (Stops HeightRange) (if n == 0 then none else if nat_lt c.limit n then above else course) h (λ e. tt)
       (λ e. lands_if (n == 0) none (if nat_lt c.limit n then above else course) h (λ e. tt) (λ e. lands_if (nat_lt c.limit n) above course h (λ e. tt) (λ e. l)))
 
-  derives_next : (info : EpochInfo Dir) (r : VerifiedLogs) (st : Live Dir) (next : i.Next Dir) (h : Held) → AreAgreed st.records h → Each h next → Lands (i.derives_next c info r st next) h
+  derives_next : (info : EpochInfo Dir) (r : VerifiedLogs) (st : Live Dir) (next : i.Continuation Dir) (h : Held) → AreAgreed st.records h → Each h next → Lands (i.derives_next c info r st next) h
   derives_next info r st next h a each =
       let made = info_by c.provided info (option_map (λ found. found.output) r.result) in
       with_provided (info.epoch + 2) (i.share_by c info r.result (λ share. i.with_directory c made (next (record { info = Some made; share = share }) st))) h
       (share_by info r.result (λ share. i.with_directory c made (next (record { info = Some made; share = share }) st)) h
       (λ share. with_directory made (next (record { info = Some made; share = share }) st) h (each (record { info = Some made; share = share }) st a)))
 
-  once_with : (once : OneShot Dir) (output : Output) (share : Option ℕ) (st : Live Dir) (next : i.Next Dir) (h : Held) → AreAgreed st.records h → Each h next → Lands (i.oneshot_with c once output share st next) h
+  once_with : (once : OneShot Dir) (output : Output) (share : Option ℕ) (st : Live Dir) (next : i.Continuation Dir) (h : Held) → AreAgreed st.records h → Each h next → Lands (i.oneshot_with c once output share st next) h
   once_with once output None st next h a each = tt
   once_with once output (Some share) st next h a each =
       with_directory (i.oneshot_made once output) (next (record { info = Some (i.oneshot_made once output); share = Some share }) st) h (each (record { info = Some (i.oneshot_made once output); share = Some share }) st a)
 
-  derives : (once : Option (OneShot Dir)) (r : VerifiedLogs) (st : Live Dir) (next : i.Next Dir) (h : Held) → AreAgreed st.records h → Each h next → Lands (i.derives c once r st next) h
+  derives : (once : Option (OneShot Dir)) (r : VerifiedLogs) (st : Live Dir) (next : i.Continuation Dir) (h : Held) → AreAgreed st.records h → Each h next → Lands (i.derives c once r st next) h
   derives (Some once) r st next h a each =
-      lands_option r.result (λ found. i.oneshot_with c once found.output found.share st (i.keeping r.logs next)) (i.keeping r.logs next (record { info = None; share = None }) st) h
-      (λ found e. once_with once found.output found.share st (i.keeping r.logs next) h a (λ made st a. each made (i.with_cached r.logs made st) a))
+      lands_option r.result (λ found. i.oneshot_with c once found.output found.share st (i.keeping_artifact r.logs next)) (i.keeping_artifact r.logs next (record { info = None; share = None }) st) h
+      (λ found e. once_with once found.output found.share st (i.keeping_artifact r.logs next) h a (λ made st a. each made (i.with_cached r.logs made st) a))
       (λ e. each (record { info = None; share = None }) (i.with_cached r.logs (record { info = None; share = None }) st) a)
   derives None r st next h a each =
-      lands_option st.participation.current (λ info. i.derives_next c info r st (i.keeping r.logs next)) (Stops HeightRange) h
-      (λ info e. derives_next info r st (i.keeping r.logs next) h a (λ made st a. each made (i.with_cached r.logs made st) a)) (λ e. tt)
+      lands_option st.participation.current (λ info. i.derives_next c info r st (i.keeping_artifact r.logs next)) (Stops HeightRange) h
+      (λ info e. derives_next info r st (i.keeping_artifact r.logs next) h a (λ made st a. each made (i.with_cached r.logs made st) a)) (λ e. tt)
 
-  artifact_by : (r : VerifiedLogs) (cached : Option (Artifact Dir)) (st : Live Dir) (next : i.Next Dir) (h : Held) → AreAgreed st.records h → Each h next → Lands (i.artifact_by c r cached st next) h
+  artifact_by : (r : VerifiedLogs) (cached : Option (Artifact Dir)) (st : Live Dir) (next : i.Continuation Dir) (h : Held) → AreAgreed st.records h → Each h next → Lands (i.artifact_by c r cached st next) h
   artifact_by r (Some made) st next h a each = each made st a
   artifact_by r None st next h a each = derives c.oneshot r st next h a each
 
-  artifact : (r : VerifiedLogs) (st : Live Dir) (next : i.Next Dir) (h : Held) → AreAgreed st.records h → Each h next → Lands (i.artifact c r st next) h
+  artifact : (r : VerifiedLogs) (st : Live Dir) (next : i.Continuation Dir) (h : Held) → AreAgreed st.records h → Each h next → Lands (i.artifact c r st next) h
   artifact r st next h a each = artifact_by r (i.cached_for st.inclusion.cached r.logs) st next h a each
 
   starts_unless : (job : Job) (waiter refused : Option ℕ) (st : Live Dir) (h : Held) → AreAgreed st.records h → Lands (i.starts_unless job waiter refused st) h
@@ -408,7 +408,7 @@ module _ {Dir : Type 0} (c : Fixed Dir) where
   asks_for : (round : Round) (request : ℕ) (logs : LogMap) (cached : Option (Artifact Dir)) (retained : Option VerifiedLogs) (st : Live Dir) (h : Held) → AreAgreed st.records h
       → Lands (i.asks_for_by c round request logs cached retained st) h
   asks_for round request logs (Some made) retained st h a = a
-  asks_for round request logs None (Some r) st h a = artifact r st (i.answers c request) h a (λ made st a. a)
+  asks_for round request logs None (Some r) st h a = artifact r st (i.answers_request c request) h a (λ made st a. a)
   asks_for round request logs None None st h a = starts round logs (Some request) st h a
 
   fed : (round : Round) (request : ℕ) (st : Live Dir) (f : i.Fed) (h : Held) → AreAgreed st.records h → Lands (i.fed c round request st f) h
@@ -455,11 +455,11 @@ module _ {Dir : Type 0} (c : Fixed Dir) where
 
   completes : (r : VerifiedLogs) (st : Live Dir) (waiter : Option ℕ) (h : Held) → AreAgreed st.records h → Lands (i.completes_in c r st waiter) h
   completes r st None h a = a
-  completes r st (Some request) h a = artifact r st (λ made st. bind (i.answers c request made st) (λ st. Goes (i.retains c r st))) h a (λ made st a. a)
+  completes r st (Some request) h a = artifact r st (λ made st. bind (i.answers_request c request made st) (λ st. Goes (i.retains c r st))) h a (λ made st a. a)
 
   ends_verifying : (handed : Option VerifiedLogs) (st : Live Dir) (running : Option Job) (h : Held) → AreAgreed st.records h → Lands (i.ends_verifying_in c handed st running) h
   ends_verifying handed st None h a = a
-  ends_verifying handed st (Some job) h a = completes (i.result_of c handed job) st st.inclusion.waiter h a
+  ends_verifying handed st (Some job) h a = completes (i.job_result_of c handed job) st st.inclusion.waiter h a
 
   works : (handed : Option VerifiedLogs) (st : Live Dir) (h : Held) → AreAgreed st.records h → Lands (i.works c handed st) h
   works handed st h a =
@@ -542,8 +542,8 @@ module _ {Dir : Type 0} (c : Fixed Dir) where
 
     deals : (st : Live Dir) (h : Held) → ((dealer : Dealer) → st.participation.dealer ≡ Some dealer → IsEvent (events.Dealing c.me dealer.public)) → AreAgreed st.records h → Lands (d.deals c st) h
     deals st h is a =
-        rounds st (λ round. option_map_or (λ dealer. d.offers c round dealer.public (s.unsent round dealer) st) st.participation.dealer (Goes st)) h a
-        (λ round. lands_option st.participation.dealer (λ dealer. d.offers c round dealer.public (s.unsent round dealer) st) (Goes st) h (λ dealer e. offers round dealer.public (s.unsent round dealer) st h (is dealer e) a) (λ e. a))
+        rounds st (λ round. option_map_or (λ dealer. d.offers c round dealer.public (s.unsent_of_round round dealer) st) st.participation.dealer (Goes st)) h a
+        (λ round. lands_option st.participation.dealer (λ dealer. d.offers c round dealer.public (s.unsent_of_round round dealer) st) (Goes st) h (λ dealer e. offers round dealer.public (s.unsent_of_round round dealer) st h (is dealer e) a) (λ e. a))
 
   -- BLOCKS
 
@@ -555,7 +555,7 @@ module _ {Dir : Type 0} (c : Fixed Dir) where
     records_log : (epoch : ℕ) (log : SignedDealerLog) (st : Live Dir) (h : Held) → IsEvent (events.LogAt log.dealer block.height log.log) → AreAgreed st.records h → Lands (b.records_log epoch block.height log st) h
     records_log epoch log st h is a =
         lands_if (is_some (recorded_at st.records.logs epoch log.dealer)) (Goes st)
-        (d.appends epoch (log_event log.dealer block.height log.log) (Goes (b.with_log epoch log.dealer block.height log.log st))) h
+        (d.appends epoch (carried_log_event log.dealer block.height log.log) (Goes (b.with_log_at epoch log.dealer block.height log.log st))) h
         (λ e. a) (λ e. log_more epoch h st.records log block.height is (not_there (recorded_at st.records.logs epoch log.dealer) e) a)
 
     observes : (round : Round) (st : Live Dir) (log : Option SignedDealerLog) (h : Held) → ((found : SignedDealerLog) → log ≡ Some found → IsEvent (events.LogAt found.dealer block.height found.log))
@@ -598,7 +598,7 @@ module _ {Dir : Type 0} (c : Fixed Dir) where
         (λ e. lands_if (is_some made.info) omits (b.passes_on c block None st) h (λ e. tt) (λ e. passes_on None st h a))
         (λ e. carried (λ info. b.takes_over c block info (b.share_for c info made) st) h (λ info. takes_over info (b.share_for c info made) st h a))
 
-    derives_now : (round : Round) (logs : LogMap) (r : Option VerifiedLogs) (st : Live Dir) (h : Held) → AreAgreed st.records h → Lands (b.derives_now c round block logs r st) h
+    derives_now : (round : Round) (logs : LogMap) (r : Option VerifiedLogs) (st : Live Dir) (h : Held) → AreAgreed st.records h → Lands (b.derives_at_block c round block logs r st) h
     derives_now round logs (Some r) st h a = artifact r st (b.concludes c block) h a (λ made st a. concludes made st h a)
     derives_now round logs None st h a =
         let found = i.verified c (i.job_for c round logs st) in
@@ -693,22 +693,22 @@ module _ {Dir : Type 0} (c : Fixed Dir) where
   starts_from st (Some m) h a = starts_at m (c.source.by_digest m.floor.payload) (s.with_registered m.info.epoch (s.scheme_for c m.info (s.recovered_share c (c.seen h) m.info)) st) h a
 
   -- a change of the plan changes no entry
-  same_plan : (r : Records) (h : Held) (bytes : List ℕ) → AreAgreed r h → AreAgreed r (after (OnDisk (PutsPlan bytes)) h)
+  same_plan : (r : Records) (h : Held) (bytes : List ℕ) → AreAgreed r h → AreAgreed r (held_after (OnDisk (PutsPlan bytes)) h)
   same_plan r h bytes a = record { whole = a.whole; dealings = a.dealings; acks = a.acks; logs = a.logs }
 
-  no_plan : (r : Records) (h : Held) → AreAgreed r h → AreAgreed r (after (OnDisk ClearsPlan) h)
+  no_plan : (r : Records) (h : Held) → AreAgreed r h → AreAgreed r (held_after (OnDisk ClearsPlan) h)
   no_plan r h a = record { whole = a.whole; dealings = a.dealings; acks = a.acks; logs = a.logs }
 
   resolves : (st : Live Dir) (m : Option (Material Dir)) (h : Held) → AreAgreed st.records h → Lands (p.resolves_plan c (p.starts_from c st) m) h
   resolves st None h a = starts_from st None h a
   resolves st (Some m) h a =
-      lands_if (p.is_outdated c m) (Do (OnDisk ClearsPlan) (p.starts_from c st None)) (p.starts_from c st (Some m)) h (λ e. starts_from st None (after (OnDisk ClearsPlan) h) (no_plan st.records h a)) (λ e. starts_from st (Some m) h a)
+      lands_if (p.is_outdated c m) (Do (OnDisk ClearsPlan) (p.starts_from c st None)) (p.starts_from c st (Some m)) h (λ e. starts_from st None (held_after (OnDisk ClearsPlan) h) (no_plan st.records h a)) (λ e. starts_from st (Some m) h a)
 
-  in_range : (course : Course Dir Fault (Live Dir)) (h : Held) → Lands course h → Lands (p.in_range c course) h
+  in_range : (course : Course Dir Fault (Live Dir)) (h : Held) → Lands course h → Lands (p.stays_in_range c course) h
   in_range course h l = lands_if (option_map_or (λ t. s.is_past_range c (t.height + 1)) (start c) false) (Stops HeightRange) course h (λ e. tt) (λ e. l)
 
   abbrev next_of : Live Dir → Option (Material Dir) → Course Dir Fault (Live Dir)
-  next_of st found = p.in_range c (p.resolves_plan c (p.starts_from c st) found)
+  next_of st found = p.stays_in_range c (p.resolves_plan c (p.starts_from c st) found)
 
   goes : (st : Live Dir) (found : Option (Material Dir)) (h : Held) → AreAgreed st.records h → Lands (next_of st found) h
   goes st found h a = in_range (p.resolves_plan c (p.starts_from c st) found) h (resolves st found h a)
@@ -728,7 +728,7 @@ module _ {Dir : Type 0} (c : Fixed Dir) where
   finds st (Some m) h a =
       of_one_epoch m (if is_ok (all_of (p.material_at c (p.material_bytes c m))) then Do (OnDisk (PutsPlan (p.material_bytes c m))) (next_of st (Some m)) else Stops StateSyncMaterial) h
       (lands_if (is_ok (all_of (p.material_at c (p.material_bytes c m)))) (Do (OnDisk (PutsPlan (p.material_bytes c m))) (next_of st (Some m))) (Stops StateSyncMaterial) h
-      (λ e. goes st (Some m) (after (OnDisk (PutsPlan (p.material_bytes c m))) h) (same_plan st.records h (p.material_bytes c m) a)) (λ e. tt))
+      (λ e. goes st (Some m) (held_after (OnDisk (PutsPlan (p.material_bytes c m))) h) (same_plan st.records h (p.material_bytes c m) a)) (λ e. tt))
   finds st None h a = reads_plan st (c.seen h).plan h a
 
   ends_with : (st : Live Dir) (found : Option (Block Dir)) (h : Held) → AreAgreed st.records h → Lands (o.ends_with c st found) h
@@ -740,7 +740,7 @@ module _ {Dir : Type 0} (c : Fixed Dir) where
       lands_if (o.is_finished c st.tip share) (o.ends_with c st (c.source.block (last c.blocks_per_epoch 0))) (if o.is_refused c once then b.ends_once c None st else o.begins_once c once seed st) h
       (λ e. ends_with st (c.source.block (last c.blocks_per_epoch 0)) h a)
       (λ e. lands_if (o.is_refused c once) (b.ends_once c None st) (o.begins_once c once seed st) h (λ e. a)
-      (λ e. draws_up (o.participants_in once) None None seed (s.anew c st) (after (Changes (PutSeed 0 seed)) h) (same_halves st.records h (of_secrets.after (PutSeed 0 seed) h.secrets) refl a)))
+      (λ e. draws_up (o.participants_in once) None None seed (s.anew c st) (held_after (Changes (PutSeed 0 seed)) h) (same_halves st.records h (of_secrets.after (PutSeed 0 seed) h.secrets) refl a)))
 
   tracks_once : (once : OneShot Dir) (course : Course Dir Fault (Live Dir)) (h : Held) → Lands course h → Lands (o.tracks_once c once course) h
   tracks_once once course h l = lands_if (o.is_refused c once) course (Call (Tracks 0 (o.peers_in once) once.directory) course) h (λ e. l) (λ e. l)
@@ -763,6 +763,6 @@ setups_agree c material st end w new a done = lands_at (s.setup c material st) w
 
 pub openings_agree : {Dir : Type 0} → OpeningsAgree Dir
 openings_agree c end w new reads whole done =
-    let opened : Held = after (OnDisk (Opens c.opening_calls)) (after (OnDisk Bars) w.held) in
+    let opened : Held = held_after (OnDisk (Opens c.opening_calls)) (held_after (OnDisk Bars) w.held) in
     lands_at (opening c) w new end
     (opens c c.oneshot (begun_life (c.seen opened)) opened (record { whole = whole; dealings = reads.dealings opened; acks = reads.acks opened; logs = reads.logs opened })) done

@@ -19,7 +19,7 @@ use Rattle.dkg_core.specs.Live.{Live, Stage, Deals, Includes, Follows, Ends, awa
 use Rattle.dkg_core.specs.Setup as s
 use Rattle.dkg_core.specs.Blocks as b
 use Rattle.dkg_core.specs.Endings.{stage_in}
-use Rattle.dkg_core.specs.Forms.{IsLiveIn, Judged, Refusal, Passed, Applied, judged_over, judged_block, ComesOver}
+use Rattle.dkg_core.specs.Forms.{IsLiveIn, Judged, Refusal, Passed, Applied, judged_over_tip, judged_block, ComesOver}
 use Rattle.dkg_core.specs.Through.{unasked}
 use Rattle.dkg_core.proofs.Setups.{over_if}
 
@@ -38,7 +38,7 @@ module _ {Dir : Type 0} (c : Fixed Dir) (block : Block Dir) (st : Live Dir) wher
   next_of false false false true one two three e = absurd (let no : ◌≡◌ {A = Judged} Passed Applied = e in cc)
   next_of false false false false one two three e = (refl, refl)
 
-  applied_over : (tip : Option Tip) → st.tip ≡ tip → judged_over c block st tip ≡ Applied → (b.is_in_window c block st ≡ true) ⊎ (awaited_height st ≡ block.height)
+  applied_over : (tip : Option Tip) → st.tip ≡ tip → judged_over_tip c block st tip ≡ Applied → (b.is_in_window c block st ≡ true) ⊎ (awaited_height st ≡ block.height)
   applied_over None is e = inl (either (b.is_in_window c block st) e)
     where
       either : (t : Bool) → (if t then Applied else Refusal (OutOfWindow block.height)) ≡ Applied → t ≡ true
@@ -49,7 +49,7 @@ module _ {Dir : Type 0} (c : Fixed Dir) (block : Block Dir) (st : Live Dir) wher
       (nat_le block.height t.height) (ConflictingBlock block.height) (SkippedHeight (t.height + 1) block.height) (DetachedBlock block.height) e in
       inr (ap (λ (o : Option Tip). option_map_or (λ t. t.height + 1) o 0) is ∙ is_child block.height t.height tests.0 tests.1)
 
-  applied_where : (past : Bool) → (if past then Refusal HeightRange else judged_over c block st st.tip) ≡ Applied → (b.is_in_window c block st ≡ true) ⊎ (awaited_height st ≡ block.height)
+  applied_where : (past : Bool) → (if past then Refusal HeightRange else judged_over_tip c block st st.tip) ≡ Applied → (b.is_in_window c block st ≡ true) ⊎ (awaited_height st ≡ block.height)
   applied_where true e = absurd (let no : ◌≡◌ {A = Judged} (Refusal HeightRange) Applied = e in cc)
   applied_where false e = applied_over st.tip refl e
 
@@ -63,7 +63,7 @@ module _ {Dir : Type 0} (c : Fixed Dir) (block : Block Dir) (st : Live Dir) (C :
     (if_so : (t : Bool) (x y : Course Dir Fault (Live Dir)) → (t ≡ true → C x) → (t ≡ false → C y) → C (if t then x else y))
     (refused : (fault : Fault) → judged_block c block st ≡ Refusal fault → C (Stops fault)) (passed : judged_block c block st ≡ Passed → C (Goes st))
     (applied : judged_block c block st ≡ Applied → C (b.applies c block st)) (ended : st.participation.stage ≡ Ends → C (Goes st)) where
-  over_tip : (tip : Option Tip) → st.tip ≡ tip → judged_block c block st ≡ judged_over c block st tip → C (b.over_tip_in c block st tip)
+  over_tip : (tip : Option Tip) → st.tip ≡ tip → judged_block c block st ≡ judged_over_tip c block st tip → C (b.over_tip_in c block st tip)
   over_tip None is_tip r =
       if_so (b.is_in_window c block st) (b.applies c block st) (Stops (OutOfWindow block.height))
       (λ e. applied (r ∙ ap (λ (t : Bool). if t then Applied else Refusal (OutOfWindow block.height)) e))
@@ -95,8 +95,8 @@ module _ {Dir : Type 0} (c : Fixed Dir) (block : Block Dir) (st : Live Dir) (C :
   in_reach : C (if s.is_past_range c block.height then Stops HeightRange else b.over_tip c block st)
   in_reach =
       if_so (s.is_past_range c block.height) (Stops HeightRange) (b.over_tip c block st)
-      (λ e. refused HeightRange (ap (λ (x : Bool). if x then Refusal HeightRange else judged_over c block st st.tip) e))
-      (λ e. over_tip st.tip refl (ap (λ (x : Bool). if x then Refusal HeightRange else judged_over c block st st.tip) e))
+      (λ e. refused HeightRange (ap (λ (x : Bool). if x then Refusal HeightRange else judged_over_tip c block st st.tip) e))
+      (λ e. over_tip st.tip refl (ap (λ (x : Bool). if x then Refusal HeightRange else judged_over_tip c block st st.tip) e))
 
   by_stage : (stage : Stage) → st.participation.stage ≡ stage → C (b.delivers_in c block st stage)
   by_stage Deals is = in_reach

@@ -19,7 +19,7 @@ use Rattle.dkg_core.specs.Live.{Live, Verified, VerifiedLogs, Artifact, Cached}
 use Rattle.dkg_core.specs.Same.{same_logs}
 use Rattle.dkg_core.specs.Setup.{looks}
 use Rattle.dkg_core.specs.Including as i
-use Rattle.dkg_core.specs.Including.{Next, cached_for}
+use Rattle.dkg_core.specs.Including.{Continuation, cached_for}
 use Rattle.dkg_core.specs.Forms.{IsForm, ComesOver}
 use Rattle.dkg_core.specs.Asked.{OfShares, IsProvided, IsArtifactIn, IsResultIn, HasAsked, IsDeriveStop, IsMadeIn, ArtifactsLead}
 use Rattle.dkg_core.proofs.Counting.{some_is}
@@ -82,7 +82,7 @@ pub record IsOfCourses {Dir : Type 0} (c : Fixed Dir) (stored : OfShares) (stops
   pub reads : (f : Held → Course Dir Fault (Live Dir)) → ((h : Held) → ((epoch : ℕ) → stored epoch (lookup epoch (c.seen h).shares)) → C (f h)) → C (Ask f)
   pub stopped : (fault : Fault) → stops fault → C (Stops fault)
 
-module _ {Dir : Type 0} (c : Fixed Dir) (stored : OfShares) (round : Round) (info : EpochInfo Dir) (r : VerifiedLogs) (st : Live Dir) (next : Next Dir) (C : Course Dir Fault (Live Dir) → Type 0)
+module _ {Dir : Type 0} (c : Fixed Dir) (stored : OfShares) (round : Round) (info : EpochInfo Dir) (r : VerifiedLogs) (st : Live Dir) (next : Continuation Dir) (C : Course Dir Fault (Live Dir) → Type 0)
     (courses : IsOfCourses c stored (IsDeriveStop c round info st) C) (form : IsForm c) (asked : HasAsked c stored st)
     (of_epoch : st.participation.round ≡ Some round) (of_info : st.participation.current ≡ Some info) (result : IsResultIn c round st r)
     (so : (made : Artifact Dir) (at : Live Dir) → IsMadeIn c stored round info st r.logs made at → C (next made at)) where
@@ -141,9 +141,9 @@ module _ {Dir : Type 0} (c : Fixed Dir) (stored : OfShares) (round : Round) (inf
   epoch_is None = refl
   epoch_is (Some output) = refl
 
-  made_now : (share : Option ℕ) → (IsMatched → OfLogs r.logs (with_it share)) → C (i.with_directory c its_info (i.keeping r.logs next (with_it share) st))
+  made_now : (share : Option ℕ) → (IsMatched → OfLogs r.logs (with_it share)) → C (i.with_directory c its_info (i.keeping_artifact r.logs next (with_it share) st))
   made_now share of =
-      courses.if_so (c.directories.matches its_info.directory (i.info_peers its_info)) (i.keeping r.logs next (with_it share) st) (Stops (DirectoryMismatch its_info.epoch))
+      courses.if_so (c.directories.matches its_info.directory (i.info_peers its_info)) (i.keeping_artifact r.logs next (with_it share) st) (Stops (DirectoryMismatch its_info.epoch))
       (λ e. so (with_it share) (i.with_cached r.logs (with_it share) st) (record {
         artifact = of e;
         same = refl;
@@ -155,12 +155,12 @@ module _ {Dir : Type 0} (c : Fixed Dir) (stored : OfShares) (round : Round) (inf
         (r.logs, subst (λ (x : EpochInfo Dir). c.directories.matches x.directory (i.info_peers x) ≡ false) is_next e),
       ))
 
-  by_result : IsProvided c info → (found : Option Verified) → r.result ≡ found → C (i.share_by c info found (λ share. i.with_directory c its_info (i.keeping r.logs next (with_it share) st)))
+  by_result : IsProvided c info → (found : Option Verified) → r.result ≡ found → C (i.share_by c info found (λ share. i.with_directory c its_info (i.keeping_artifact r.logs next (with_it share) st)))
   by_result known (Some found) is = made_now found.share (of_verified known found is)
   by_result known None is =
-      courses.if_so (has info.output.players c.me) (looks c (λ s. i.with_directory c its_info (i.keeping r.logs next (with_it (lookup info.epoch s.shares)) st)))
-      (i.with_directory c its_info (i.keeping r.logs next (with_it None) st))
-      (λ e. courses.reads (λ h. i.with_directory c its_info (i.keeping r.logs next (with_it (lookup info.epoch (c.seen h).shares)) st))
+      courses.if_so (has info.output.players c.me) (looks c (λ s. i.with_directory c its_info (i.keeping_artifact r.logs next (with_it (lookup info.epoch s.shares)) st)))
+      (i.with_directory c its_info (i.keeping_artifact r.logs next (with_it None) st))
+      (λ e. courses.reads (λ h. i.with_directory c its_info (i.keeping_artifact r.logs next (with_it (lookup info.epoch (c.seen h).shares)) st))
       (λ h found. made_now (lookup info.epoch (c.seen h).shares)
       (of_failed known (lookup info.epoch (c.seen h).shares) is (λ plays. found info.epoch) (λ other. absurd (bool_apart (has info.output.players c.me) e other)))))
       (λ e. made_now None (of_failed known None is (λ plays. absurd (bool_apart (has info.output.players c.me) plays e)) (λ other. refl)))
@@ -168,9 +168,9 @@ module _ {Dir : Type 0} (c : Fixed Dir) (stored : OfShares) (round : Round) (inf
   abbrev count : ℕ
   count = length (c.provided.participants (info.epoch + 2))
 
-  derived : C (i.derives_next c info r st (i.keeping r.logs next))
+  derived : C (i.derives_next c info r st (i.keeping_artifact r.logs next))
   derived =
-      let acts : Course Dir Fault (Live Dir) = i.share_by c info r.result (λ share. i.with_directory c its_info (i.keeping r.logs next (with_it share) st)) in
+      let acts : Course Dir Fault (Live Dir) = i.share_by c info r.result (λ share. i.with_directory c its_info (i.keeping_artifact r.logs next (with_it share) st)) in
       let few : Course Dir Fault (Live Dir) = if nat_lt c.limit count then Stops (InvalidParticipants (ProviderAbove count c.limit)) else acts in
       let some : Course Dir Fault (Live Dir) = if count == 0 then Stops (InvalidParticipants ProviderEmpty) else few in
       courses.if_so (nat_le (2 ^ 64) (info.epoch + 2)) (Stops HeightRange) some
@@ -185,7 +185,7 @@ module _ {Dir : Type 0} (c : Fixed Dir) (stored : OfShares) (round : Round) (inf
   by_cached (Some made) is = so made st (record { artifact = cached_is c stored round info st asked of_epoch of_info r.logs made is; same = refl; is = is; all = all c stored round info st asked of_epoch of_info })
   by_cached None is =
       subst (λ (o : Option (OneShot Dir)). C (i.derives c o r st next)) (sym form.reshare)
-      (subst (λ (o : Option (EpochInfo Dir)). C (option_map_or (λ x. i.derives_next c x r st (i.keeping r.logs next)) o (Stops HeightRange))) (sym of_info) derived)
+      (subst (λ (o : Option (EpochInfo Dir)). C (option_map_or (λ x. i.derives_next c x r st (i.keeping_artifact r.logs next)) o (Stops HeightRange))) (sym of_info) derived)
 
   -- .. so it holds of the artifact's
   pub artifact_is : C (i.artifact c r st next)

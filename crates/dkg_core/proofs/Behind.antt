@@ -30,7 +30,7 @@ use Rattle.dkg_core.specs.Entering as half
 use Rattle.dkg_core.specs.Entering.{Half, HalfAnswer}
 use Rattle.dkg_core.specs.Node.{unless_once, kept_material}
 use Rattle.dkg_core.specs.Behind.{EndsBehind, IfEarly, IsAside, IsSameBeside, OnlySays, OpeningsRunBehind, OpeningsSayBehind, RunsBehind, SaidBehind, StepsRunBehind, StepsSayBehind}
-use Rattle.dkg_core.specs.Splitting.{IsEarly, named}
+use Rattle.dkg_core.specs.Splitting.{IsEarly, fault_named}
 use Rattle.dkg_core.proofs.Splitting.{runs_split, runs_under, said_split, said_under}
 
 -- COURSES THAT ONLY SAY
@@ -290,7 +290,7 @@ module _ {Dir : Type 0} (course : Course Dir Fault (Live Dir)) (next : Live Dir 
   ends_behind st (stopped stop) goes = tt
   ends_behind st (broken cause) goes = tt
 
-  early_behind : (its : Ended Fault (Live Dir)) (early ended : Ended NodeStop (Live Dir)) → early ≡ named Faulted its → IsEarly early ended → EndsBehind its ended
+  early_behind : (its : Ended Fault (Live Dir)) (early ended : Ended NodeStop (Live Dir)) → early ≡ fault_named Faulted its → IsEarly early ended → EndsBehind its ended
   early_behind (went st) (went end) ended is so = absurd so
   early_behind (went st) (stopped stop) ended is so = absurd (went_apart st stop (sym is))
   early_behind (went st) (broken cause) ended is so = absurd (went_unbroken st cause (sym is))
@@ -340,7 +340,7 @@ module _ {Dir : Type 0} (course : Course Dir Fault (Live Dir)) (next : Live Dir 
     })
   ]
     where
-      by_half : (st : Live Dir) (mid : World) (its : Ended Fault (Live Dir)) → went st ≡ named Faulted its → EndsSo course its w mid → EndsSo course (went st) w mid
+      by_half : (st : Live Dir) (mid : World) (its : Ended Fault (Live Dir)) → went st ≡ fault_named Faulted its → EndsSo course its w mid → EndsSo course (went st) w mid
       by_half st mid (went end) is run = subst (λ (x : Live Dir). EndsSo course (went x) w mid) (sym (same_end {F = NodeStop} st end is)) run
       by_half st mid (stopped fault) is run = absurd (went_apart st (Faulted fault) is)
       by_half st mid (broken cause) is run = absurd (went_unbroken {F = NodeStop} st cause is)
@@ -371,7 +371,7 @@ module _ {Dir : Type 0} (course : Course Dir Fault (Live Dir)) (next : Live Dir 
     })
   ]
     where
-      by_half : (st : Live Dir) (mid : List Line) (its : Ended Fault (Live Dir)) → went st ≡ named Faulted its → Said (on_devices course) its old mid → Said (on_devices course) (went st) old mid
+      by_half : (st : Live Dir) (mid : List Line) (its : Ended Fault (Live Dir)) → went st ≡ fault_named Faulted its → Said (on_devices course) its old mid → Said (on_devices course) (went st) old mid
       by_half st mid (went end) is said = subst (λ (x : Live Dir). Said (on_devices course) (went x) old mid) (sym (same_end {F = NodeStop} st end is)) said
       by_half st mid (stopped fault) is said = absurd (went_apart st (Faulted fault) is)
       by_half st mid (broken cause) is said = absurd (went_unbroken {F = NodeStop} st cause is)

@@ -102,7 +102,7 @@ module _ {Dir : Type 0} (c : Fixed Dir) (form : IsFormThrough c) (stored : OfSha
       by_result found (retains c found (with begun)).inclusion (ended.used ∙ used) (ended.queue ∙ queue) ended.has refl result
 
   derived : (i : Inclusion Dir) → i.used ≡ st.inclusion.used → i.queue ≡ st.inclusion.queue → HasAsked c stored (with i) → (retained : Option VerifiedLogs) → retained_for i.retained logs ≡ retained
-      → ComesOver FinalStop FinalTo (b.derives_now c round block logs retained (with i)) devices
+      → ComesOver FinalStop FinalTo (b.derives_at_block c round block logs retained (with i)) devices
   derived i used queue has (Some r) is =
       by_result r i used queue has (retained_logs i.retained logs r is) (of_round st (λ x. IsResultIn c x st r) round of_epoch (has.kept r (retained_is i.retained logs r is)))
   derived i used queue has None is = verifies i used queue has (if can_finish c round logs (with i) then refused_in c round (with i) else None) refl

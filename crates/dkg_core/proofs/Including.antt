@@ -10,13 +10,13 @@ use Rattle.dkg_infos.specs.declared.fault.Fault.{Fault}
 use Rattle.dkg_infos.specs.declared.info.EpochInfo.{EpochInfo}
 use Rattle.dkg_types.specs.PayloadCodes.{its_log}
 use Rattle.dkg_journal.specs.Operations.{Appends}
-use Rattle.dkg_store.specs.Acts.{Held, OnDisk, after}
+use Rattle.dkg_store.specs.Acts.{Held, OnDisk, held_after}
 use Rattle.dkg_store.specs.Events.{event_spelling}
 use Rattle.dkg_store.specs.Recorded.{Pair}
 use Rattle.dkg_core.specs.Courses.{Course, Goes, bind}
 use Rattle.dkg_core.specs.Fixed.{Fixed}
 use Rattle.dkg_core.specs.Live.{Live, Records, Dealer, Inclusion, Stage, Includes, Follows, Deals, recorded_at, phase_of, is_last_height, with_tip, with_inclusion, with_participation}
-use Rattle.dkg_core.specs.Logs.{is_accepted, log_event}
+use Rattle.dkg_core.specs.Logs.{is_accepted, carried_log_event}
 use Rattle.dkg_core.specs.Dealing as d
 use Rattle.dkg_core.specs.Including.{advanced}
 use Rattle.dkg_core.specs.Blocks as b
@@ -129,13 +129,13 @@ module _ {Dir : Type 0} (c : Fixed Dir) (round : Round) (block : Block Dir) (st 
   same_mine dealer e = (dealer, e, inl refl)
 
   of_log : (log : SignedDealerLog) (accepted kept own : Bool)
-      → IsObserved st (if accepted then (let now : Live Dir = if kept then st else b.with_log round.number log.dealer block.height log.log st in
+      → IsObserved st (if accepted then (let now : Live Dir = if kept then st else b.with_log_at round.number log.dealer block.height log.log st in
       if own then with_participation (record now.participation { dealer = option_map b.unoffered now.participation.dealer }) now else now) else st)
   of_log log true true true = made st.records refl (option_map b.unoffered st.participation.dealer) (unoffered_mine st.participation.dealer refl)
   of_log log true true false = made st.records refl st.participation.dealer same_mine
   of_log log true false true =
-      made (b.with_log round.number log.dealer block.height log.log st).records refl (option_map b.unoffered st.participation.dealer) (unoffered_mine st.participation.dealer refl)
-  of_log log true false false = made (b.with_log round.number log.dealer block.height log.log st).records refl st.participation.dealer same_mine
+      made (b.with_log_at round.number log.dealer block.height log.log st).records refl (option_map b.unoffered st.participation.dealer) (unoffered_mine st.participation.dealer refl)
+  of_log log true false false = made (b.with_log_at round.number log.dealer block.height log.log st).records refl st.participation.dealer same_mine
   of_log log false kept own = made st.records refl st.participation.dealer same_mine
 
   by_log : (found : Option SignedDealerLog) → IsObserved st (observed_log c round block st found)
@@ -147,17 +147,17 @@ module _ {Dir : Type 0} (c : Fixed Dir) (round : Round) (block : Block Dir) (st 
 
   -- The course touches the devices by one record at most.
   abbrev pub Few : Option Held → Option Held → Type 0
-  Few devices left = (left ≡ devices) ⊎ ((epoch : ℕ) × (bytes : List ℕ) × (left ≡ option_map (after (OnDisk (Appends (epoch, bytes)))) devices))
+  Few devices left = (left ≡ devices) ⊎ ((epoch : ℕ) × (bytes : List ℕ) × (left ≡ option_map (held_after (OnDisk (Appends (epoch, bytes)))) devices))
 
   abbrev pub Never : Fault → Type 0
   Never fault = ⊥
 
   log_comes : (devices : Option Held) (log : SignedDealerLog) (accepted kept : Bool)
-      → ComesOver {Dir = Dir} Never (λ end left. (end ≡ (if accepted then b.without_own_log c log.dealer (if kept then st else b.with_log round.number log.dealer block.height log.log st) else st)) × Few devices left)
-      (if accepted then bind (if kept then Goes st else d.appends round.number (log_event log.dealer block.height log.log) (Goes (b.with_log round.number log.dealer block.height log.log st)))
+      → ComesOver {Dir = Dir} Never (λ end left. (end ≡ (if accepted then b.without_own_log c log.dealer (if kept then st else b.with_log_at round.number log.dealer block.height log.log st) else st)) × Few devices left)
+      (if accepted then bind (if kept then Goes st else d.appends round.number (carried_log_event log.dealer block.height log.log) (Goes (b.with_log_at round.number log.dealer block.height log.log st)))
       (λ now. Goes (b.without_own_log c log.dealer now)) else Goes st) devices
   log_comes devices log true true = (refl, inl refl)
-  log_comes devices log true false = (refl, inr (round.number, event_spelling (log_event log.dealer block.height log.log), refl))
+  log_comes devices log true false = (refl, inr (round.number, event_spelling (carried_log_event log.dealer block.height log.log), refl))
   log_comes devices log false kept = (refl, inl refl)
 
   pub observes_comes : (devices : Option Held) (found : Option SignedDealerLog)

@@ -17,7 +17,7 @@ use Rattle.dkg_types.specs.declared.message.Message.{Message as Channel}
 use Rattle.dkg_types.specs.declared.message.Message.TheVariants.{Dealer as ADealing, Ack as AnAck}
 use Rattle.dkg_types.specs.MessageCodes.{message_at}
 use Rattle.dkg_journal.specs.Operations.{Appends, Journaled}
-use Rattle.dkg_store.specs.Acts.{Held, Operation, OnDisk, Changes, Cause, World, says, does, Tears, IsLeft, notes}
+use Rattle.dkg_store.specs.Acts.{Held, Operation, OnDisk, Changes, Cause, World, says, does, Tears, IsDiskLeft, notes}
 use Rattle.dkg_core.specs.Courses.{Course, Goes, Throughout, Finishes}
 use Rattle.dkg_store.specs.Events.{event_spelling, IsEvent}
 use Rattle.dkg_store.specs.declared.event.Event.TheVariants as events
@@ -45,7 +45,7 @@ nothing_more [] = refl
 nothing_more (x ∷ xs) = ap (λ ys. x ∷ ys) (nothing_more xs)
 
 -- what an append that was ended within leaves of the entries
-pub left_entries : (e : SectionEntry) (j new : Journaled) → IsLeft (Appends e) j new → (new.entries ≡ j.entries) ⊎ (new.entries ≡ placed j.entries e)
+pub left_entries : (e : SectionEntry) (j new : Journaled) → IsDiskLeft (Appends e) j new → (new.entries ≡ j.entries) ⊎ (new.entries ≡ placed j.entries e)
 left_entries e j new (inl is) = inl (ap (λ (x : Journaled). x.entries) is)
 left_entries e j new (inr (inl is)) = inr (ap (λ (x : Journaled). x.entries) is)
 left_entries e j new (inr (inr is)) = inl (ap (λ (x : Journaled). x.entries) is)

@@ -6,7 +6,7 @@ use Rattle.dkg_journal.specs.Records.{SectionEntry, from_section}
 use Rattle.dkg_ceremony.specs.Schedule.{epoch_of}
 use Rattle.dkg_journal.specs.Operations as of_journal
 use Rattle.dkg_journal.specs.Operations.{Bars, Opens, Appends, Prunes, PutsPlan, ClearsPlan, Journaled, InPart}
-use Rattle.dkg_store.specs.Acts.{Held, Operation, OnDisk, Changes, Cause, World, does, Tears, IsLeft, notes}
+use Rattle.dkg_store.specs.Acts.{Held, Operation, OnDisk, Changes, Cause, World, does, Tears, IsDiskLeft, notes}
 use Rattle.dkg_core.specs.Courses.{Deed}
 use Rattle.dkg_store.specs.Pairs.{Pairs, recovered}
 use Rattle.dkg_secrets.specs.Secrets.{Secrets, after, Tries}
@@ -46,7 +46,7 @@ secrets_at most (PutDealing epoch dealer private) past es s t k law tries above 
 secrets_at most (Prune min) past es s t k law tries above = recovered_at s t k es (prune_halves min s t k tries (omega arith))
 
 -- A prune that was ended within has come up to this minimum, or to one below it; or it had not begun.
-pruned_part : (most min : ℕ) (s : Secrets) (j new : Journaled) (k : ℕ × ℕ) → min ≤ most → IsLeft (Prunes min) j new → most ≤ k.0 → get (recovered new.entries s) k ≡ get (recovered j.entries s) k
+pruned_part : (most min : ℕ) (s : Secrets) (j new : Journaled) (k : ℕ × ℕ) → min ≤ most → IsDiskLeft (Prunes min) j new → most ≤ k.0 → get (recovered new.entries s) k ≡ get (recovered j.entries s) k
 pruned_part most min s j new k low (inl is) above = ap (λ (x : Journaled). get (recovered x.entries s) k) is
 pruned_part most min s j new k low (inr (inl is)) above = ap (λ (x : Journaled). get (recovered x.entries s) k) is ∙ pruned_at min j.entries s k (omega arith)
 pruned_part most min s j new k low (inr (inr part)) above =
@@ -58,7 +58,7 @@ by_both : (h k : Held) (key : ℕ × ℕ) → k.secrets ≡ h.secrets → get (r
 by_both h k key same is = ap (λ (s : Secrets). get (recovered (notes k) s) key) same ∙ is
 
 -- an opening changes no entry, wherever it ends
-opened_part : (op : of_journal.Operation) (s : Secrets) (j new : Journaled) (k : ℕ × ℕ) → (of_journal.after_operation op j).entries ≡ j.entries → (InPart op j new → new.entries ≡ j.entries) → IsLeft op j new
+opened_part : (op : of_journal.JournalOperation) (s : Secrets) (j new : Journaled) (k : ℕ × ℕ) → (of_journal.after_operation op j).entries ≡ j.entries → (InPart op j new → new.entries ≡ j.entries) → IsDiskLeft op j new
     → get (recovered new.entries s) k ≡ get (recovered j.entries s) k
 opened_part op s j new k kept part (inl is) = ap (λ (x : Journaled). get (recovered x.entries s) k) is
 opened_part op s j new k kept part (inr (inl is)) = ap (λ (x : Journaled). get (recovered x.entries s) k) is ∙ ap (λ (es : List SectionEntry). get (recovered es s) k) kept

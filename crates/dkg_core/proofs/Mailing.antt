@@ -19,7 +19,7 @@ use Rattle.dkg_core.specs.Laws.{IsAmong}
 use Rattle.dkg_core.specs.Endings.{stage_in}
 use Rattle.dkg_core.specs.Forms.{IsLiveIn, ComesOver}
 use Rattle.dkg_core.specs.Asked.{OfShares, ReadsShare, IsResultIn, InRound, FirstNeeds, HasAsked, IsAskStop, IsStarted, IsReadOn}
-use Rattle.dkg_core.specs.Through.{IsFormThrough, IsLiveThrough, IsTakenThrough, IsReadFrom, asked_by, cancelled, finished, waits_for, unasked}
+use Rattle.dkg_core.specs.Through.{IsFormThrough, IsLiveThrough, IsTakenThrough, IsReadFrom, asked_by, cancelled, verification_ended, waits_for, unasked}
 use Rattle.dkg_core.proofs.Advancing.{advances_lead, included, needs_again, read_again, requeued}
 use Rattle.dkg_core.proofs.Counting.{some_is}
 use Rattle.dkg_core.proofs.Including.{live_read, read_from}
@@ -225,7 +225,7 @@ module _ {Dir : Type 0} (c : Fixed Dir) (form : IsFormThrough c) (stored : OfSha
       subst (λ (x : VerifiedLogs). InRound st (λ round. IsResultIn c round st x)) (some_is its r e) (taken job runs (subst (λ (x : VerifiedLogs). is_of_job x job ≡ true) (sym (some_is its r e)) is))
 
   module _ (i : Inclusion Dir) (idle : i.running ≡ None) (queue : i.queue ≡ st.inclusion.queue) (used : i.used ≡ st.inclusion.used) (end : Live Dir) (its : IsReadOn c stored (at c st i) end) where
-    started : (job : Job) → InRound (at c st i) (λ round. IsStarted c round (at c st i) end job) → InRound (finished st) (λ round. IsStarted c round (finished st) end job)
+    started : (job : Job) → InRound (at c st i) (λ round. IsStarted c round (at c st i) end job) → InRound (verification_ended st) (λ round. IsStarted c round (verification_ended st) end job)
     started job by = (
       by.0,
       by.1,
@@ -233,7 +233,7 @@ module _ {Dir : Type 0} (c : Fixed Dir) (form : IsFormThrough c) (stored : OfSha
         request = by.2.request;
         among = subst (IsAmong by.2.request) queue by.2.among;
         found = by.2.found;
-        read = read_again c by.0 st (finished st).inclusion by.2.request ∙ sym (read_again c by.0 st i by.2.request) ∙ by.2.read;
+        read = read_again c by.0 st (verification_ended st).inclusion by.2.request ∙ sym (read_again c by.0 st i by.2.request) ∙ by.2.read;
         logs = by.2.logs;
         waits = by.2.waits;
         uncached = by.2.uncached;
@@ -241,7 +241,7 @@ module _ {Dir : Type 0} (c : Fixed Dir) (form : IsFormThrough c) (stored : OfSha
       },
     )
 
-    worked : IsReadFrom c (finished st) end
+    worked : IsReadFrom c (verification_ended st) end
     worked = record {
       same = its.same;
       used = its.used ∙ used;
@@ -252,10 +252,10 @@ module _ {Dir : Type 0} (c : Fixed Dir) (form : IsFormThrough c) (stored : OfSha
     }
 
   works : (handed : Option VerifiedLogs) → IsHanded c handed st → (running : Option Job) → st.inclusion.running ≡ running
-      → ComesOver AskStop (ReadTo (finished st)) (if is_some running then bind (inc.ends_verifying c handed st) (λ now. advanced c now) else Goes st) devices
+      → ComesOver AskStop (ReadTo (verification_ended st)) (if is_some running then bind (inc.ends_verifying c handed st) (λ now. advanced c now) else Goes st) devices
   works handed taken None none = (live, nothing, refl)
     where
-      nothing : IsReadFrom c (finished st) st
+      nothing : IsReadFrom c (verification_ended st) st
       nothing = record {
         same = refl;
         used = refl;
@@ -265,20 +265,20 @@ module _ {Dir : Type 0} (c : Fixed Dir) (form : IsFormThrough c) (stored : OfSha
         starts = λ job idle e. absurd (none_apart job (sym none ∙ e));
       }
   works handed taken (Some job) runs =
-      over_behind AskStop (λ end left. (left ≡ devices) × IsEndedIn c stored st end) (ReadTo (finished st)) (inc.ends_verifying c handed st) (λ now. advanced c now) devices
+      over_behind AskStop (λ end left. (left ≡ devices) × IsEndedIn c stored st end) (ReadTo (verification_ended st)) (inc.ends_verifying c handed st) (λ now. advanced c now) devices
       (verifying_ends c stored st devices form.form form.finishing reads live.informed has handed taken)
-      (λ end left its. subst (λ (l : Option Held). ComesOver AskStop (ReadTo (finished st)) (advanced c end) l) (sym its.0) (behind end its.1))
+      (λ end left its. subst (λ (l : Option Held). ComesOver AskStop (ReadTo (verification_ended st)) (advanced c end) l) (sym its.0) (behind end its.1))
     where
       by : (i : Inclusion Dir) → HasAsked c stored (at c st i) → i.running ≡ None → i.queue ≡ st.inclusion.queue → i.used ≡ st.inclusion.used
-          → ComesOver AskStop (ReadTo (finished st)) (advanced c (at c st i)) devices
+          → ComesOver AskStop (ReadTo (verification_ended st)) (advanced c (at c st i)) devices
       by i kept idle queue used =
-          over_as (IsAskStop c (at c st i)) AskStop (λ end left. (left ≡ devices) × IsReadOn c stored (at c st i) end) (ReadTo (finished st)) (advanced c (at c st i)) devices (λ fault stop. stop)
+          over_as (IsAskStop c (at c st i)) AskStop (λ end left. (left ≡ devices) × IsReadOn c stored (at c st i) end) (ReadTo (verification_ended st)) (advanced c (at c st i)) devices (λ fault stop. stop)
           (λ end left its. (live_read c stored (at c st i) end live.stands live.informed its.1, worked i idle queue used end its.1, its.0))
           (advances_lead c stored (at c st i) devices form.form (λ r e. reads) live.informed kept)
 
-      behind : (end : Live Dir) → IsEndedIn c stored st end → ComesOver AskStop (ReadTo (finished st)) (advanced c end) devices
+      behind : (end : Live Dir) → IsEndedIn c stored st end → ComesOver AskStop (ReadTo (verification_ended st)) (advanced c end) devices
       behind end its =
-          subst (λ (x : Live Dir). ComesOver AskStop (ReadTo (finished st)) (advanced c x) devices) (sym its.same)
+          subst (λ (x : Live Dir). ComesOver AskStop (ReadTo (verification_ended st)) (advanced c x) devices) (sym its.same)
           (by end.inclusion (subst (HasAsked c stored) its.same its.has) its.idle its.queue its.used)
 
   -- ANY OF THEM

@@ -12,7 +12,7 @@ use Rattle.dkg_core.specs.Live.{Live, Message, Sent, Peer, Finalized, NextLog, R
 use Rattle.dkg_core.specs.Core.{step}
 use Rattle.dkg_core.specs.Laws.{Law, Holds, PeerLine, peer_law, OtherLine, OfHalves, IsDealtToItself, IsOffered, other_law, reach_of}
 use Rattle.dkg_core.specs.Behind.{IsAside}
-use Rattle.dkg_core.specs.Transcripts.{lines_of}
+use Rattle.dkg_core.specs.Transcripts.{deed_lines}
 use Rattle.dkg_core.specs.Offering.{IsOfferOf, OffersAreDealt, NodeOffersAreDealt}
 use Rattle.dkg_core.proofs.Behind.{steps_say_behind}
 use Rattle.dkg_core.proofs.Hearing.{heard}
@@ -39,7 +39,7 @@ module _ {Dir : Type 0} (c : Fixed Dir) (st : Live Dir) (ended : Ended Fault (Li
       → Said (on_devices (step c message st)) ended old new → AddsDealt
   of_law law message so holds said =
       let front = lines_obey law [] (step c message st) ended old new holds said in
-      (lines_of front.deeds, front.added, all_lines law (IsOfferOf c st) so [] front.deeds front.obeys)
+      (deed_lines front.deeds, front.added, all_lines law (IsOfferOf c st) so [] front.deeds front.obeys)
 
   of_other : (message : Message Dir) → Holds (other_law c (IsDealtToItself c st) (IsOffered c st) (reach_of c message)) [] (step c message st) → Said (on_devices (step c message st)) ended old new → AddsDealt
   of_other message holds said = of_law (other_law c (IsDealtToItself c st) (IsOffered c st) (reach_of c message)) message (other_offers c (IsDealtToItself c st) st) holds said

@@ -18,7 +18,7 @@ use Rattle.dkg_infos.specs.declared.participants.ParticipantsError.{Participants
 use Rattle.dkg_types.specs.PayloadCodes.{its_log}
 use Rattle.dkg_infos.specs.Validation.{validation}
 use Rattle.dkg_journal.specs.Operations.{Bars, Opens, Appends, Prunes, PutsPlan, ClearsPlan}
-use Rattle.dkg_store.specs.Acts.{Held, Operation, OnDisk, Changes, after}
+use Rattle.dkg_store.specs.Acts.{Held, Operation, OnDisk, Changes, held_after}
 use Rattle.dkg_core.specs.Courses.{Course, Do, Call, Stops, Tracks, Deed, Said, Did, Called, deeds_of}
 use Rattle.dkg_store.specs.Recorded.{Pair, restored_of}
 use Rattle.dkg_secrets.specs.declared.secrets.SecretOp.TheVariants.{PutShare, PutSeed, PutDealing, Prune}
@@ -100,9 +100,9 @@ module _ {Dir : Type 0} (c : Fixed Dir) (law : Law Dir (Live Dir)) (Within : ℕ
       holds_if law past (p.is_outdated c m) (Do (OnDisk ClearsPlan) (p.starts_from c st None)) (p.starts_from c st (Some m)) (λ e. (r.operations past (OnDisk ClearsPlan) tt, starts_from _ st None)) (λ e. starts_from past st (Some m))
 
   abbrev next : Live Dir → Option (Material Dir) → Course Dir Fault (Live Dir)
-  next st found = p.in_range c (p.resolves_plan c (p.starts_from c st) found)
+  next st found = p.stays_in_range c (p.resolves_plan c (p.starts_from c st) found)
 
-  in_range : (past : List (Deed Dir)) (course : Course Dir Fault (Live Dir)) → Holds law past course → Holds law past (p.in_range c course)
+  in_range : (past : List (Deed Dir)) (course : Course Dir Fault (Live Dir)) → Holds law past course → Holds law past (p.stays_in_range c course)
   in_range past course h = holds_if law past (option_map_or (λ t. s.is_past_range c (t.height + 1)) (start c) false) (Stops HeightRange) course (λ e. tt) (λ e. h)
 
   goes : (past : List (Deed Dir)) (st : Live Dir) (found : Option (Material Dir)) → Holds law past (next st found)
@@ -178,6 +178,6 @@ openings_prune c most starts =
 
 pub openings_restore : {Dir : Type 0} → OpeningsRestore Dir
 openings_restore c h reads =
-    let opened : Held = after (OnDisk (Opens c.opening_calls)) (after (OnDisk Bars) h) in
+    let opened : Held = held_after (OnDisk (Opens c.opening_calls)) (held_after (OnDisk Bars) h) in
     let rest = deeds_of (opens_in c c.oneshot (begun_life (c.seen opened))) opened in
     (rest, ap (λ (dealings : List Pair). Did (OnDisk Bars) ∷ Did (OnDisk (Opens c.opening_calls)) ∷ Said (Opened c.life (map restored_of dealings)) ∷ rest) (reads.dealings opened))

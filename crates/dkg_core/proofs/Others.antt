@@ -33,7 +33,7 @@ use Rattle.dkg_secrets.specs.declared.secrets.SecretOp.TheVariants.{PutShare, Pu
 use Rattle.dkg_core.specs.Sources.{Tip}
 use Rattle.dkg_core.specs.Fixed.{Fixed, OneShot, has}
 use Rattle.dkg_core.specs.Live.{Live, Dealer, Seat, Plays, Watches, Stage, Deals, Includes, Follows, Ends, Request, Job, Verified, VerifiedLogs, Artifact, Sent, Peer, Finalized, NextLog, ReleaseLog, EpochInfoOf, Feed, Over, Cancel, Work, awaited_height, recorded_at, with_tip, with_inclusion, with_queue, with_used, is_last_height}
-use Rattle.dkg_core.specs.Logs.{canonical, filled_by, is_accepted, log_event}
+use Rattle.dkg_core.specs.Logs.{canonical, filled_by, is_accepted, carried_log_event}
 use Rattle.dkg_core.specs.Setup as s
 use Rattle.dkg_core.specs.Dealing as d
 use Rattle.dkg_core.specs.Including as i
@@ -89,32 +89,32 @@ module _ {Dir : Type 0} (c : Fixed Dir) (own : OfHalves) (offered : OfOffers) (m
       holds_if law past (nat_le (2 ^ 64) epoch) (Stops HeightRange) (if n == 0 then empty else if nat_lt c.limit n then above else acts) (λ e. tt)
       (λ e. holds_if law past (n == 0) empty (if nat_lt c.limit n then above else acts) (λ e. tt) (λ e. holds_if law past (nat_lt c.limit n) above acts (λ e. tt) (λ e. h)))
 
-  derives_next : (past : List (Deed Dir)) (info : EpochInfo Dir) (r : VerifiedLogs) (st : Live Dir) (next : i.Next Dir) → ((made : Artifact Dir) (st : Live Dir) → Holds law past (next made st)) → Holds law past (i.derives_next c info r st next)
+  derives_next : (past : List (Deed Dir)) (info : EpochInfo Dir) (r : VerifiedLogs) (st : Live Dir) (next : i.Continuation Dir) → ((made : Artifact Dir) (st : Live Dir) → Holds law past (next made st)) → Holds law past (i.derives_next c info r st next)
   derives_next past info r st next each =
       let made = info_by c.provided info (option_map (λ found. found.output) r.result) in
       with_provided past (info.epoch + 2) (i.share_by c info r.result (λ share. i.with_directory c made (next (record { info = Some made; share = share }) st)))
       (share_by past info r.result (λ share. i.with_directory c made (next (record { info = Some made; share = share }) st))
       (λ share. with_directory past made (next (record { info = Some made; share = share }) st) (each (record { info = Some made; share = share }) st)))
 
-  once_with : (past : List (Deed Dir)) (o : OneShot Dir) (output : Output) (share : Option ℕ) (st : Live Dir) (next : i.Next Dir) → ((made : Artifact Dir) (st : Live Dir) → Holds law past (next made st)) → Holds law past (i.oneshot_with c o output share st next)
+  once_with : (past : List (Deed Dir)) (o : OneShot Dir) (output : Output) (share : Option ℕ) (st : Live Dir) (next : i.Continuation Dir) → ((made : Artifact Dir) (st : Live Dir) → Holds law past (next made st)) → Holds law past (i.oneshot_with c o output share st next)
   once_with past o output None st next each = tt
   once_with past o output (Some share) st next each =
       with_directory past (i.oneshot_made o output) (next (record { info = Some (i.oneshot_made o output); share = Some share }) st) (each (record { info = Some (i.oneshot_made o output); share = Some share }) st)
 
-  derives : (past : List (Deed Dir)) (o : Option (OneShot Dir)) (r : VerifiedLogs) (st : Live Dir) (next : i.Next Dir) → ((made : Artifact Dir) (st : Live Dir) → Holds law past (next made st)) → Holds law past (i.derives c o r st next)
+  derives : (past : List (Deed Dir)) (o : Option (OneShot Dir)) (r : VerifiedLogs) (st : Live Dir) (next : i.Continuation Dir) → ((made : Artifact Dir) (st : Live Dir) → Holds law past (next made st)) → Holds law past (i.derives c o r st next)
   derives past (Some o) r st next each =
-      holds_option law past r.result (λ found. i.oneshot_with c o found.output found.share st (i.keeping r.logs next)) (i.keeping r.logs next (record { info = None; share = None }) st)
-      (λ found e. once_with past o found.output found.share st (i.keeping r.logs next) (λ made st. each made (i.with_cached r.logs made st)))
+      holds_option law past r.result (λ found. i.oneshot_with c o found.output found.share st (i.keeping_artifact r.logs next)) (i.keeping_artifact r.logs next (record { info = None; share = None }) st)
+      (λ found e. once_with past o found.output found.share st (i.keeping_artifact r.logs next) (λ made st. each made (i.with_cached r.logs made st)))
       (λ e. each (record { info = None; share = None }) (i.with_cached r.logs (record { info = None; share = None }) st))
   derives past None r st next each =
-      holds_option law past st.participation.current (λ info. i.derives_next c info r st (i.keeping r.logs next)) (Stops HeightRange)
-      (λ info e. derives_next past info r st (i.keeping r.logs next) (λ made st. each made (i.with_cached r.logs made st))) (λ e. tt)
+      holds_option law past st.participation.current (λ info. i.derives_next c info r st (i.keeping_artifact r.logs next)) (Stops HeightRange)
+      (λ info e. derives_next past info r st (i.keeping_artifact r.logs next) (λ made st. each made (i.with_cached r.logs made st))) (λ e. tt)
 
-  artifact_by : (past : List (Deed Dir)) (r : VerifiedLogs) (cached : Option (Artifact Dir)) (st : Live Dir) (next : i.Next Dir) → ((made : Artifact Dir) (st : Live Dir) → Holds law past (next made st)) → Holds law past (i.artifact_by c r cached st next)
+  artifact_by : (past : List (Deed Dir)) (r : VerifiedLogs) (cached : Option (Artifact Dir)) (st : Live Dir) (next : i.Continuation Dir) → ((made : Artifact Dir) (st : Live Dir) → Holds law past (next made st)) → Holds law past (i.artifact_by c r cached st next)
   artifact_by past r (Some made) st next each = each made st
   artifact_by past r None st next each = derives past c.oneshot r st next each
 
-  artifact : (past : List (Deed Dir)) (r : VerifiedLogs) (st : Live Dir) (next : i.Next Dir) → ((made : Artifact Dir) (st : Live Dir) → Holds law past (next made st)) → Holds law past (i.artifact c r st next)
+  artifact : (past : List (Deed Dir)) (r : VerifiedLogs) (st : Live Dir) (next : i.Continuation Dir) → ((made : Artifact Dir) (st : Live Dir) → Holds law past (next made st)) → Holds law past (i.artifact c r st next)
   artifact past r st next each = artifact_by past r (i.cached_for st.inclusion.cached r.logs) st next each
 
   -- ANSWERS
@@ -128,10 +128,10 @@ module _ {Dir : Type 0} (c : Fixed Dir) (own : OfHalves) (offered : OfOffers) (m
 
   asks_for_by : (past : List (Deed Dir)) (round : Round) (request : ℕ) (logs : LogMap) (cached : Option (Artifact Dir)) (retained : Option VerifiedLogs) (st : Live Dir) → Holds law past (i.asks_for_by c round request logs cached retained st)
   asks_for_by past round request logs (Some made) retained st = (tt, tt)
-  asks_for_by past round request logs None (Some r) st = artifact past r st (i.answers c request) (λ made st. (tt, tt))
+  asks_for_by past round request logs None (Some r) st = artifact past r st (i.answers_request c request) (λ made st. (tt, tt))
   asks_for_by past round request logs None None st = starts past round logs (Some request) st
 
-  asks_for : (past : List (Deed Dir)) (round : Round) (request : ℕ) (logs : LogMap) (st : Live Dir) → Holds law past (i.asks_for c round request logs st)
+  asks_for : (past : List (Deed Dir)) (round : Round) (request : ℕ) (logs : LogMap) (st : Live Dir) → Holds law past (i.asks_logs c round request logs st)
   asks_for past round request logs st = asks_for_by past round request logs (i.cached_for st.inclusion.cached logs) (i.retained_for st.inclusion.retained logs) st
 
   fed : (past : List (Deed Dir)) (round : Round) (request : ℕ) (st : Live Dir) (f : i.Fed) → Holds law past (i.fed c round request st f)
@@ -173,11 +173,11 @@ module _ {Dir : Type 0} (c : Fixed Dir) (own : OfHalves) (offered : OfOffers) (m
   completes : (past : List (Deed Dir)) (r : VerifiedLogs) (st : Live Dir) (waiter : Option ℕ) → Holds law past (i.completes_in c r st waiter)
   completes past r st None = tt
   completes past r st (Some request) =
-      artifact past r st (λ made st. bind (i.answers c request made st) (λ st. Goes (i.retains c r st))) (λ made st. (tt, tt))
+      artifact past r st (λ made st. bind (i.answers_request c request made st) (λ st. Goes (i.retains c r st))) (λ made st. (tt, tt))
 
   ends_verifying : (past : List (Deed Dir)) (handed : Option VerifiedLogs) (st : Live Dir) (running : Option Job) → Holds law past (i.ends_verifying_in c handed st running)
   ends_verifying past handed st None = tt
-  ends_verifying past handed st (Some job) = completes past (i.result_of c handed job) st st.inclusion.waiter
+  ends_verifying past handed st (Some job) = completes past (i.job_result_of c handed job) st st.inclusion.waiter
 
   works : (past : List (Deed Dir)) (handed : Option VerifiedLogs) (st : Live Dir) → Holds law past (i.works c handed st)
   works past handed st =
@@ -229,13 +229,13 @@ module _ {Dir : Type 0} (c : Fixed Dir) (own : OfHalves) (offered : OfOffers) (m
 
   -- what this node's dealer deals to itself is its own
   abbrev Owns : Live Dir → Type 0
-  Owns st = (round : Round) (dealer : Dealer) → st.participation.round ≡ Some round → st.participation.dealer ≡ Some dealer → AreOwn round dealer.public (s.unsent round dealer)
+  Owns st = (round : Round) (dealer : Dealer) → st.participation.round ≡ Some round → st.participation.dealer ≡ Some dealer → AreOwn round dealer.public (s.unsent_of_round round dealer)
 
   deals : (past : List (Deed Dir)) (st : Live Dir) → Owns st → Holds law past (d.deals c st)
   deals past st owns =
-      holds_option law past st.participation.round (λ round. option_map_or (λ dealer. d.offers c round dealer.public (s.unsent round dealer) st) st.participation.dealer (Goes st)) (Goes st)
-      (λ round is_round. holds_option law past st.participation.dealer (λ dealer. d.offers c round dealer.public (s.unsent round dealer) st) (Goes st)
-      (λ dealer is_dealer. offers round dealer.public (s.unsent round dealer) past st (owns round dealer is_round is_dealer)) (λ e. tt)) (λ e. tt)
+      holds_option law past st.participation.round (λ round. option_map_or (λ dealer. d.offers c round dealer.public (s.unsent_of_round round dealer) st) st.participation.dealer (Goes st)) (Goes st)
+      (λ round is_round. holds_option law past st.participation.dealer (λ dealer. d.offers c round dealer.public (s.unsent_of_round round dealer) st) (Goes st)
+      (λ dealer is_dealer. offers round dealer.public (s.unsent_of_round round dealer) past st (owns round dealer is_round is_dealer)) (λ e. tt)) (λ e. tt)
 
 -- SETUP
 
@@ -289,7 +289,7 @@ module _ {Dir : Type 0} (c : Fixed Dir) (own : OfHalves) (offered : OfOffers) (b
   records_log : (past : List (Deed Dir)) (epoch : ℕ) (log : SignedDealerLog) (st : Live Dir) → Holds of_block past (b.records_log epoch block.height log st)
   records_log past epoch log st =
       holds_if of_block past (is_some (recorded_at st.records.logs epoch log.dealer)) (Goes st)
-      (d.appends epoch (log_event log.dealer block.height log.log) (Goes (b.with_log epoch log.dealer block.height log.log st))) (λ e. tt) (λ e. (tt, tt))
+      (d.appends epoch (carried_log_event log.dealer block.height log.log) (Goes (b.with_log_at epoch log.dealer block.height log.log st))) (λ e. tt) (λ e. (tt, tt))
 
   observes : (past : List (Deed Dir)) (round : Round) (st : Live Dir) (log : Option SignedDealerLog) → Holds of_block past (b.observes c round block st log)
   observes past round st None = tt
@@ -335,7 +335,7 @@ module _ {Dir : Type 0} (c : Fixed Dir) (own : OfHalves) (offered : OfOffers) (b
       (λ e. holds_if of_block past (is_some made.info) omits (b.passes_on c block None st) (λ e. tt) (λ e. passes_on past None st))
       (λ e. carried past (λ info. b.takes_over c block info (b.share_for c info made) st) (λ info. takes_over past info (b.share_for c info made) st))
 
-  derives_now : (past : List (Deed Dir)) (round : Round) (logs : LogMap) (r : Option VerifiedLogs) (st : Live Dir) → Holds of_block past (b.derives_now c round block logs r st)
+  derives_now : (past : List (Deed Dir)) (round : Round) (logs : LogMap) (r : Option VerifiedLogs) (st : Live Dir) → Holds of_block past (b.derives_at_block c round block logs r st)
   derives_now past round logs (Some r) st = artifact c own offered reach past r st (b.concludes c block) (λ made st. concludes past made st)
   derives_now past round logs None st =
       let found = i.verified c (i.job_for c round logs st) in
@@ -426,7 +426,7 @@ owns c st most round dealer is_round is_dealer =
         other = other;
       }),
     ))
-    (s.unsent round dealer) (are_unsent dealer.acks dealer.privates round.players)
+    (s.unsent_of_round round dealer) (are_unsent dealer.acks dealer.privates round.players)
 
 pub others_acknowledge_nothing : {Dir : Type 0} → OthersAcknowledgeNothing Dir
 others_acknowledge_nothing c st (Finalized block) other = delivers c (IsDealtToItself c st) (IsOffered c st) block [] st st.participation.stage (owns c st (reach c (IsDealtToItself c st) (IsOffered c st) block))

@@ -16,7 +16,7 @@ use Rattle.dkg_infos.specs.declared.info.EpochInfo.{EpochInfo}
 use Rattle.dkg_store.specs.Acts.{Held}
 use Rattle.dkg_core.specs.Courses.{Course, Goes, Stops, bind}
 use Rattle.dkg_core.specs.Fixed.{Fixed, OneShot}
-use Rattle.dkg_core.specs.Live.{Live, Inclusion, Request, Artifact, Told, GaveNone, is_last_height, with_tip, with_participation, with_inclusion, with_told}
+use Rattle.dkg_core.specs.Live.{Live, Inclusion, Request, Artifact, RequestAnswer, GaveNone, is_last_height, with_tip, with_participation, with_inclusion, with_told}
 use Rattle.dkg_core.specs.Setup as s
 use Rattle.dkg_core.specs.Blocks as b
 use Rattle.dkg_core.specs.Laws.{IsAmong}
@@ -79,46 +79,46 @@ module _ {Dir : Type 0} (c : Fixed Dir) (stored : OfShares) where
 -- ANSWERING WHAT IS LEFT
 
 -- this number was told last that the epoch has finished
-abbrev IsToldOver : {Dir : Type 0} → List (ℕ × Told Dir) → ℕ → Type 0
+abbrev IsToldOver : {Dir : Type 0} → List (ℕ × RequestAnswer Dir) → ℕ → Type 0
 IsToldOver told number = lookup number told ≡ Some (GaveNone Finished)
 
 -- .. each of these
-abbrev pub AreToldOver : {Dir : Type 0} → List (Request Dir) → List (ℕ × Told Dir) → Type 0
+abbrev pub AreToldOver : {Dir : Type 0} → List (Request Dir) → List (ℕ × RequestAnswer Dir) → Type 0
 AreToldOver {Dir} queue told = (r : Request Dir) → IsAmong r queue → IsToldOver told r.number
 
 -- .. and it stays so where another is told so
-told_on : {Dir : Type 0} (told : List (ℕ × Told Dir)) (other number : ℕ) → IsToldOver told number → IsToldOver {Dir = Dir} ((other, GaveNone Finished) ∷ told) number
+told_on : {Dir : Type 0} (told : List (ℕ × RequestAnswer Dir)) (other number : ℕ) → IsToldOver told number → IsToldOver {Dir = Dir} ((other, GaveNone Finished) ∷ told) number
 told_on {Dir} told other number is = either (other == number)
   where
-    either : (t : Bool) → ◌≡◌ {A = Option (Told Dir)} (if t then Some (GaveNone Finished) else lookup number told) (Some (GaveNone Finished))
+    either : (t : Bool) → ◌≡◌ {A = Option (RequestAnswer Dir)} (if t then Some (GaveNone Finished) else lookup number told) (Some (GaveNone Finished))
     either true = refl
     either false = is
 
-told_now : {Dir : Type 0} (told : List (ℕ × Told Dir)) (number : ℕ) → IsToldOver {Dir = Dir} ((number, GaveNone Finished) ∷ told) number
+told_now : {Dir : Type 0} (told : List (ℕ × RequestAnswer Dir)) (number : ℕ) → IsToldOver {Dir = Dir} ((number, GaveNone Finished) ∷ told) number
 told_now {Dir} told number = either (number == number) (equal_number number number refl)
   where
-    either : (t : Bool) → t ≡ true → ◌≡◌ {A = Option (Told Dir)} (if t then Some (GaveNone Finished) else lookup number told) (Some (GaveNone Finished))
+    either : (t : Bool) → t ≡ true → ◌≡◌ {A = Option (RequestAnswer Dir)} (if t then Some (GaveNone Finished) else lookup number told) (Some (GaveNone Finished))
     either true e = refl
     either false e = absurd (let no : ◌≡◌ {A = Bool} false true = e in cc)
 
 module _ {Dir : Type 0} (stops : Fault → Type 0) (goes : Live Dir → Option Held → Type 0) (devices : Option Held) (next : Live Dir → Course Dir Fault (Live Dir)) where
-  abbrev Next : Live Dir → List (ℕ × Told Dir) → Type 0
+  abbrev Next : Live Dir → List (ℕ × RequestAnswer Dir) → Type 0
   Next now told = ComesOver stops goes (next (with_inclusion (record now.inclusion { queue = []; told = told }) now)) devices
 
   -- what was told stays
   answers_on : (queue : List (Request Dir)) (now : Live Dir)
-      → ((told : List (ℕ × Told Dir)) → ((number : ℕ) → IsToldOver now.inclusion.told number → IsToldOver told number) → AreToldOver queue told → Next now told)
+      → ((told : List (ℕ × RequestAnswer Dir)) → ((number : ℕ) → IsToldOver now.inclusion.told number → IsToldOver told number) → AreToldOver queue told → Next now told)
       → ComesOver stops goes (bind (b.answers_all queue now) next) devices
   answers_on [] now so = so now.inclusion.told (λ number is. is) (λ r among. absurd among)
   answers_on (r ∷ rs) now so =
       answers_on rs (with_told r.number (GaveNone Finished) now)
       (λ told stays rest. so told (λ number is. stays number (told_on now.inclusion.told r.number number is)) (each told stays rest))
     where
-      each : (told : List (ℕ × Told Dir)) → ((number : ℕ) → IsToldOver {Dir = Dir} ((r.number, GaveNone Finished) ∷ now.inclusion.told) number → IsToldOver told number) → AreToldOver rs told → AreToldOver (r ∷ rs) told
+      each : (told : List (ℕ × RequestAnswer Dir)) → ((number : ℕ) → IsToldOver {Dir = Dir} ((r.number, GaveNone Finished) ∷ now.inclusion.told) number → IsToldOver told number) → AreToldOver rs told → AreToldOver (r ∷ rs) told
       each told stays rest x (inl same) = subst (λ (y : Request Dir). IsToldOver told y.number) same (stays r.number (told_now now.inclusion.told r.number))
       each told stays rest x (inr more) = rest x more
 
-  pub answers_all : (queue : List (Request Dir)) (now : Live Dir) → ((told : List (ℕ × Told Dir)) → AreToldOver queue told → Next now told) → ComesOver stops goes (bind (b.answers_all queue now) next) devices
+  pub answers_all : (queue : List (Request Dir)) (now : Live Dir) → ((told : List (ℕ × RequestAnswer Dir)) → AreToldOver queue told → Next now told) → ComesOver stops goes (bind (b.answers_all queue now) next) devices
   answers_all queue now so = answers_on queue now (λ told stays all. so told all)
 
 -- A LAST BLOCK

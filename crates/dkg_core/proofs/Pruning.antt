@@ -17,7 +17,7 @@ use Rattle.dkg_infos.specs.declared.participants.ParticipantsError.{Participants
 use Rattle.dkg_infos.specs.Validation.{validation}
 use Rattle.dkg_core.specs.Courses.{Stops, bind, Deed}
 use Rattle.dkg_core.specs.Fixed.{Fixed, has}
-use Rattle.dkg_core.specs.Live.{Live, Dealer, Watches, awaited_height, phase_of, of_epoch}
+use Rattle.dkg_core.specs.Live.{Live, Dealer, Watches, awaited_height, phase_of, records_of_epoch}
 use Rattle.dkg_core.specs.Logs.{logs_of}
 use Rattle.dkg_core.specs.Setup as s
 use Rattle.dkg_core.specs.Laws.{Law, Holds, IsSilent, PrunesAtMost, prune_law, SetupsPrune}
@@ -34,7 +34,7 @@ module _ {Dir : Type 0} (c : Fixed Dir) (epoch : ℕ) (past : List (Deed Dir)) w
 
   makes_player : (round : Round) (phase : Phase) (dealer : Option Dealer) (st : Live Dir) → Holds (prune_law epoch) past (s.makes_player c round phase dealer st)
   makes_player round phase dealer st =
-      holds_if (prune_law epoch) past (not (has round.players c.me) || s.is_lost c round (of_epoch round.number st.records.dealings) (logs_of st round.number))
+      holds_if (prune_law epoch) past (not (has round.players c.me) || s.is_lost c round (records_of_epoch round.number st.records.dealings) (logs_of st round.number))
       (s.takes_part c round phase dealer Watches st) (s.sits_down c round phase dealer (s.refused_in c round st) st)
       (λ e. (tt, tt)) (λ e. sits_down round phase dealer (s.refused_in c round st) st)
 
@@ -82,14 +82,14 @@ module _ {Dir : Type 0} (c : Fixed Dir) (epoch : ℕ) where
       (λ e. (tt, tt)) (λ e. draws_up c epoch past (s.participants_of info) (Some info.output) share seed st)))
 
   judged : (past : List (Deed Dir)) (floor : Option ℕ) (standing : s.Standing) (info : EpochInfo Dir) (st : Live Dir) (valid : Result (Unit {0}) ParticipantsError) → st.participation.epoch ≡ epoch
-      → Holds (prune_law epoch) past (s.judged c floor standing info st valid)
+      → Holds (prune_law epoch) past (s.info_judged c floor standing info st valid)
   judged past floor standing info st (Err e) is = tt
   judged past floor standing info st (Ok passed) is =
       λ h. with_share_and_seed past floor standing info (s.recovered_share c (c.seen h) info) (s.seed_for c info.epoch (lookup info.epoch (c.seen h).seeds)) st is
 
   with_info : (past : List (Deed Dir)) (floor : Option ℕ) (standing : s.Standing) (info : EpochInfo Dir) (st : Live Dir) → st.participation.epoch ≡ epoch → Holds (prune_law epoch) past (s.with_info c floor standing info st)
   with_info past floor standing info st is =
-      holds_if (prune_law epoch) past (info.epoch == st.participation.epoch) (s.judged c floor standing info st (validation (s.participants_of info) c.limit (Some info.output) info.epoch)) (Stops (WrongEpoch st.participation.epoch info.epoch))
+      holds_if (prune_law epoch) past (info.epoch == st.participation.epoch) (s.info_judged c floor standing info st (validation (s.participants_of info) c.limit (Some info.output) info.epoch)) (Stops (WrongEpoch st.participation.epoch info.epoch))
       (λ e. judged past floor standing info st (validation (s.participants_of info) c.limit (Some info.output) info.epoch) is) (λ e. tt)
 
   from_boundary : (past : List (Deed Dir)) (b : Option (Block Dir)) (st : Live Dir) → st.participation.epoch ≡ epoch → Holds (prune_law epoch) past (s.from_boundary c b st)

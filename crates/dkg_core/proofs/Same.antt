@@ -14,7 +14,7 @@ use Rattle.dkg_ceremony.specs.declared.mode.Reveal.TheVariants.{V1}
 use Rattle.dkg_ceremony.specs.declared.output.Output.{Output}
 use Rattle.dkg_ceremony.specs.declared.round.RoundParts.{RoundParts as Round}
 use Rattle.dkg_ceremony.specs.declared.sharing.Sharing.{Sharing}
-use Rattle.dkg_ceremony.specs.OutputGrammar.{same_output as one_output}
+use Rattle.dkg_ceremony.specs.OutputGrammar.{output_by_parts as one_output}
 use Rattle.dkg_ceremony.specs.Outcomes.{LogMap}
 use Rattle.dkg_infos.specs.declared.info.EpochInfo.{EpochInfo}
 use Rattle.dkg_infos.specs.declared.outcome.EpochOutcome.{EpochOutcome}

@@ -39,13 +39,13 @@ use Rattle.dkg_core.specs.Courses.{Course, Say, Do, Call, Ask, Goes, Stops, bind
 use Rattle.dkg_core.specs.Said.{Said, SaysAll, SaysUpTo, SaysFirst}
 use Rattle.dkg_core.specs.Sources.{Tip}
 use Rattle.dkg_core.specs.Fixed.{Fixed, OneShot, has}
-use Rattle.dkg_core.specs.Live.{Live, Dealer, Seat, Plays, Watches, Stage, Deals, Includes, Follows, Ends, Inclusion, Request, Job, VerifiedLogs, Artifact, Mail, Peer, NextLog, ReleaseLog, EpochInfoOf, Feed, Over, Cancel, Work, Sent, Finalized, GaveNone, awaited_height, phase_of, is_last_height, of_epoch, recorded_at, with_tip, with_participation, with_inclusion, with_queue, with_told, with_used}
-use Rattle.dkg_core.specs.Logs.{canonical, filled_by, is_accepted, log_event, logs_of}
+use Rattle.dkg_core.specs.Live.{Live, Dealer, Seat, Plays, Watches, Stage, Deals, Includes, Follows, Ends, Inclusion, Request, Job, VerifiedLogs, Artifact, Mail, Peer, NextLog, ReleaseLog, EpochInfoOf, Feed, Over, Cancel, Work, Sent, Finalized, GaveNone, awaited_height, phase_of, is_last_height, records_of_epoch, recorded_at, with_tip, with_participation, with_inclusion, with_queue, with_told, with_used}
+use Rattle.dkg_core.specs.Logs.{canonical, filled_by, is_accepted, carried_log_event, logs_of}
 use Rattle.dkg_core.specs.Same.{same_logs, same_round}
 use Rattle.dkg_core.specs.Setup as s
 use Rattle.dkg_core.specs.Dealing as d
 use Rattle.dkg_core.specs.Including as i
-use Rattle.dkg_core.specs.Including.{Fed, Need, Found, Lacks, can_finish, cached_for, is_of_job, job_for, payload_bytes, read_of, result_of, retained_for, retains, verified}
+use Rattle.dkg_core.specs.Including.{Fed, Need, Found, Lacks, can_finish, cached_for, is_of_job, job_for, payload_bytes, read_of, job_result_of, retained_for, retains, verified}
 use Rattle.dkg_core.specs.Blocks as b
 use Rattle.dkg_core.specs.Core.{step}
 use Rattle.dkg_core.specs.Laws.{IsAmong}
@@ -53,7 +53,7 @@ use Rattle.dkg_core.specs.Endings.{validity}
 use Rattle.dkg_core.specs.Forms.{IsForm, Applied, judged_block, ComesOver, round_for, share_read, seed_read}
 use Rattle.dkg_core.specs.Stepping.{IsDealingStop, given_itself, next_epoch}
 use Rattle.dkg_core.specs.Asked.{OfShares, ReadsShare, IsArtifactIn, IsResultIn, IsJobIn, HasAsked, IsInformed, IsAskStop, IsMadeIn}
-use Rattle.dkg_core.specs.Through.{IsFormThrough, IsLiveThrough, IsTakenThrough, IsShareTaken, cancelled, finished, included as included_life, observed, waits_for}
+use Rattle.dkg_core.specs.Through.{IsFormThrough, IsLiveThrough, IsTakenThrough, IsShareTaken, cancelled, verification_ended, included as included_life, observed, waits_for}
 use Rattle.dkg_core.specs.SayingThrough.{SaysSo, payload_by, IsAskedAnswer, IsReadAnswer, IsUnasked, IsMailLine, IsFinalAnswer, IsBlockAnswer, IsBlockLineThrough, StepsSayThrough}
 use Rattle.dkg_core.proofs.Advancing as adv
 use Rattle.dkg_core.proofs.Advancing.{included, none_found, of_round, read_again, requeued, retained_is, some_of}
@@ -165,12 +165,12 @@ module _ {Dir : Type 0} (c : Fixed Dir) (form : IsForm c) (stored : OfShares) (r
   pub artifact_so : (round : Round) (info : EpochInfo Dir) (r : VerifiedLogs) (its : Inclusion Dir) (next : Artifact Dir → Live Dir → Course Dir Fault (Live Dir)) → HasAsked c stored (with its)
       → st.participation.round ≡ Some round → st.participation.current ≡ Some info → IsResultIn c round st r
       → ((made : Artifact Dir) (at : Live Dir) → IsMadeIn c stored round info (with its) r.logs made at → SaysSo P (next made at)) → SaysSo P (i.artifact c r (with its) next)
-  artifact_so round info r its next has of_epoch of_info result so =
+  artifact_so round info r its next has records_of_epoch of_info result so =
       artifact_is c stored round info r (with its) next (λ course. SaysSo P course) (record {
         if_so = λ t x y one other. so_if P t x y one other;
         reads = λ f each. λ h. each h (λ epoch. reads h epoch tt);
         stopped = λ fault stop. tt;
-      }) form has of_epoch of_info result so
+      }) form has records_of_epoch of_info result so
 
   -- what an artifact of some logs is answered by
   pub payload_is : (round : Round) (info : EpochInfo Dir) (now : Live Dir) (logs : LogMap) (made : Artifact Dir) → IsArtifactIn c stored round info now logs made
@@ -181,11 +181,11 @@ module _ {Dir : Type 0} (c : Fixed Dir) (form : IsForm c) (stored : OfShares) (r
       (found_so : (round : Round) (info : EpochInfo Dir) (r : Request Dir) (found : LogMap) → st.participation.round ≡ Some round → st.participation.current ≡ Some info → IsAmong r base.queue
       → read_of c round (with base) r ≡ Found found → P (Answer r.number (Available (payload_by c round info (filled_by (canonical c (with base)) found)))))
       (lacks_so : (round : Round) (r : Request Dir) (reason : Why) → st.participation.round ≡ Some round → IsAmong r base.queue → read_of c round (with base) r ≡ Lacks reason → P (Answer r.number (Unavailable reason))) where
-    module _ (round : Round) (of_epoch : st.participation.round ≡ Some round) (r : Request Dir) (among : IsAmong r base.queue) (its : Inclusion Dir) (has : HasAsked c stored (with its)) where
+    module _ (round : Round) (records_of_epoch : st.participation.round ≡ Some round) (r : Request Dir) (among : IsAmong r base.queue) (its : Inclusion Dir) (has : HasAsked c stored (with its)) where
       known : (info : EpochInfo Dir) × (st.participation.current ≡ Some info)
       known =
           let found = some_of (λ (info : EpochInfo Dir). (info.epoch ≡ st.participation.epoch) × (validity c info ≡ Ok tt) × (round_for c st.participation.epoch info ≡ Ok round))
-          st.participation.current (informed round of_epoch) in
+          st.participation.current (informed round records_of_epoch) in
           (found.0, found.1)
 
       same_read : read_of c round (with base) r ≡ read_of c round (with its) r
@@ -195,18 +195,18 @@ module _ {Dir : Type 0} (c : Fixed Dir) (form : IsForm c) (stored : OfShares) (r
         abbrev logs : LogMap
         logs = filled_by (canonical c (with its)) found
 
-        answered : (made : Artifact Dir) (now : Live Dir) → IsArtifactIn c stored round known.0 (with its) logs made → SaysSo P (i.answers c r.number made now)
+        answered : (made : Artifact Dir) (now : Live Dir) → IsArtifactIn c stored round known.0 (with its) logs made → SaysSo P (i.answers_request c r.number made now)
         answered made now is = (
           subst (λ (payload : Option (List ℕ)). P (Answer r.number (Available payload))) (sym (payload_is round known.0 (with its) logs made is))
-              (found_so round known.0 r found of_epoch known.1 among (same_read ∙ read)),
+              (found_so round known.0 r found records_of_epoch known.1 among (same_read ∙ read)),
           tt,
         )
 
         asks : (cached : Option (Artifact Dir)) (retained : Option VerifiedLogs) → cached_for its.cached logs ≡ cached → retained_for its.retained logs ≡ retained
             → SaysSo P (i.asks_for_by c round r.number logs cached retained (with its))
-        asks (Some made) retained is at = answered made (with its) (cached_is c stored round known.0 (with its) has of_epoch known.1 logs made is)
+        asks (Some made) retained is at = answered made (with its) (cached_is c stored round known.0 (with its) has records_of_epoch known.1 logs made is)
         asks None (Some result) is at =
-            artifact_so round known.0 result its (i.answers c r.number) has of_epoch known.1 (of_round st (λ x. IsResultIn c x st result) round of_epoch (has.kept result (retained_is its.retained logs result at)))
+            artifact_so round known.0 result its (i.answers_request c r.number) has records_of_epoch known.1 (of_round st (λ x. IsResultIn c x st result) round records_of_epoch (has.kept result (retained_is its.retained logs result at)))
             (λ made now m. answered made now (subst (λ (l : LogMap). IsArtifactIn c stored round known.0 (with its) l made) (retained_logs its.retained logs result at) m.artifact))
         asks None None is at = starts (if can_finish c round logs (with its) then s.refused_in c round (with its) else None)
           where
@@ -216,7 +216,7 @@ module _ {Dir : Type 0} (c : Fixed Dir) (form : IsForm c) (stored : OfShares) (r
 
       fed : (f : Fed) → read_of c round (with its) r ≡ f → SaysSo P (i.fed c round r.number (with its) f)
       fed Need read = tt
-      fed (Lacks reason) read = (lacks_so round r reason of_epoch among (same_read ∙ read), tt)
+      fed (Lacks reason) read = (lacks_so round r reason records_of_epoch among (same_read ∙ read), tt)
       fed (Found found) read =
           let logs = filled_by (canonical c (with its)) found in asks found read (cached_for its.cached logs) (retained_for its.retained logs) refl refl
 
@@ -228,33 +228,33 @@ module _ {Dir : Type 0} (c : Fixed Dir) (form : IsForm c) (stored : OfShares) (r
 
     one_more : (most : ℕ) → SaysMost most → SaysMost (suc most)
     one_more most again its has still within =
-        so_option P (λ (round : Round). i.reads_first c round next (with its)) st.participation.round (Goes (with its)) (λ round of_epoch. by_stage round of_epoch st.participation.stage its.running its.queue refl refl refl) tt
+        so_option P (λ (round : Round). i.reads_first c round next (with its)) st.participation.round (Goes (with its)) (λ round records_of_epoch. by_stage round records_of_epoch st.participation.stage its.running its.queue refl refl refl) tt
       where
         next : Live Dir → Course Dir Fault (Live Dir)
         next now = i.advances c most now
 
         reads_one : (round : Round) → st.participation.round ≡ Some round → st.participation.stage ≡ Includes → its.running ≡ None → (r : Request Dir) (rs : List (Request Dir)) → its.queue ≡ r ∷ rs
             → SaysSo P (bind (i.fed c round r.number (with_queue rs (with its)) (read_of c round (with its) r)) next)
-        reads_one round of_epoch includes idle r rs queue_is =
+        reads_one round records_of_epoch includes idle r rs queue_is =
             let others : Inclusion Dir = record its { queue = rs } in
             let has_others = requeued c stored st its rs its.used its.told has (λ follows. absurd (let no : ◌≡◌ {A = Stage} Includes Follows = sym includes ∙ follows in cc)) in
             let same_read = read_again c round st others r ∙ sym (read_again c round st its r) in
             so_known P (IsAskStop c (with base)) (adv.IsOn c stored (with base) None form (λ x e. reads) informed round r others) (i.fed c round r.number (with others) (read_of c round (with its) r)) next
-            (fed round of_epoch r (within r (subst (IsAmong r) (sym queue_is) (inl refl))) others has_others (read_of c round (with its) r) same_read)
-            (adv.fed c stored (with base) None form (λ x e. reads) informed round of_epoch includes r others has_others idle still (read_of c round (with its) r) same_read)
+            (fed round records_of_epoch r (within r (subst (IsAmong r) (sym queue_is) (inl refl))) others has_others (read_of c round (with its) r) same_read)
+            (adv.fed c stored (with base) None form (λ x e. reads) informed round records_of_epoch includes r others has_others idle still (read_of c round (with its) r) same_read)
             (λ end on. subst (λ (x : Live Dir). SaysSo P (next x)) (sym on.is) (again on.now on.has (on.retained ∙ still)
             (λ other is. within other (subst (IsAmong other) (sym queue_is) (inr (subst (IsAmong other) on.queue_is is))))))
 
         by_stage : (round : Round) → st.participation.round ≡ Some round → (stage : Stage) (running : Option Job) (queue : List (Request Dir)) → st.participation.stage ≡ stage → its.running ≡ running → its.queue ≡ queue
             → SaysSo P (i.reads_first_in c round next (with its) stage running queue)
-        by_stage round of_epoch Deals running queue is at queue_is = tt
-        by_stage round of_epoch Includes None [] is at queue_is = tt
-        by_stage round of_epoch Includes None (r ∷ rs) is at queue_is =
+        by_stage round records_of_epoch Deals running queue is at queue_is = tt
+        by_stage round records_of_epoch Includes None [] is at queue_is = tt
+        by_stage round records_of_epoch Includes None (r ∷ rs) is at queue_is =
             so_if P (i.is_need (read_of c round (with its) r)) (Goes (with its)) (bind (i.fed c round r.number (with_queue rs (with its)) (read_of c round (with its) r)) next)
-            (λ e. tt) (λ e. reads_one round of_epoch is at r rs queue_is)
-        by_stage round of_epoch Includes (Some job) queue is at queue_is = tt
-        by_stage round of_epoch Follows running queue is at queue_is = tt
-        by_stage round of_epoch Ends running queue is at queue_is = tt
+            (λ e. tt) (λ e. reads_one round records_of_epoch is at r rs queue_is)
+        by_stage round records_of_epoch Includes (Some job) queue is at queue_is = tt
+        by_stage round records_of_epoch Follows running queue is at queue_is = tt
+        by_stage round records_of_epoch Ends running queue is at queue_is = tt
 
     advances : (most : ℕ) → SaysMost most
     advances zero its has still within = tt
@@ -277,7 +277,7 @@ module _ {Dir : Type 0} (c : Fixed Dir) (P : Line → Type 0) (plain : (line : L
 
   makes_player : (round : Round) (phase : Phase) (dealer : Option Dealer) (now : Live Dir) → SaysSo P (s.makes_player c round phase dealer now)
   makes_player round phase dealer now =
-      so_if P (not (has round.players c.me) || s.is_lost c round (of_epoch round.number now.records.dealings) (logs_of now round.number)) (s.takes_part c round phase dealer Watches now)
+      so_if P (not (has round.players c.me) || s.is_lost c round (records_of_epoch round.number now.records.dealings) (logs_of now round.number)) (s.takes_part c round phase dealer Watches now)
       (s.sits_down c round phase dealer (s.refused_in c round now) now) (λ e. takes_part round phase dealer Watches now) (λ e. sits_down round phase dealer (s.refused_in c round now) now)
 
   dealt_by : (round : Round) (phase : Phase) (now : Live Dir) (dealt : Result (List ℕ × List (ℕ × ℕ)) DealError) → SaysSo P (s.dealt_by c round phase now dealt)
@@ -290,14 +290,14 @@ module _ {Dir : Type 0} (c : Fixed Dir) (P : Line → Type 0) (plain : (line : L
       so_if P (s.may_deal c round share now) (s.dealt_by c round phase now (c.rules.deal_of round c.me share seed)) (s.makes_player c round phase None now)
       (λ e. dealt_by round phase now (c.rules.deal_of round c.me share seed)) (λ e. makes_player round phase None now)
 
-  judged : (info : EpochInfo Dir) (now : Live Dir) (valid : Result (Unit {0}) ParticipantsError) → SaysSo P (s.judged c None s.WasCommitted info now valid)
+  judged : (info : EpochInfo Dir) (now : Live Dir) (valid : Result (Unit {0}) ParticipantsError) → SaysSo P (s.info_judged c None s.WasCommitted info now valid)
   judged info now (Err e) = tt
   judged info now (Ok passed) = λ h. in_round (phase_of c (awaited_height now)) (share_read c info h) (seed_read c info h) (record now { records = s.records_from (now.participation.epoch - 1) now.records })
       (round_for c now.participation.epoch info)
 
   sets_up : (info : EpochInfo Dir) (now : Live Dir) → SaysSo P (s.with_info c None s.WasCommitted info now)
   sets_up info now =
-      so_if P (info.epoch == now.participation.epoch) (s.judged c None s.WasCommitted info now (validity c info)) (Stops (WrongEpoch now.participation.epoch info.epoch)) (λ e. judged info now (validity c info)) (λ e. tt)
+      so_if P (info.epoch == now.participation.epoch) (s.info_judged c None s.WasCommitted info now (validity c info)) (Stops (WrongEpoch now.participation.epoch info.epoch)) (λ e. judged info now (validity c info)) (λ e. tt)
 
   -- Its own dealing
 
@@ -335,8 +335,8 @@ module _ {Dir : Type 0} (c : Fixed Dir) (P : Line → Type 0) (plain : (line : L
 
   pub deals_so : (now : Live Dir) → SaysSo P (d.deals c now)
   deals_so now =
-      so_option P (λ (round : Round). option_map_or (λ its. d.offers c round its.public (s.unsent round its) now) now.participation.dealer (Goes now)) now.participation.round (Goes now)
-      (λ round e. so_option P (λ (its : Dealer). d.offers c round its.public (s.unsent round its) now) now.participation.dealer (Goes now) (λ its e. offers round its.public (s.unsent round its) now) tt) tt
+      so_option P (λ (round : Round). option_map_or (λ its. d.offers c round its.public (s.unsent_of_round round its) now) now.participation.dealer (Goes now)) now.participation.round (Goes now)
+      (λ round e. so_option P (λ (its : Dealer). d.offers c round its.public (s.unsent_of_round round its) now) now.participation.dealer (Goes now) (λ its e. offers round its.public (s.unsent_of_round round its) now) tt) tt
 
   -- A peer's message
 
@@ -375,7 +375,7 @@ last_of true true u e = e
 last_of true false u e = absurd (let no : ◌≡◌ {A = Bool} false true = e in cc)
 last_of false t u e = absurd (let no : ◌≡◌ {A = Bool} false true = e in cc)
 
-logs_of_result : {Dir : Type 0} (c : Fixed Dir) (handed : Option VerifiedLogs) (job : Job) → (result_of c handed job).logs ≡ job.logs
+logs_of_result : {Dir : Type 0} (c : Fixed Dir) (handed : Option VerifiedLogs) (job : Job) → (job_result_of c handed job).logs ≡ job.logs
 logs_of_result c None job = refl
 logs_of_result c (Some r) job = either (is_of_job r job) refl
   where
@@ -400,7 +400,7 @@ module _ {Dir : Type 0} (c : Fixed Dir) (form : IsFormThrough c) (stored : OfSha
     completes round is job runs r are result None waits = tt
     completes round is job runs r are result (Some number) waits =
         let info = epoch_info round is in
-        artifact_so c form.form stored reads st live.informed P round info.0 r st.inclusion (λ made now. bind (i.answers c number made now) (λ now. Goes (retains c r now))) live.asked.has is info.1 result
+        artifact_so c form.form stored reads st live.informed P round info.0 r st.inclusion (λ made now. bind (i.answers_request c number made now) (λ now. Goes (retains c r now))) live.asked.has is info.1 result
         (λ made at m. (
           subst (λ (payload : Option (List ℕ)). P (Answer number (Available payload)))
               (sym (payload_is c form.form stored reads st live.informed P round info.0 st r.logs made m.artifact ∙ ap (payload_by c round info.0) are)) (waited_so round info.0 job number is info.1 runs waits),
@@ -411,7 +411,7 @@ module _ {Dir : Type 0} (c : Fixed Dir) (form : IsFormThrough c) (stored : OfSha
     ends_in handed taken None runs = tt
     ends_in handed taken (Some job) runs =
         let its = live.asked.has.runs job runs in
-        completes its.0 its.1 job runs (result_of c handed job) (logs_of_result c handed job) (verifying.result_is c form.finishing its.0 st its.1 job handed its.2 runs taken) st.inclusion.waiter refl
+        completes its.0 its.1 job runs (job_result_of c handed job) (logs_of_result c handed job) (verifying.result_is c form.finishing its.0 st its.1 job handed its.2 runs taken) st.inclusion.waiter refl
 
     pub ends_so : (handed : Option VerifiedLogs) → IsHanded c handed st → SaysSo P (i.ends_verifying c handed st)
     ends_so handed taken = ends_in handed taken st.inclusion.running refl
@@ -512,7 +512,7 @@ module _ {Dir : Type 0} (c : Fixed Dir) (form : IsFormThrough c) (stored : OfSha
           by_result found (retains c found (its_life starts)).inclusion (ended.queue ∙ queue_is) ended.has refl result
 
       derived : (its : Inclusion Dir) → its.queue ≡ st.inclusion.queue → HasAsked c stored (its_life its) → (retained : Option VerifiedLogs) → retained_for its.retained all_logs ≡ retained
-          → SaysSo P (b.derives_now c round block all_logs retained (its_life its))
+          → SaysSo P (b.derives_at_block c round block all_logs retained (its_life its))
       derived its queue_is has (Some r) found =
           by_result r its queue_is has (retained_logs its.retained all_logs r found) (of_round st (λ x. IsResultIn c x st r) round is (has.kept r (retained_is its.retained all_logs r found)))
       derived its queue_is has None found = verifies its queue_is has (if can_finish c round all_logs (its_life its) then s.refused_in c round (its_life its) else None) refl
@@ -543,9 +543,9 @@ module _ {Dir : Type 0} (c : Fixed Dir) (form : IsForm c) (stored : OfShares) (r
   pub reads_so : SaysSo P (i.advanced c at)
   reads_so =
       advanced_so c form stored reads at informed P at.inclusion
-      (λ round info r found of_epoch of_info among read.
-      so (Answer r.number (Available (payload_by c round info (filled_by (canonical c at) found)))) (round, info, of_epoch, of_info, (r, among, refl, (found, read, refl))))
-      (λ round r reason of_epoch among lacks. so (Answer r.number (Unavailable reason)) (round, of_epoch, (r, among, refl, lacks))) has
+      (λ round info r found records_of_epoch of_info among read.
+      so (Answer r.number (Available (payload_by c round info (filled_by (canonical c at) found)))) (round, info, records_of_epoch, of_info, (r, among, refl, (found, read, refl))))
+      (λ round r reason records_of_epoch among lacks. so (Answer r.number (Unavailable reason)) (round, records_of_epoch, (r, among, refl, lacks))) has
 
 -- MAIL
 
@@ -587,7 +587,7 @@ module _ {Dir : Type 0} (c : Fixed Dir) (form : IsFormThrough c) (stored : OfSha
           (λ follows. ap (λ (q : List (Request Dir)). filter (λ r. not (r.number == number)) q) (has_now.none follows))) (λ line. IsReadAnswer c now line) (λ line its. its)
 
   -- what is read behind a verification that ended is read in the life without it
-  as_finished : (its : Inclusion Dir) → its.queue ≡ st.inclusion.queue → (line : Line) → IsReadAnswer c (with_inclusion its st) line → IsReadAnswer c (finished st) line
+  as_finished : (its : Inclusion Dir) → its.queue ≡ st.inclusion.queue → (line : Line) → IsReadAnswer c (with_inclusion its st) line → IsReadAnswer c (verification_ended st) line
   as_finished its queue_is (Answer number (Available payload)) read =
       let r = read.4.0 in (
         read.0,
@@ -598,19 +598,19 @@ module _ {Dir : Type 0} (c : Fixed Dir) (form : IsFormThrough c) (stored : OfSha
           r,
           subst (IsAmong r) queue_is read.4.1,
           read.4.2,
-          (read.4.3.0, read_again c read.0 st (finished st).inclusion r ∙ sym (read_again c read.0 st its r) ∙ read.4.3.1, read.4.3.2),
+          (read.4.3.0, read_again c read.0 st (verification_ended st).inclusion r ∙ sym (read_again c read.0 st its r) ∙ read.4.3.1, read.4.3.2),
         ),
       )
   as_finished its queue_is (Answer number (Unavailable reason)) read =
       let r = read.2.0 in
-      (read.0, read.1, (r, subst (IsAmong r) queue_is read.2.1, read.2.2, read_again c read.0 st (finished st).inclusion r ∙ sym (read_again c read.0 st its r) ∙ read.2.3))
+      (read.0, read.1, (r, subst (IsAmong r) queue_is read.2.1, read.2.2, read_again c read.0 st (verification_ended st).inclusion r ∙ sym (read_again c read.0 st its r) ∙ read.2.3))
   as_finished its queue_is line read = absurd read
 
   works : (handed : Option VerifiedLogs) → IsHanded c handed st → SaysSo (IsMailLine c st (Work handed)) (i.works c handed st)
   works handed taken =
       so_if (IsMailLine c st (Work handed)) (is_some st.inclusion.running) (bind (i.ends_verifying c handed st) (λ now. i.advanced c now)) (Goes st)
       (λ e. so_known (IsMailLine c st (Work handed)) (IsAskStop c st) (λ end left. (left ≡ None) × IsEndedIn c stored st end) (i.ends_verifying c handed st) (λ now. i.advanced c now)
-      (ends_so c form stored reads st live (IsMailLine c st (Work handed)) (λ round info job number of_epoch of_info runs waits. inl (round, info, of_epoch, of_info, (job, runs, waits, refl))) handed taken)
+      (ends_so c form stored reads st live (IsMailLine c st (Work handed)) (λ round info job number records_of_epoch of_info runs waits. inl (round, info, records_of_epoch, of_info, (job, runs, waits, refl))) handed taken)
       (verifying_ends c stored st None form.form form.finishing reads live.informed has_now handed taken)
       (λ end its. subst (λ (x : Live Dir). SaysSo (IsMailLine c st (Work handed)) (i.advanced c x)) (sym its.1.same)
       (reads_so c form.form stored reads (with_inclusion end.inclusion st) live.informed (subst (HasAsked c stored) its.1.same its.1.has) (IsMailLine c st (Work handed))
@@ -684,7 +684,7 @@ module _ {Dir : Type 0} (c : Fixed Dir) (form : IsFormThrough c) (stored : OfSha
       place = includes_above c block st live.stands accepted is
 
       log_says : (log : SignedDealerLog) (accepted kept : Bool)
-          → SaysSo {Dir = Dir} P (if accepted then bind (if kept then Goes st else d.appends round.number (log_event log.dealer block.height log.log) (Goes (b.with_log round.number log.dealer block.height log.log st)))
+          → SaysSo {Dir = Dir} P (if accepted then bind (if kept then Goes st else d.appends round.number (carried_log_event log.dealer block.height log.log) (Goes (b.with_log_at round.number log.dealer block.height log.log st)))
           (λ now. Goes (b.without_own_log c log.dealer now)) else Goes st)
       log_says log true true = tt
       log_says log true false = tt
@@ -711,8 +711,8 @@ module _ {Dir : Type 0} (c : Fixed Dir) (form : IsFormThrough c) (stored : OfSha
           (λ r among. final_answer (Answer r.number (Unavailable Finished)) tt (inr (r.number, (r, among, refl, refl))))
           (λ info current made carries of_info of_logs. committed_so info no_held (b.share_for c info made) carries
           (subst (λ (stage : Stage). IsShareTaken c stored st no_held info (b.share_for c info made) stage) (sym is) (round, current, of_round, of_info, (made, of_logs, refl))))
-          (ends_so c form stored reads st live P (λ its info job number of_epoch of_info runs waits. final_answer (Answer number (Available (payload_by c its info job.logs))) tt
-          (inl (its, info, of_epoch, of_info, (job, runs, waits, refl)))) None (λ r e. absurd (none_apart r e)))
+          (ends_so c form stored reads st live P (λ its info job number records_of_epoch of_info runs waits. final_answer (Answer number (Available (payload_by c its info job.logs))) tt
+          (inl (its, info, records_of_epoch, of_info, (job, runs, waits, refl)))) None (λ r e. absurd (none_apart r e)))
         where
           final_answer : (line : Line) → IsAskedAnswer line → IsFinalAnswer c st true block line → P line
           final_answer line asked its = at_stage Includes is line asked (subst (λ (t : Bool). IsFinalAnswer c st t block line) (sym last) its)

@@ -21,12 +21,12 @@ use Rattle.dkg_infos.specs.declared.fault.Fault.{Fault}
 use Rattle.dkg_infos.specs.declared.fault.Fault.TheVariants.{WrongEpoch}
 use Rattle.dkg_infos.specs.declared.info.EpochInfo.{EpochInfo}
 use Rattle.dkg_infos.specs.declared.participants.ParticipantsError.{ParticipantsError}
-use Rattle.dkg_store.specs.Acts.{Held, World, Ended, went, stopped, broken, Completes, Faults, says, does, after}
+use Rattle.dkg_store.specs.Acts.{Held, World, Ended, went, stopped, broken, Completes, Faults, says, does, held_after}
 use Rattle.dkg_store.specs.Recorded.{Pair, first_refused, bare_logs}
 use Rattle.dkg_store.specs.declared.recorded_log.RecordedLog.{RecordedLog}
 use Rattle.dkg_core.specs.Courses.{Course, Say, Do, Call, Ask, Goes, Stops, bind, under, on_devices, EndsSo}
 use Rattle.dkg_core.specs.Fixed.{Fixed, has}
-use Rattle.dkg_core.specs.Live.{Live, Records, Dealer, Inclusion, Stage, Deals, Includes, Seat, Plays, Watches, awaited_height, phase_of, of_epoch, with_inclusion}
+use Rattle.dkg_core.specs.Live.{Live, Records, Dealer, Inclusion, Stage, Deals, Includes, Seat, Plays, Watches, awaited_height, phase_of, records_of_epoch, with_inclusion}
 use Rattle.dkg_core.specs.Logs.{logs_of}
 use Rattle.dkg_core.specs.Setup as s
 use Rattle.dkg_core.specs.Core.{no_inclusion}
@@ -82,7 +82,7 @@ module _ {Dir F S : Type 0} (stops : F → Type 0) (goes : S → Option Held →
 -- where a course comes to, whatever is read, it comes to over any devices
 pub anywhere_over : {Dir F S : Type 0} (stops : F → Type 0) (goes : S → Type 0) (course : Course Dir F S) (devices : Option Held) → ComesTo stops goes course → ComesOver stops (λ end left. goes end) course devices
 anywhere_over stops goes (Say line course) devices comes = anywhere_over stops goes course devices comes
-anywhere_over stops goes (Do op course) devices comes = anywhere_over stops goes course (option_map (after op) devices) comes
+anywhere_over stops goes (Do op course) devices comes = anywhere_over stops goes course (option_map (held_after op) devices) comes
 anywhere_over stops goes (Call outer course) devices comes = anywhere_over stops goes course devices comes
 anywhere_over stops goes (Ask f) (Some h) comes = anywhere_over stops goes (f h) (Some h) (comes h)
 anywhere_over stops goes (Ask f) None comes = λ h. anywhere_over stops goes (f h) None (comes h)
@@ -93,7 +93,7 @@ anywhere_over stops goes (Stops fault) devices comes = comes
 pub over_as : {Dir F S : Type 0} (stops others : F → Type 0) (goes ends : S → Option Held → Type 0) (course : Course Dir F S) (devices : Option Held)
     → ((fault : F) → stops fault → others fault) → ((end : S) (left : Option Held) → goes end left → ends end left) → ComesOver stops goes course devices → ComesOver others ends course devices
 over_as stops others goes ends (Say line course) devices more most comes = over_as stops others goes ends course devices more most comes
-over_as stops others goes ends (Do op course) devices more most comes = over_as stops others goes ends course (option_map (after op) devices) more most comes
+over_as stops others goes ends (Do op course) devices more most comes = over_as stops others goes ends course (option_map (held_after op) devices) more most comes
 over_as stops others goes ends (Call outer course) devices more most comes = over_as stops others goes ends course devices more most comes
 over_as stops others goes ends (Ask f) (Some h) more most comes = over_as stops others goes ends (f h) (Some h) more most comes
 over_as stops others goes ends (Ask f) None more most comes = λ h. over_as stops others goes ends (f h) None more most (comes h)
@@ -104,7 +104,7 @@ over_as stops others goes ends (Stops fault) devices more most comes = more faul
 pub over_behind : {Dir F S T : Type 0} (stops : F → Type 0) (first : S → Option Held → Type 0) (goes : T → Option Held → Type 0) (course : Course Dir F S) (next : S → Course Dir F T) (devices : Option Held)
     → ComesOver stops first course devices → ((end : S) (left : Option Held) → first end left → ComesOver stops goes (next end) left) → ComesOver stops goes (bind course next) devices
 over_behind stops first goes (Say line course) next devices comes so = over_behind stops first goes course next devices comes so
-over_behind stops first goes (Do op course) next devices comes so = over_behind stops first goes course next (option_map (after op) devices) comes so
+over_behind stops first goes (Do op course) next devices comes so = over_behind stops first goes course next (option_map (held_after op) devices) comes so
 over_behind stops first goes (Call outer course) next devices comes so = over_behind stops first goes course next devices comes so
 over_behind stops first goes (Ask f) next (Some h) comes so = over_behind stops first goes (f h) next (Some h) comes so
 over_behind stops first goes (Ask f) next None comes so = λ h. over_behind stops first goes (f h) next None (comes h) so
@@ -115,7 +115,7 @@ over_behind stops first goes (Stops fault) next devices comes so = comes
 pub over_under : {Dir F G S : Type 0} (name : F → G) (stops : F → Type 0) (goes : S → Option Held → Type 0) (course : Course Dir F S) (devices : Option Held)
     → ComesOver stops goes course devices → ComesOver (λ stop. (fault : F) × (stop ≡ name fault) × stops fault) goes (under name course) devices
 over_under name stops goes (Say line course) devices comes = over_under name stops goes course devices comes
-over_under name stops goes (Do op course) devices comes = over_under name stops goes course (option_map (after op) devices) comes
+over_under name stops goes (Do op course) devices comes = over_under name stops goes course (option_map (held_after op) devices) comes
 over_under name stops goes (Call outer course) devices comes = over_under name stops goes course devices comes
 over_under name stops goes (Ask f) (Some h) comes = over_under name stops goes (f h) (Some h) comes
 over_under name stops goes (Ask f) None comes = λ h. over_under name stops goes (f h) None (comes h)
@@ -274,7 +274,7 @@ module _ {Dir : Type 0} (c : Fixed Dir) (form : IsForm c) (standing : s.Standing
         within : at_epoch - 1 ≤ round.number
         within = omega (arith, number)
 
-        dealings_are : of_epoch round.number left.records.dealings ≡ of_epoch round.number st.records.dealings
+        dealings_are : records_of_epoch round.number left.records.dealings ≡ records_of_epoch round.number st.records.dealings
         dealings_are = ap (map (λ (r : Pair). (r.0.1, r.1))) (all_kept (at_epoch - 1) round.number within st.records.dealings)
 
         logs_are : logs_of left round.number ≡ logs_of st round.number
@@ -286,7 +286,7 @@ module _ {Dir : Type 0} (c : Fixed Dir) (form : IsForm c) (standing : s.Standing
         seat_is : seat_in c round left ≡ seat_in c round st
         seat_is =
             ap (λ (ds : List (ℕ × (List ℕ × ℕ))). if not (has round.players c.me) || s.is_lost c round ds (logs_of left round.number) then Watches else Plays) dealings_are
-            ∙ ap (λ (ls : LogMap). if not (has round.players c.me) || s.is_lost c round (of_epoch round.number st.records.dealings) ls then Watches else Plays) logs_are
+            ∙ ap (λ (ls : LogMap). if not (has round.players c.me) || s.is_lost c round (records_of_epoch round.number st.records.dealings) ls then Watches else Plays) logs_are
 
         may_is : s.may_deal c round share left ≡ s.may_deal c round share st
         may_is = ap (λ (ls : LogMap). has round.dealers c.me && (is_some share || is_none round.previous) && is_none (lookup c.me ls)) logs_are
@@ -347,7 +347,7 @@ module _ {Dir : Type 0} (c : Fixed Dir) (form : IsForm c) (standing : s.Standing
         takes Late dealer seat its at_seat passes = ((seated Late dealer seat its at_seat passes, inclusion_is Late), refl)
 
         abbrev stands_aside : Bool
-        stands_aside = not (has round.players c.me) || s.is_lost c round (of_epoch round.number left.records.dealings) (logs_of left round.number)
+        stands_aside = not (has round.players c.me) || s.is_lost c round (records_of_epoch round.number left.records.dealings) (logs_of left round.number)
 
         sits : (phase : Phase) (dealer : Option Dealer) (refused : Option ℕ) → HasDealer phase dealer → s.refused_in c round left ≡ refused → stands_aside ≡ false
             → ComesOver Stop Seated (s.sits_down c round phase dealer refused left) devices
@@ -398,7 +398,7 @@ module _ {Dir : Type 0} (c : Fixed Dir) (form : IsForm c) (standing : s.Standing
             dealt = gives ∙ ap (λ (public : List ℕ). both_halves public dealt.1) (sym is_public) ∙ ap (both_halves d.public) (sym are_privates);
             passed = subst (λ (acks : List (ℕ × List ℕ)). AllByRecursion (λ (a : ℕ × List ℕ). c.rules.check_ack_of round c.me d.public a.0 a.1 ≡ Ok tt) acks) (sym are_acks)
                 (subst (λ (p : List ℕ). AllByRecursion (λ (a : ℕ × List ℕ). c.rules.check_ack_of round c.me p a.0 a.1 ≡ Ok tt) dealing.acks) (sym is_public)
-                (all_pass (c.rules.check_ack_of round c.me dealt.0) (of_epoch round.number left.records.acks)));
+                (all_pass (c.rules.check_ack_of round c.me dealt.0) (records_of_epoch round.number left.records.acks)));
             unsigned = unsigned;
           }
 
@@ -450,14 +450,14 @@ module _ {Dir : Type 0} (c : Fixed Dir) (form : IsForm c) (standing : s.Standing
         (behind_commit c (IsSetupFault c at_epoch info share seed st) (λ end. IsSeated c standing info share seed (unasked st) (unasked end) × (end.inclusion ≡ st.inclusion)) standing info share seed st
         (λ behind. rounds share seed behind same valid (phase_of c (awaited_height st)) (round_for c at_epoch info) refl refl) devices)
 
-    judged : (valid : Result (Unit {0}) ParticipantsError) → info.epoch ≡ at_epoch → validity c info ≡ valid → ComesOver Stops_by Goes_to (s.judged c None standing info st valid) devices
+    judged : (valid : Result (Unit {0}) ParticipantsError) → info.epoch ≡ at_epoch → validity c info ≡ valid → ComesOver Stops_by Goes_to (s.info_judged c None standing info st valid) devices
     judged (Err e) same valid = let known = some_found devices in (known.0, known.1, (same, valid))
     judged (Ok passed) same valid =
         over_asks Stops_by Goes_to devices (λ h. s.with_share_and_seed c None standing info (share_read c info h) (seed_read c info h) st) (λ h found. shared h found same valid)
 
     by_info : ComesOver Stops_by Goes_to (s.with_info c None standing info st) devices
     by_info =
-        over_if Stops_by Goes_to devices (info.epoch == at_epoch) (s.judged c None standing info st (validity c info)) (Stops (WrongEpoch at_epoch info.epoch))
+        over_if Stops_by Goes_to devices (info.epoch == at_epoch) (s.info_judged c None standing info st (validity c info)) (Stops (WrongEpoch at_epoch info.epoch))
         (λ e. judged (validity c info) (same_number info.epoch at_epoch e) refl)
         (λ e. let known = some_found devices in (known.0, known.1, (refl, refl, other_number info.epoch at_epoch e)))
 

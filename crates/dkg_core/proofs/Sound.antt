@@ -18,10 +18,10 @@ use Rattle.dkg_infos.specs.declared.participants.ParticipantsError.{Participants
 use Rattle.dkg_infos.specs.Validation.{validation}
 use Rattle.dkg_core.specs.Courses.{Stops, bind, Deed}
 use Rattle.dkg_core.specs.Fixed.{Fixed, has}
-use Rattle.dkg_core.specs.Live.{Live, Dealer, Seat, Plays, Watches, awaited_height, phase_of, of_epoch}
+use Rattle.dkg_core.specs.Live.{Live, Dealer, Seat, Plays, Watches, awaited_height, phase_of, records_of_epoch}
 use Rattle.dkg_core.specs.Logs.{logs_of}
 use Rattle.dkg_core.specs.Setup as s
-use Rattle.dkg_core.specs.Laws.{Law, Holds, Anything, IsCeremony, DealsValidly, IsSetUp, setup_law, SetupsAreSound}
+use Rattle.dkg_core.specs.Laws.{Law, Holds, Anything, IsCeremony, DealsValidly, IsSetUpFor, setup_law, SetupsAreSound}
 use Rattle.dkg_core.proofs.Holding.{holds_bind, holds_if, holds_option}
 
 same_some : {A : Type 0} (a b : A) → ◌≡◌ {A = Option A} (Some a) (Some b) → a ≡ b
@@ -43,7 +43,7 @@ module _ {Dir : Type 0} (c : Fixed Dir) (epoch : ℕ) (ceremony : IsCeremony c) 
   law = setup_law c epoch
 
   -- no round: nothing is asked
-  bare : (st : Live Dir) → st.participation.epoch ≡ epoch → st.participation.round ≡ None → IsSetUp c epoch st
+  bare : (st : Live Dir) → st.participation.epoch ≡ epoch → st.participation.round ≡ None → IsSetUpFor c epoch st
   bare st is none = record { awaits = is; round_is = λ round some. absurd (not_some round (sym none ∙ some)) }
 
   -- a log that is signed changes nothing of the dealing
@@ -72,7 +72,7 @@ module _ {Dir : Type 0} (c : Fixed Dir) (epoch : ℕ) (ceremony : IsCeremony c) 
   makes_player : (past : List (Deed Dir)) (round : Round) (phase : Phase) (dealer : Option Dealer) (st : Live Dir) → st.participation.epoch ≡ epoch → round.number ≡ epoch → DealsValidly c round dealer
       → Holds law past (s.makes_player c round phase dealer st)
   makes_player past round phase dealer st is number valid =
-      holds_if law past (not (has round.players c.me) || s.is_lost c round (of_epoch round.number st.records.dealings) (logs_of st round.number))
+      holds_if law past (not (has round.players c.me) || s.is_lost c round (records_of_epoch round.number st.records.dealings) (logs_of st round.number))
       (s.takes_part c round phase dealer Watches st) (s.sits_down c round phase dealer (s.refused_in c round st) st)
       (λ e. takes_part past round phase dealer Watches st is number valid) (λ e. sits_down past round phase dealer (s.refused_in c round st) st is number valid)
 
@@ -129,14 +129,14 @@ module _ {Dir : Type 0} (c : Fixed Dir) (epoch : ℕ) (ceremony : IsCeremony c) 
       (λ e. (tt, bare st is.0 is.1)) (λ e. draws_up past (s.participants_of info) (Some info.output) share seed st is.0)))
 
   judged : (past : List (Deed Dir)) (floor : Option ℕ) (standing : s.Standing) (info : EpochInfo Dir) (st : Live Dir) (valid : Result (Unit {0}) ParticipantsError) → (st.participation.epoch ≡ epoch) × (st.participation.round ≡ None)
-      → Holds law past (s.judged c floor standing info st valid)
+      → Holds law past (s.info_judged c floor standing info st valid)
   judged past floor standing info st (Err e) is = tt
   judged past floor standing info st (Ok passed) is =
       λ h. with_share_and_seed past floor standing info (s.recovered_share c (c.seen h) info) (s.seed_for c info.epoch (lookup info.epoch (c.seen h).seeds)) st is
 
   with_info : (past : List (Deed Dir)) (floor : Option ℕ) (standing : s.Standing) (info : EpochInfo Dir) (st : Live Dir) → (st.participation.epoch ≡ epoch) × (st.participation.round ≡ None) → Holds law past (s.with_info c floor standing info st)
   with_info past floor standing info st is =
-      holds_if law past (info.epoch == st.participation.epoch) (s.judged c floor standing info st (validation (s.participants_of info) c.limit (Some info.output) info.epoch)) (Stops (WrongEpoch st.participation.epoch info.epoch))
+      holds_if law past (info.epoch == st.participation.epoch) (s.info_judged c floor standing info st (validation (s.participants_of info) c.limit (Some info.output) info.epoch)) (Stops (WrongEpoch st.participation.epoch info.epoch))
       (λ e. judged past floor standing info st (validation (s.participants_of info) c.limit (Some info.output) info.epoch) is) (λ e. tt)
 
   from_boundary : (past : List (Deed Dir)) (b : Option (Block Dir)) (st : Live Dir) → (st.participation.epoch ≡ epoch) × (st.participation.round ≡ None) → Holds law past (s.from_boundary c b st)

@@ -16,7 +16,7 @@ use Rattle.dkg_infos.specs.declared.fault.Fault.TheVariants.{HeightRange}
 use Rattle.dkg_types.specs.declared.message.Message.{Message as Channel}
 use Rattle.dkg_types.specs.declared.message.Message.TheVariants.{Dealer as ADealing, Ack as AnAck}
 use Rattle.dkg_types.specs.MessageCodes.{message_at}
-use Rattle.dkg_store.specs.Acts.{Held, Operation, OnDisk, Changes, World, does, Cause, Tears, IsLeft, plan}
+use Rattle.dkg_store.specs.Acts.{Held, Operation, OnDisk, Changes, World, does, Cause, Tears, IsDiskLeft, plan}
 use Rattle.dkg_store.specs.Events.{event_spelling}
 use Rattle.dkg_store.specs.declared.event.Event.TheVariants as events
 use Rattle.dkg_secrets.specs.declared.secrets.SecretOp.TheVariants.{PutDealing}
@@ -37,12 +37,12 @@ abbrev pub sparing : {Dir S : Type 0} → (Operation → Type 0) → Law Dir S
 sparing Spares = record { line = Anything; operation = λ past op. Spares op; end = Anything }
 
 -- what each operation on the disk leaves as it was, done or in part, holds along a course of such operations
-module _ {A : Type 0} (Spares : Operation → Type 0) (of : Journaled → A) (kept : (op : of_journal.Operation) (j : Journaled) → Spares (OnDisk op) → of (of_journal.after_operation op j) ≡ of j)
-    (in_part : (op : of_journal.Operation) (j new : Journaled) → Spares (OnDisk op) → InPart op j new → of new ≡ of j) where
+module _ {A : Type 0} (Spares : Operation → Type 0) (of : Journaled → A) (kept : (op : of_journal.JournalOperation) (j : Journaled) → Spares (OnDisk op) → of (of_journal.after_operation op j) ≡ of j)
+    (in_part : (op : of_journal.JournalOperation) (j new : Journaled) → Spares (OnDisk op) → InPart op j new → of new ≡ of j) where
   abbrev pub Stays : Held → World → Type 0
   Stays h w = of w.held.journaled ≡ of h.journaled
 
-  left : (op : of_journal.Operation) (j new : Journaled) → Spares (OnDisk op) → IsLeft op j new → of new ≡ of j
+  left : (op : of_journal.JournalOperation) (j new : Journaled) → Spares (OnDisk op) → IsDiskLeft op j new → of new ≡ of j
   left op j new spares (inl is) = ap of is
   left op j new spares (inr (inl is)) = ap of is ∙ kept op j spares
   left op j new spares (inr (inr part)) = in_part op j new spares part
@@ -72,7 +72,7 @@ SparesPlan (OnDisk (PutsPlan bytes)) = ⊥
 SparesPlan (OnDisk ClearsPlan) = ⊥
 SparesPlan op = Unit {0}
 
-plan_kept : (op : of_journal.Operation) (j : Journaled) → SparesPlan (OnDisk op) → (of_journal.after_operation op j).plan ≡ j.plan
+plan_kept : (op : of_journal.JournalOperation) (j : Journaled) → SparesPlan (OnDisk op) → (of_journal.after_operation op j).plan ≡ j.plan
 plan_kept Bars j spares = refl
 plan_kept (Opens calls) j spares = refl
 plan_kept (Appends e) j spares = refl
@@ -80,7 +80,7 @@ plan_kept (Prunes min) j spares = refl
 plan_kept (PutsPlan bytes) j spares = absurd spares
 plan_kept ClearsPlan j spares = absurd spares
 
-plan_in_part : (op : of_journal.Operation) (j new : Journaled) → SparesPlan (OnDisk op) → InPart op j new → new.plan ≡ j.plan
+plan_in_part : (op : of_journal.JournalOperation) (j new : Journaled) → SparesPlan (OnDisk op) → InPart op j new → new.plan ≡ j.plan
 plan_in_part Bars j new spares part = absurd part
 plan_in_part (Opens calls) j new spares part = part.1
 plan_in_part (Appends e) j new spares part = ap (λ (x : Journaled). x.plan) part
@@ -112,7 +112,7 @@ module _ {Dir : Type 0} (c : Fixed Dir) (reshare : c.oneshot ≡ None) (bare : c
       holds_as (prune_law epoch) plans past (s.setup c None st) (λ past line h. tt) (prunes_spare _) (λ past end h. tt) (setups_prune c None st past)
 
   abbrev next : Live Dir → Option (Material Dir) → Course Dir Fault (Live Dir)
-  next st found = p.in_range c (p.resolves_plan c (p.starts_from c st) found)
+  next st found = p.stays_in_range c (p.resolves_plan c (p.starts_from c st) found)
 
   goes : (past : List (Deed Dir)) (st : Live Dir) → Holds plans past (next st None)
   goes past st =

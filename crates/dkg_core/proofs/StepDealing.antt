@@ -259,13 +259,13 @@ module _ {Dir : Type 0} (c : Fixed Dir) (st : Live Dir) where
   given_of found its = option_map_or (λ round. option_map_or (λ dealer. given_in c round dealer st st.participation.seat (own_half c round dealer)) its st) found st
 
   deals_by : (found : Option Round) (its : Option Dealer) → st.participation.round ≡ found → st.participation.dealer ≡ its
-      → ComesTo (IsDealingStop c st) (λ end. (end ≡ given_of found its) × NoOwnDiffers c st) (option_map_or (λ round. option_map_or (λ dealer. d.offers c round dealer.public (s.unsent round dealer) st) its (Goes st)) found (Goes st))
+      → ComesTo (IsDealingStop c st) (λ end. (end ≡ given_of found its) × NoOwnDiffers c st) (option_map_or (λ round. option_map_or (λ dealer. d.offers c round dealer.public (s.unsent_of_round round dealer) st) its (Goes st)) found (Goes st))
   deals_by None its of_epoch of_dealer = (refl, λ epoch kept dealt other. none_apart other.round (sym of_epoch ∙ other.of_epoch))
   deals_by (Some round) None of_epoch of_dealer = (refl, λ epoch kept dealt other. none_apart other.dealer (sym of_dealer ∙ other.of_dealer))
   deals_by (Some round) (Some dealer) of_epoch of_dealer =
       comes_as (IsDealingStop c st) (IsDealingStop c st) (Offered c st round of_epoch dealer of_dealer (own_half c round dealer)) (λ end. (end ≡ given_of (Some round) (Some dealer)) × NoOwnDiffers c st)
-      (d.offers c round dealer.public (s.unsent round dealer) st) (λ fault stop. stop) (λ end its. (its.0, none_differs c st round dealer of_epoch of_dealer its.1))
-      (offers c st round of_epoch dealer of_dealer (s.unsent round dealer) refl)
+      (d.offers c round dealer.public (s.unsent_of_round round dealer) st) (λ fault stop. stop) (λ end its. (its.0, none_differs c st round dealer of_epoch of_dealer its.1))
+      (offers c st round of_epoch dealer of_dealer (s.unsent_of_round round dealer) refl)
 
   -- What it leaves is given to itself, and none that is recorded of it is another.
   pub deals_alike : ComesTo (IsDealingStop c st) (λ end. (end ≡ given_itself c st) × NoOwnDiffers c st) (d.deals c st)

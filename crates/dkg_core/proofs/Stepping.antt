@@ -28,7 +28,7 @@ use Rattle.dkg_core.specs.Node.{node_step, unless_once}
 use Rattle.dkg_core.specs.Behind.{OnlySays, IsAside, IsSameBeside, event_of}
 use Rattle.dkg_core.specs.Endings.{ComesTo, CameTo, stage_in, answer_in}
 use Rattle.dkg_core.specs.NodeEndings.{IsFaultBy}
-use Rattle.dkg_core.specs.Forms.{IsForm, IsLiveIn, IsActiveIn, Judged, Refusal, Passed, Applied, judged_over, judged_block, IsTakenIn, ComesOver, FindsHeld}
+use Rattle.dkg_core.specs.Forms.{IsForm, IsLiveIn, IsActiveIn, Judged, Refusal, Passed, Applied, judged_over_tip, judged_block, IsTakenIn, ComesOver, FindsHeld}
 use Rattle.dkg_core.specs.Stepping.{with_taken, held_at_setup, given_itself, NoOwnDiffers, dealt_behind, IsDealingStop, IsFollowedEnd, IsAppliedStop, IsBlockStop, IsAppliedEnd, IsBlockEnd, IsStepStop, IsNextIn, IsHeardBy, LeavesTaken, StepsLead, StepsLeadOver, HalvesGoOn, NodeStepsLead, NodeStepsLeadOver, IsSameLife, NextLivesStay}
 use Rattle.dkg_core.proofs.Applied.{place_of, judged_comes}
 use Rattle.dkg_core.proofs.Behind.{heard_aside, block_aside}
@@ -417,7 +417,7 @@ module _ {Dir : Type 0} (c : Fixed Dir) (form : IsForm c) (st : Live Dir) (live 
     at_most : (a b : ℕ) → nat_le a b ≡ true → a ≤ b
     at_most a b e = grind (arith, nat_tests)
 
-    passed_over : (tip : Option Tip) → st.tip ≡ tip → judged_over c block st tip ≡ Passed → IsBelow block st
+    passed_over : (tip : Option Tip) → st.tip ≡ tip → judged_over_tip c block st tip ≡ Passed → IsBelow block st
     passed_over None is e = absurd (either (b.is_in_window c block st) e)
       where
         either : (t : Bool) → (if t then Applied else Refusal (OutOfWindow block.height)) ≡ Passed → ⊥
@@ -431,7 +431,7 @@ module _ {Dir : Type 0} (c : Fixed Dir) (form : IsForm c) (st : Live Dir) (live 
         sym (live.awaits at.1 ∙ ap (λ (o : Option Tip). epoch_of c.blocks_per_epoch (option_map_or (λ t. t.height + 1) o 0)) is) ∙ at.0 in
         below_tip c.blocks_per_epoch epoch t.height block.height form.counted next (at_most block.height t.height low)
 
-    pub passed_below : (past : Bool) → (if past then Refusal HeightRange else judged_over c block st st.tip) ≡ Passed → IsBelow block st
+    pub passed_below : (past : Bool) → (if past then Refusal HeightRange else judged_over_tip c block st st.tip) ≡ Passed → IsBelow block st
     passed_below true e = absurd (let no : ◌≡◌ {A = Judged} (Refusal HeightRange) Passed = e in cc)
     passed_below false e = passed_over st.tip refl e
 

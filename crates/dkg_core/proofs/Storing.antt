@@ -42,7 +42,7 @@ use Rattle.dkg_core.specs.Courses.{Course, Say, Do, Call, Goes, Stops, bind, on_
 use Rattle.dkg_core.specs.Seen.{Seen}
 use Rattle.dkg_core.specs.Fixed.{Fixed, Material, OneShot, start}
 use Rattle.dkg_core.specs.Live.{Live, Dealer, Seat, Plays, Watches, Stage, Deals, Includes, Follows, Ends, Message, Sent, Peer, Finalized, NextLog, ReleaseLog, EpochInfoOf, Feed, Over, Cancel, Work, awaited_height, recorded_at, with_used}
-use Rattle.dkg_core.specs.Logs.{log_event}
+use Rattle.dkg_core.specs.Logs.{carried_log_event}
 use Rattle.dkg_core.specs.Setup as s
 use Rattle.dkg_core.specs.Dealing as d
 use Rattle.dkg_core.specs.Including as i
@@ -178,7 +178,7 @@ module _ {Dir : Type 0} (c : Fixed Dir) (reads : ReadsSecrets c.seen) (R : Secre
   P w = R w.held.secrets
 
   -- an operation on the disk leaves the secrets
-  on_disk : (op : of_journal.Operation) (cause : Cause) (w new : World) → Tears cause (OnDisk op) w new → P w → P new
+  on_disk : (op : of_journal.JournalOperation) (cause : Cause) (w new : World) → Tears cause (OnDisk op) w new → P w → P new
   on_disk op cause w new tears q = subst R (sym tears.torn.0) q
 
   prunes : (min : ℕ) → min ≤ most → (st : Live Dir) (w : World) → P w → Throughout P (s.prunes min st) w
@@ -290,15 +290,15 @@ module _ {Dir : Type 0} (c : Fixed Dir) (reads : ReadsSecrets c.seen) (R : Secre
 
   deals : (st : Live Dir) (w : World) → P w → Throughout P (d.deals c st) w
   deals st w q =
-      walk.rounds c P (λ w line aside q. q) st (λ round. option_map_or (λ dealer. d.offers c round dealer.public (s.unsent round dealer) st) st.participation.dealer (Goes st)) w q
-      (λ round. along_option P w st.participation.dealer (λ dealer. d.offers c round dealer.public (s.unsent round dealer) st) (Goes st) (λ dealer e. offers round dealer.public (s.unsent round dealer) st w q) (λ e. q))
+      walk.rounds c P (λ w line aside q. q) st (λ round. option_map_or (λ dealer. d.offers c round dealer.public (s.unsent_of_round round dealer) st) st.participation.dealer (Goes st)) w q
+      (λ round. along_option P w st.participation.dealer (λ dealer. d.offers c round dealer.public (s.unsent_of_round round dealer) st) (Goes st) (λ dealer e. offers round dealer.public (s.unsent_of_round round dealer) st w q) (λ e. q))
 
   -- blocks
   module _ (block : Block Dir) (low : (epoch_of c.blocks_per_epoch (block.height + 1) - 1) ≤ most) where
     records_log : (epoch : ℕ) (log : SignedDealerLog) (st : Live Dir) (w : World) → P w → Throughout {Dir = Dir} P (b.records_log epoch block.height log st) w
     records_log epoch log st w q =
         along_if P w (is_some (recorded_at st.records.logs epoch log.dealer)) (Goes st)
-        (d.appends epoch (log_event log.dealer block.height log.log) (Goes (b.with_log epoch log.dealer block.height log.log st))) (λ e. q) (λ e. (λ cause new tears. on_disk _ cause w new tears q, q))
+        (d.appends epoch (carried_log_event log.dealer block.height log.log) (Goes (b.with_log_at epoch log.dealer block.height log.log st))) (λ e. q) (λ e. (λ cause new tears. on_disk _ cause w new tears q, q))
 
     applies : (st : Live Dir) (stage : Stage) (w : World) → (stage ≡ Includes → (epoch share : ℕ) (now : Secrets) → Fits epoch share now) → P w → Throughout P (b.applies_in c block st stage) w
     applies st Deals w any q = walk.ends_dealing c P (λ w line aside q. q) most commits_read prunes block low st w q (deals st w q)
@@ -323,7 +323,7 @@ module _ {Dir : Type 0} (c : Fixed Dir) (reads : ReadsSecrets c.seen) (R : Secre
 
   -- AN OPENING
 
-  behind : (op : of_journal.Operation) (course : Course Dir Fault (Live Dir)) (w : World) → P w → Throughout P course (does w (OnDisk op)) → Throughout P (Do (OnDisk op) course) w
+  behind : (op : of_journal.JournalOperation) (course : Course Dir Fault (Live Dir)) (w : World) → P w → Throughout P course (does w (OnDisk op)) → Throughout P (Do (OnDisk op) course) w
   behind op course w q next = (λ cause new tears. on_disk op cause w new tears q, next)
 
   module _ (starts : StartsWithin c most) where
@@ -346,9 +346,9 @@ module _ {Dir : Type 0} (c : Fixed Dir) (reads : ReadsSecrets c.seen) (R : Secre
         (λ e. behind ClearsPlan (p.starts_from c st None) w q (starts_from st None (does w (OnDisk ClearsPlan)) q)) (λ e. starts_from st (Some m) w q)
 
     abbrev next : Live Dir → Option (Material Dir) → Course Dir Fault (Live Dir)
-    next st found = p.in_range c (p.resolves_plan c (p.starts_from c st) found)
+    next st found = p.stays_in_range c (p.resolves_plan c (p.starts_from c st) found)
 
-    in_range : (course : Course Dir Fault (Live Dir)) (w : World) → P w → Throughout P course w → Throughout P (p.in_range c course) w
+    in_range : (course : Course Dir Fault (Live Dir)) (w : World) → P w → Throughout P course w → Throughout P (p.stays_in_range c course) w
     in_range course w q t = along_if P w (option_map_or (λ t. s.is_past_range c (t.height + 1)) (start c) false) (Stops HeightRange) course (λ e. q) (λ e. t)
 
     goes : (st : Live Dir) (found : Option (Material Dir)) (w : World) → P w → Throughout P (next st found) w

@@ -7,11 +7,11 @@ use Rattle.dkg_ceremony.specs.declared.signed_log.SignedDealerLog.{SignedDealerL
 use Rattle.dkg_types.specs.Blocks.{Block}
 use Rattle.dkg_types.specs.PayloadCodes.{its_log}
 use Rattle.dkg_infos.specs.declared.fault.Fault.{Fault}
-use Rattle.dkg_store.specs.Acts.{Held, after}
+use Rattle.dkg_store.specs.Acts.{Held, held_after}
 use Rattle.dkg_core.specs.Courses.{Course, Say, Do, Call, Ask, Goes, Stops, bind}
 use Rattle.dkg_core.specs.Fixed.{Fixed}
 use Rattle.dkg_core.specs.Live.{Live, Stage, Deals, Includes, Follows, Ends, Request, Job, VerifiedLogs, Mail, Peer, NextLog, ReleaseLog, EpochInfoOf, Feed, Over, Cancel, Work, Sent, recorded_at, with_inclusion, with_participation, with_queue, with_tip, with_used}
-use Rattle.dkg_core.specs.Logs.{is_accepted, log_event}
+use Rattle.dkg_core.specs.Logs.{is_accepted, carried_log_event}
 use Rattle.dkg_core.specs.Dealing as d
 use Rattle.dkg_core.specs.Including as inc
 use Rattle.dkg_core.specs.Blocks as b
@@ -41,7 +41,7 @@ ends_apart e = cc
 pub over_never : {Dir F S : Type 0} (any : S → Option Held → Type 0) (stops others : F → Type 0) (goes : S → Option Held → Type 0) (course : Course Dir F S) (devices : Option Held)
     → ComesOver (λ fault. ⊥) any course devices → ComesOver stops goes course devices → ComesOver others goes course devices
 over_never any stops others goes (Say line course) devices never comes = over_never any stops others goes course devices never comes
-over_never any stops others goes (Do op course) devices never comes = over_never any stops others goes course (option_map (after op) devices) never comes
+over_never any stops others goes (Do op course) devices never comes = over_never any stops others goes course (option_map (held_after op) devices) never comes
 over_never any stops others goes (Call outer course) devices never comes = over_never any stops others goes course devices never comes
 over_never any stops others goes (Ask f) (Some h) never comes = over_never any stops others goes (f h) (Some h) never comes
 over_never any stops others goes (Ask f) None never comes = λ h. over_never any stops others goes (f h) None (never h) (comes h)
@@ -111,8 +111,8 @@ module _ {Dir : Type 0} (c : Fixed Dir) where
       by_running : (running : Option Job) → ComesOver Never Any (bind (inc.ends_verifying_in c handed st running) (λ now. inc.advanced c now)) devices
       by_running None = advanced_stays st devices unasked.1
       by_running (Some job) =
-          subst (λ (waiter : Option ℕ). ComesOver Never Any (bind (inc.completes_in c (inc.result_of c handed job) st waiter) (λ now. inc.advanced c now)) devices) (sym unasked.0)
-          (advanced_stays (inc.retains c (inc.result_of c handed job) st) devices unasked.1)
+          subst (λ (waiter : Option ℕ). ComesOver Never Any (bind (inc.completes_in c (inc.job_result_of c handed job) st waiter) (λ now. inc.advanced c now)) devices) (sym unasked.0)
+          (advanced_stays (inc.retains c (inc.job_result_of c handed job) st) devices unasked.1)
 
   asks : (request : ℕ) (st : Live Dir) (devices : Option Held) (stage : Stage) → (stage ≡ Includes → ⊥) → ComesOver Never Any (inc.asks_in c request st stage) devices
   asks request st devices Deals apart = tt
@@ -182,7 +182,7 @@ module _ {Dir : Type 0} (c : Fixed Dir) where
     recorded : (devices : Option Held) (log : SignedDealerLog) → ComesOver Never Empty (b.records_log round.number block.height log st) devices
     recorded devices log =
         over_if Never Empty devices (is_some (recorded_at st.records.logs round.number log.dealer)) (Goes st)
-        (d.appends round.number (log_event log.dealer block.height log.log) (Goes (b.with_log round.number log.dealer block.height log.log st))) (λ e. none) (λ e. none)
+        (d.appends round.number (carried_log_event log.dealer block.height log.log) (Goes (b.with_log_at round.number log.dealer block.height log.log st))) (λ e. none) (λ e. none)
 
     observed : (devices : Option Held) (log : Option SignedDealerLog) → ComesOver Never Empty (b.observes c round block st log) devices
     observed devices None = none

@@ -7,7 +7,7 @@ use Rattle.dkg_values.specs.Rising.{lookup}
 use Rattle.dkg_journal.specs.Operations.{Appends, Prunes, Journaled}
 use Rattle.dkg_journal.specs.Records.{SectionEntry, placed, from_section}
 use Rattle.dkg_infos.specs.declared.info.EpochInfo.{EpochInfo}
-use Rattle.dkg_store.specs.Acts.{Held, OnDisk, Changes, World, says, does, notes, Cause, Tears, IsLeft}
+use Rattle.dkg_store.specs.Acts.{Held, OnDisk, Changes, World, says, does, notes, Cause, Tears, IsDiskLeft}
 use Rattle.dkg_store.specs.Events.{event_spelling, IsEvent}
 use Rattle.dkg_store.specs.declared.event.Event.{Event}
 use Rattle.dkg_store.specs.declared.event.Event.TheVariants as events
@@ -31,7 +31,7 @@ use Rattle.std.specs.List.{AllByRecursion}
 use Rattle.dkg_infos.specs.declared.entry.Entry.{Entry as Line}
 use Rattle.dkg_infos.specs.declared.entry.Entry.TheVariants.{Recorded, Ack}
 use Rattle.dkg_secrets.specs.declared.secrets.SecretOp.{SecretOp}
-use Rattle.dkg_core.specs.Enduring.{AckOf, IsSaidFrom, IsKeptFrom}
+use Rattle.dkg_core.specs.Enduring.{OwnAckOf, IsSaidFrom, IsKeptFrom}
 use Rattle.dkg_core.proofs.Agreeing.{all_whole, whole_kept}
 use Rattle.dkg_core.proofs.Lasting.{pruned_at}
 
@@ -60,7 +60,7 @@ not_none a found some none = differs (sym some ∙ none)
     differs : ◌≡◌ {A = Option _} (Some a) None → ⊥
     differs e = cc
 
-module _ (ack_of : AckOf) (most : ℕ) (base : List Line) where
+module _ (ack_of : OwnAckOf) (most : ℕ) (base : List Line) where
   abbrev Q : World → Type 0
   Q w = IsKeptFrom ack_of most base w
 
@@ -126,7 +126,7 @@ module _ (ack_of : AckOf) (most : ℕ) (base : List Line) where
           over w new (from_section least (notes w.held)) w.held.secrets tears.same is tears.torn.0 (whole_kept least w.held.secrets w.held.secrets (λ k above. refl) (notes w.held) q.whole)
           (λ key v above got. pruned_from least (notes w.held) w.held.secrets key v under_most above got) q
 
-      left : IsLeft (Prunes min) w.held.journaled new.held.journaled → Q new
+      left : IsDiskLeft (Prunes min) w.held.journaled new.held.journaled → Q new
       left (inl is) = over w new (notes w.held) w.held.secrets tears.same (ap (λ (j : Journaled). j.entries) is) tears.torn.0 q.whole (λ key v above got. got) q
       left (inr (inl is)) = upto min low (ap (λ (j : Journaled). j.entries) is)
       left (inr (inr part)) = upto part.0 (let least : part.0 ≤ min = part.1 in omega arith) (ap (λ (j : Journaled). j.entries) part.2)
@@ -231,7 +231,7 @@ module _ (ack_of : AckOf) (most : ℕ) (base : List Line) where
 
 -- A COMMIT
 
-module _ {Dir : Type 0} (c : Fixed Dir) (ack_of : AckOf) (most : ℕ) (base : List Line) where
+module _ {Dir : Type 0} (c : Fixed Dir) (ack_of : OwnAckOf) (most : ℕ) (base : List Line) where
   abbrev P : World → Type 0
   P w = IsKeptFrom ack_of most base w
 

@@ -16,12 +16,12 @@ use Rattle.dkg_store.specs.Acts.{Held}
 use Rattle.dkg_store.specs.Recorded.{Pair, refused_or, first_refused}
 use Rattle.dkg_core.specs.Courses.{Goes, bind}
 use Rattle.dkg_core.specs.Fixed.{Fixed, has}
-use Rattle.dkg_core.specs.Live.{Live, Stage, Deals, Includes, Follows, Ends, Inclusion, Dealings, Job, Verified, VerifiedLogs, Artifact, Told, GaveInfo, of_epoch, with_inclusion, with_told}
+use Rattle.dkg_core.specs.Live.{Live, Stage, Deals, Includes, Follows, Ends, Inclusion, Dealings, Job, Verified, VerifiedLogs, Artifact, RequestAnswer, GaveInfo, records_of_epoch, with_inclusion, with_told}
 use Rattle.dkg_core.specs.Logs.{canonical}
 use Rattle.dkg_core.specs.Same.{same_logs}
 use Rattle.dkg_core.specs.Setup.{is_lost, pairs_of, refused_in}
 use Rattle.dkg_core.specs.Including as inc
-use Rattle.dkg_core.specs.Including.{can_finish, job_for, its_key, of_player, of_output, result_by, verified, is_of_job, result_of, retained_for, retains}
+use Rattle.dkg_core.specs.Including.{can_finish, job_for, its_key, of_player, of_output, result_by, verified, is_of_job, job_result_of, retained_for, retains}
 use Rattle.dkg_core.specs.Endings.{validity}
 use Rattle.dkg_core.specs.Forms.{IsForm, ComesOver, round_for}
 use Rattle.dkg_core.specs.Finishing.{IsFinishing}
@@ -77,7 +77,7 @@ output_of (Some output) = refl
 
 module _ {Dir : Type 0} (c : Fixed Dir) (finishing : IsFinishing c) (round : Round) (logs : LogMap) (st : Live Dir) (passes : can_finish c round logs st ≡ true → refused_in c round st ≡ None) where
   abbrev dealings : DealingMap
-  dealings = of_epoch round.number st.records.dealings
+  dealings = records_of_epoch round.number st.records.dealings
 
   abbrev player : Bool → Option Dealings
   player plays = if plays then Some (record { me = c.me; dealings = dealings }) else None
@@ -143,13 +143,13 @@ verified_is c finishing round st job its = subst (λ (x : Job). IsResultIn c rou
 abbrev pub IsHanded : {Dir : Type 0} → Fixed Dir → Option VerifiedLogs → Live Dir → Type 0
 IsHanded c handed st = (r : VerifiedLogs) → handed ≡ Some r → (job : Job) → st.inclusion.running ≡ Some job → is_of_job r job ≡ true → InRound st (λ round. IsResultIn c round st r)
 
-pub result_is : {Dir : Type 0} (c : Fixed Dir) (finishing : IsFinishing c) (round : Round) (st : Live Dir) (of_epoch : st.participation.round ≡ Some round) (job : Job) (handed : Option VerifiedLogs)
-    → IsJobIn c round st job → st.inclusion.running ≡ Some job → IsHanded c handed st → IsResultIn c round st (result_of c handed job)
-result_is c finishing round st of_epoch job None its runs taken = verified_is c finishing round st job its
-result_is c finishing round st of_epoch job (Some r) its runs taken = either (is_of_job r job) refl
+pub result_is : {Dir : Type 0} (c : Fixed Dir) (finishing : IsFinishing c) (round : Round) (st : Live Dir) (records_of_epoch : st.participation.round ≡ Some round) (job : Job) (handed : Option VerifiedLogs)
+    → IsJobIn c round st job → st.inclusion.running ≡ Some job → IsHanded c handed st → IsResultIn c round st (job_result_of c handed job)
+result_is c finishing round st records_of_epoch job None its runs taken = verified_is c finishing round st job its
+result_is c finishing round st records_of_epoch job (Some r) its runs taken = either (is_of_job r job) refl
   where
     either : (t : Bool) → is_of_job r job ≡ t → IsResultIn c round st (if t then r else verified c job)
-    either true is = of_round st (λ x. IsResultIn c x st r) round of_epoch (taken r refl job runs is)
+    either true is = of_round st (λ x. IsResultIn c x st r) round records_of_epoch (taken r refl job runs is)
     either false is = verified_is c finishing round st job its
 
 -- THE END OF A VERIFICATION
@@ -193,11 +193,11 @@ module _ {Dir : Type 0} (c : Fixed Dir) (stored : OfShares) (st : Live Dir) (dev
   abbrev To : Live Dir → Option Held → Type 0
   To end left = (left ≡ devices) × IsEndedIn c stored st end
 
-  module _ (round : Round) (of_epoch : st.participation.round ≡ Some round) (includes : st.participation.stage ≡ Includes) (r : VerifiedLogs) (its : IsResultIn c round st r) where
+  module _ (round : Round) (records_of_epoch : st.participation.round ≡ Some round) (includes : st.participation.stage ≡ Includes) (r : VerifiedLogs) (its : IsResultIn c round st r) where
     known : (info : EpochInfo Dir) × (st.participation.current ≡ Some info)
     known =
         let its = some_of (λ (info : EpochInfo Dir). (info.epoch ≡ st.participation.epoch) × (validity c info ≡ Ok tt) × (round_for c st.participation.epoch info ≡ Ok round))
-        st.participation.current (informed round of_epoch) in
+        st.participation.current (informed round records_of_epoch) in
         (its.0, its.1)
 
     -- retained, in a life with this inclusion
@@ -216,7 +216,7 @@ module _ {Dir : Type 0} (c : Fixed Dir) (stored : OfShares) (st : Live Dir) (dev
         }
         either false = record {
           has = included c stored st (record i { running = None; waiter = None; retained = Some r }) includes (λ none. refl) (λ job e. absurd (none_apart job e))
-              (λ other e. subst (λ (x : VerifiedLogs). InRound st (λ round. IsResultIn c round st x)) (some_is r other e) (round, of_epoch, its)) kept.made;
+              (λ other e. subst (λ (x : VerifiedLogs). InRound st (λ round. IsResultIn c round st x)) (some_is r other e) (round, records_of_epoch, its)) kept.made;
           same = refl;
           idle = refl;
           queue = queue;
@@ -226,22 +226,22 @@ module _ {Dir : Type 0} (c : Fixed Dir) (stored : OfShares) (st : Live Dir) (dev
 
     answered : (request : ℕ) (made : Artifact Dir) (here : Live Dir) → IsMadeIn c stored round known.0 st r.logs made here → IsEndedIn c stored st (retains c r (with_told request (GaveInfo (option_map info_payload made.info)) here))
     answered request made here at =
-        let answer : Told Dir = GaveInfo (option_map info_payload made.info) in
+        let answer : RequestAnswer Dir = GaveInfo (option_map info_payload made.info) in
         let now : Inclusion Dir = record st.inclusion { cached = here.inclusion.cached; told = (request, answer) ∷ st.inclusion.told } in
         subst (λ (x : Live Dir). IsEndedIn c stored st (retains c r (with_told request answer x))) (sym at.same)
-        (retained now (included c stored st now includes has.waits has.runs has.kept (λ d e. (round, known.0, of_epoch, known.1, at.all d e))) refl refl refl)
+        (retained now (included c stored st now includes has.waits has.runs has.kept (λ d e. (round, known.0, records_of_epoch, known.1, at.all d e))) refl refl refl)
 
     completed : (waiter : Option ℕ) → ComesOver Stop To (inc.completes_in c r st waiter) devices
     completed None = (refl, retained st.inclusion has refl refl refl)
     completed (Some request) =
-        artifacts_lead c stored round known.0 r st (λ made here. bind (inc.answers c request made here) (λ now. Goes (retains c r now))) devices Stop To form reads has of_epoch known.1 its
-        (λ fault stop. (round, known.0, of_epoch, known.1, stop)) (λ made here at. (refl, answered request made here at))
+        artifacts_lead c stored round known.0 r st (λ made here. bind (inc.answers_request c request made here) (λ now. Goes (retains c r now))) devices Stop To form reads has records_of_epoch known.1 its
+        (λ fault stop. (round, known.0, records_of_epoch, known.1, stop)) (λ made here at. (refl, answered request made here at))
 
   ends_by : (handed : Option VerifiedLogs) → IsHanded c handed st → (running : Option Job) → st.inclusion.running ≡ running → ComesOver Stop To (inc.ends_verifying_in c handed st running) devices
   ends_by handed taken None none = (refl, record { has = has; same = refl; idle = none; queue = refl; served = refl; used = refl })
   ends_by handed taken (Some job) runs =
       let its = has.runs job runs in
-      completed its.0 its.1 (runs_including c stored st job has runs) (result_of c handed job) (result_is c finishing its.0 st its.1 job handed its.2 runs taken) st.inclusion.waiter
+      completed its.0 its.1 (runs_including c stored st job has runs) (job_result_of c handed job) (result_is c finishing its.0 st its.1 job handed its.2 runs taken) st.inclusion.waiter
 
   pub verifying_ends : (handed : Option VerifiedLogs) → IsHanded c handed st → ComesOver Stop To (inc.ends_verifying c handed st) devices
   verifying_ends handed taken = ends_by handed taken st.inclusion.running refl

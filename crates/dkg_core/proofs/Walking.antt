@@ -32,14 +32,14 @@ use Rattle.dkg_store.specs.Acts.{World, says}
 use Rattle.dkg_core.specs.Sources.{Tip}
 use Rattle.dkg_core.specs.Courses.{Course, Goes, Stops, bind, Throughout, Finishes}
 use Rattle.dkg_core.specs.Fixed.{Fixed, OneShot, has}
-use Rattle.dkg_core.specs.Live.{Live, Dealer, Seat, Plays, Watches, Stage, Deals, Includes, Follows, Ends, Request, Job, Verified, VerifiedLogs, Artifact, awaited_height, of_epoch, phase_of, with_tip, with_inclusion, with_queue, is_last_height, GaveNone, with_told}
+use Rattle.dkg_core.specs.Live.{Live, Dealer, Seat, Plays, Watches, Stage, Deals, Includes, Follows, Ends, Request, Job, Verified, VerifiedLogs, Artifact, awaited_height, records_of_epoch, phase_of, with_tip, with_inclusion, with_queue, is_last_height, GaveNone, with_told}
 use Rattle.dkg_core.specs.Logs.{canonical, filled_by, is_accepted, logs_of}
 use Rattle.dkg_core.specs.Setup as s
 use Rattle.dkg_core.specs.Dealing as d
 use Rattle.dkg_core.specs.Including as i
 use Rattle.dkg_core.specs.Blocks as b
 use Rattle.dkg_core.specs.Behind.{IsAside}
-use Rattle.dkg_core.specs.Forms.{Judged, Refusal, Passed, Applied, judged_over, judged_block}
+use Rattle.dkg_core.specs.Forms.{Judged, Refusal, Passed, Applied, judged_over_tip, judged_block}
 use Rattle.dkg_core.proofs.Running.{along_next, along_end}
 use Rattle.dkg_core.proofs.Upkeep.{along_if, along_option}
 
@@ -57,7 +57,7 @@ module _ {Dir : Type 0} (c : Fixed Dir) (P : World → Type 0) (tell : (w : Worl
   gives request height None st w q = (q, tell w _ tt q)
   gives request height (Some log) st w q = (q, tell w _ tt q)
 
-  abbrev Each : World → i.Next Dir → Type 0
+  abbrev Each : World → i.Continuation Dir → Type 0
   Each w next = (made : Artifact Dir) (st : Live Dir) → Throughout P (next made st) w
 
   with_directory : (info : EpochInfo Dir) (course : Course Dir Fault (Live Dir)) (w : World) → P w → Throughout P course w → Throughout P (i.with_directory c info course) w
@@ -76,32 +76,32 @@ module _ {Dir : Type 0} (c : Fixed Dir) (P : World → Type 0) (tell : (w : Worl
       along_if P w (nat_le (2 ^ 64) epoch) (Stops HeightRange) (if n == 0 then none else if nat_lt c.limit n then above else course) (λ e. q)
       (λ e. along_if P w (n == 0) none (if nat_lt c.limit n then above else course) (λ e. q) (λ e. along_if P w (nat_lt c.limit n) above course (λ e. q) (λ e. l)))
 
-  derives_next : (info : EpochInfo Dir) (r : VerifiedLogs) (st : Live Dir) (next : i.Next Dir) (w : World) → P w → Each w next → Throughout P (i.derives_next c info r st next) w
+  derives_next : (info : EpochInfo Dir) (r : VerifiedLogs) (st : Live Dir) (next : i.Continuation Dir) (w : World) → P w → Each w next → Throughout P (i.derives_next c info r st next) w
   derives_next info r st next w q each =
       let made = info_by c.provided info (option_map (λ found. found.output) r.result) in
       with_provided (info.epoch + 2) (i.share_by c info r.result (λ share. i.with_directory c made (next (record { info = Some made; share = share }) st))) w q
       (share_by info r.result (λ share. i.with_directory c made (next (record { info = Some made; share = share }) st)) w
       (λ share. with_directory made (next (record { info = Some made; share = share }) st) w q (each (record { info = Some made; share = share }) st)))
 
-  once_with : (once : OneShot Dir) (output : Output) (share : Option ℕ) (st : Live Dir) (next : i.Next Dir) (w : World) → P w → Each w next → Throughout P (i.oneshot_with c once output share st next) w
+  once_with : (once : OneShot Dir) (output : Output) (share : Option ℕ) (st : Live Dir) (next : i.Continuation Dir) (w : World) → P w → Each w next → Throughout P (i.oneshot_with c once output share st next) w
   once_with once output None st next w q each = q
   once_with once output (Some share) st next w q each =
       with_directory (i.oneshot_made once output) (next (record { info = Some (i.oneshot_made once output); share = Some share }) st) w q (each (record { info = Some (i.oneshot_made once output); share = Some share }) st)
 
-  derives : (once : Option (OneShot Dir)) (r : VerifiedLogs) (st : Live Dir) (next : i.Next Dir) (w : World) → P w → Each w next → Throughout P (i.derives c once r st next) w
+  derives : (once : Option (OneShot Dir)) (r : VerifiedLogs) (st : Live Dir) (next : i.Continuation Dir) (w : World) → P w → Each w next → Throughout P (i.derives c once r st next) w
   derives (Some once) r st next w q each =
-      along_option P w r.result (λ found. i.oneshot_with c once found.output found.share st (i.keeping r.logs next)) (i.keeping r.logs next (record { info = None; share = None }) st)
-      (λ found e. once_with once found.output found.share st (i.keeping r.logs next) w q (λ made st. each made (i.with_cached r.logs made st)))
+      along_option P w r.result (λ found. i.oneshot_with c once found.output found.share st (i.keeping_artifact r.logs next)) (i.keeping_artifact r.logs next (record { info = None; share = None }) st)
+      (λ found e. once_with once found.output found.share st (i.keeping_artifact r.logs next) w q (λ made st. each made (i.with_cached r.logs made st)))
       (λ e. each (record { info = None; share = None }) (i.with_cached r.logs (record { info = None; share = None }) st))
   derives None r st next w q each =
-      along_option P w st.participation.current (λ info. i.derives_next c info r st (i.keeping r.logs next)) (Stops HeightRange)
-      (λ info e. derives_next info r st (i.keeping r.logs next) w q (λ made st. each made (i.with_cached r.logs made st))) (λ e. q)
+      along_option P w st.participation.current (λ info. i.derives_next c info r st (i.keeping_artifact r.logs next)) (Stops HeightRange)
+      (λ info e. derives_next info r st (i.keeping_artifact r.logs next) w q (λ made st. each made (i.with_cached r.logs made st))) (λ e. q)
 
-  artifact_by : (r : VerifiedLogs) (cached : Option (Artifact Dir)) (st : Live Dir) (next : i.Next Dir) (w : World) → P w → Each w next → Throughout P (i.artifact_by c r cached st next) w
+  artifact_by : (r : VerifiedLogs) (cached : Option (Artifact Dir)) (st : Live Dir) (next : i.Continuation Dir) (w : World) → P w → Each w next → Throughout P (i.artifact_by c r cached st next) w
   artifact_by r (Some made) st next w q each = each made st
   artifact_by r None st next w q each = derives c.oneshot r st next w q each
 
-  pub artifact : (r : VerifiedLogs) (st : Live Dir) (next : i.Next Dir) (w : World) → P w → Each w next → Throughout P (i.artifact c r st next) w
+  pub artifact : (r : VerifiedLogs) (st : Live Dir) (next : i.Continuation Dir) (w : World) → P w → Each w next → Throughout P (i.artifact c r st next) w
   artifact r st next w q each = artifact_by r (i.cached_for st.inclusion.cached r.logs) st next w q each
 
   starts_unless : (job : Job) (waiter refused : Option ℕ) (st : Live Dir) (w : World) → P w → Throughout {Dir = Dir} P (i.starts_unless job waiter refused st) w
@@ -114,7 +114,7 @@ module _ {Dir : Type 0} (c : Fixed Dir) (P : World → Type 0) (tell : (w : Worl
   asks_for : (round : Round) (request : ℕ) (logs : LogMap) (cached : Option (Artifact Dir)) (retained : Option VerifiedLogs) (st : Live Dir) (w : World) → P w
       → Throughout P (i.asks_for_by c round request logs cached retained st) w
   asks_for round request logs (Some made) retained st w q = (q, tell w _ tt q)
-  asks_for round request logs None (Some r) st w q = artifact r st (i.answers c request) w q (λ made st. (q, tell w _ tt q))
+  asks_for round request logs None (Some r) st w q = artifact r st (i.answers_request c request) w q (λ made st. (q, tell w _ tt q))
   asks_for round request logs None None st w q = starts round logs (Some request) st w q
 
   fed : (round : Round) (request : ℕ) (st : Live Dir) (f : i.Fed) (w : World) → P w → Throughout P (i.fed c round request st f) w
@@ -157,11 +157,11 @@ module _ {Dir : Type 0} (c : Fixed Dir) (P : World → Type 0) (tell : (w : Worl
 
   completes : (r : VerifiedLogs) (st : Live Dir) (waiter : Option ℕ) (w : World) → P w → Throughout P (i.completes_in c r st waiter) w
   completes r st None w q = q
-  completes r st (Some request) w q = artifact r st (λ made st. bind (i.answers c request made st) (λ st. Goes (i.retains c r st))) w q (λ made st. (q, tell w _ tt q))
+  completes r st (Some request) w q = artifact r st (λ made st. bind (i.answers_request c request made st) (λ st. Goes (i.retains c r st))) w q (λ made st. (q, tell w _ tt q))
 
   pub ends_verifying : (handed : Option VerifiedLogs) (st : Live Dir) (running : Option Job) (w : World) → P w → Throughout P (i.ends_verifying_in c handed st running) w
   ends_verifying handed st None w q = q
-  ends_verifying handed st (Some job) w q = completes (i.result_of c handed job) st st.inclusion.waiter w q
+  ends_verifying handed st (Some job) w q = completes (i.job_result_of c handed job) st st.inclusion.waiter w q
 
   pub works : (handed : Option VerifiedLogs) (st : Live Dir) (w : World) → P w → Throughout P (i.works c handed st) w
   works handed st w q =
@@ -182,7 +182,7 @@ module _ {Dir : Type 0} (c : Fixed Dir) (P : World → Type 0) (tell : (w : Worl
 
   makes_player : (round : Round) (phase : Phase) (dealer : Option Dealer) (st : Live Dir) (w : World) → P w → Throughout P (s.makes_player c round phase dealer st) w
   makes_player round phase dealer st w q =
-      along_if P w (not (has round.players c.me) || s.is_lost c round (of_epoch round.number st.records.dealings) (logs_of st round.number))
+      along_if P w (not (has round.players c.me) || s.is_lost c round (records_of_epoch round.number st.records.dealings) (logs_of st round.number))
       (s.takes_part c round phase dealer Watches st) (s.sits_down c round phase dealer (s.refused_in c round st) st)
       (λ e. takes_part round phase dealer Watches st w q) (λ e. sits_down round phase dealer (s.refused_in c round st) st w q)
 
@@ -242,13 +242,13 @@ module _ {Dir : Type 0} (c : Fixed Dir) (P : World → Type 0) (tell : (w : Worl
           (λ st w q. behind_prune floor info share seed st w q))
 
       judged : (floor : Option ℕ) (standing : s.Standing) (info : EpochInfo Dir) (st : Live Dir) (valid : Result (Unit {0}) ParticipantsError) (w : World) → st.participation.epoch ≡ epoch → P w
-          → Throughout P (s.judged c floor standing info st valid) w
+          → Throughout P (s.info_judged c floor standing info st valid) w
       judged floor standing info st (Err e) w is q = q
       judged floor standing info st (Ok passed) w is q = with_share_and_seed floor standing info st w is q
 
       with_info : (floor : Option ℕ) (standing : s.Standing) (info : EpochInfo Dir) (st : Live Dir) (w : World) → st.participation.epoch ≡ epoch → P w → Throughout P (s.with_info c floor standing info st) w
       with_info floor standing info st w is q =
-          along_if P w (info.epoch == st.participation.epoch) (s.judged c floor standing info st (validation (s.participants_of info) c.limit (Some info.output) info.epoch)) (Stops (WrongEpoch st.participation.epoch info.epoch))
+          along_if P w (info.epoch == st.participation.epoch) (s.info_judged c floor standing info st (validation (s.participants_of info) c.limit (Some info.output) info.epoch)) (Stops (WrongEpoch st.participation.epoch info.epoch))
           (λ e. judged floor standing info st (validation (s.participants_of info) c.limit (Some info.output) info.epoch) w is q) (λ e. q)
 
       from_boundary : (found : Option (Block Dir)) (st : Live Dir) (w : World) → st.participation.epoch ≡ epoch → P w → Throughout P (s.from_boundary c found st) w
@@ -338,7 +338,7 @@ module _ {Dir : Type 0} (c : Fixed Dir) (P : World → Type 0) (tell : (w : Worl
             (λ e. along_if P w (is_some made.info) omits (b.passes_on c block None st) (λ e. q) (λ e. passes_on None st w q))
             (λ e. carried (λ info. b.takes_over c block info (b.share_for c info made) st) w q (λ info. takes_over info (b.share_for c info made) st w q))
 
-        derives_now : (round : Round) (logs : LogMap) (r : Option VerifiedLogs) (st : Live Dir) (w : World) → P w → Throughout P (b.derives_now c round block logs r st) w
+        derives_now : (round : Round) (logs : LogMap) (r : Option VerifiedLogs) (st : Live Dir) (w : World) → P w → Throughout P (b.derives_at_block c round block logs r st) w
         derives_now round logs (Some r) st w q = artifact r st (b.concludes c block) w q (λ made st. concludes made st w q)
         derives_now round logs None st w q =
             let found = i.verified c (i.job_for c round logs st) in
@@ -373,7 +373,7 @@ module _ {Dir : Type 0} (c : Fixed Dir) (P : World → Type 0) (tell : (w : Worl
     -- A DELIVERED BLOCK, by what applying it keeps
 
     module _ (block : Block Dir) (st : Live Dir) (w : World) (q : P w) (applies : judged_block c block st ≡ Applied → Throughout P (b.applies c block st) w) where
-      over_tip : (tip : Option Tip) → judged_block c block st ≡ judged_over c block st tip → Throughout P (b.over_tip_in c block st tip) w
+      over_tip : (tip : Option Tip) → judged_block c block st ≡ judged_over_tip c block st tip → Throughout P (b.over_tip_in c block st tip) w
       over_tip None r =
           along_if P w (b.is_in_window c block st) (b.applies c block st) (Stops (OutOfWindow block.height))
           (λ e. applies (r ∙ ap (λ (t : Bool). if t then Applied else Refusal (OutOfWindow block.height)) e)) (λ e. q)
@@ -398,7 +398,7 @@ module _ {Dir : Type 0} (c : Fixed Dir) (P : World → Type 0) (tell : (w : Worl
       in_reach : Throughout {Dir = Dir} P (if s.is_past_range c block.height then Stops HeightRange else b.over_tip c block st) w
       in_reach =
           along_if P w (s.is_past_range c block.height) (Stops HeightRange) (b.over_tip c block st) (λ e. q)
-          (λ e. over_tip st.tip (ap (λ (x : Bool). if x then Refusal HeightRange else judged_over c block st st.tip) e))
+          (λ e. over_tip st.tip (ap (λ (x : Bool). if x then Refusal HeightRange else judged_over_tip c block st st.tip) e))
 
       pub delivered : (stage : Stage) → Throughout P (b.delivers_in c block st stage) w
       delivered Deals = in_reach

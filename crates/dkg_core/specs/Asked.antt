@@ -15,7 +15,7 @@ use Rattle.dkg_core.specs.Fixed.{Fixed, has}
 use Rattle.dkg_core.specs.Live.{Live, Includes, Follows, Inclusion, Request, Job, Verified, VerifiedLogs, Artifact, Cached, with_inclusion}
 use Rattle.dkg_core.specs.Setup.{refused_in}
 use Rattle.dkg_core.specs.Logs.{canonical, filled_by}
-use Rattle.dkg_core.specs.Including.{Found, is_need, read_of, can_finish, job_for, cached_for, retained_for, info_peers, artifact, advanced, Next}
+use Rattle.dkg_core.specs.Including.{Found, is_need, read_of, can_finish, job_for, cached_for, retained_for, info_peers, artifact, advanced, Continuation}
 use Rattle.dkg_core.specs.Laws.{IsAmong}
 use Rattle.dkg_core.specs.Endings.{validity}
 use Rattle.dkg_core.specs.Forms.{IsForm, ComesOver, FindsHeld, round_for}
@@ -146,7 +146,7 @@ pub record IsMadeIn {Dir : Type 0} (c : Fixed Dir) (stored : OfShares) (round : 
 
 -- THE ARTIFACT OF A RESULT, cached or made now, is that of its logs, and a course goes on by it; or it can't be made. It reads once at most.
 abbrev pub ArtifactsLead : Type 0 → Type 1
-ArtifactsLead Dir = (c : Fixed Dir) (stored : OfShares) (round : Round) (info : EpochInfo Dir) (r : VerifiedLogs) (st : Live Dir) (next : Next Dir) (devices : Option Held)
+ArtifactsLead Dir = (c : Fixed Dir) (stored : OfShares) (round : Round) (info : EpochInfo Dir) (r : VerifiedLogs) (st : Live Dir) (next : Continuation Dir) (devices : Option Held)
     (stops : Fault → Type 0) (goes : Live Dir → Option Held → Type 0) → IsForm c → ReadsShare c stored devices → HasAsked c stored st → st.participation.round ≡ Some round
     → st.participation.current ≡ Some info → IsResultIn c round st r → ((fault : Fault) → IsDeriveStop c round info st fault → stops fault)
     → ((made : Artifact Dir) (at : Live Dir) → IsMadeIn c stored round info st r.logs made at → ComesOver stops goes (next made at) devices)

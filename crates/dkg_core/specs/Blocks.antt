@@ -25,7 +25,7 @@ use Rattle.dkg_secrets.specs.Keys.{key_cmp}
 use Rattle.dkg_core.specs.Fixed.{Fixed}
 use Rattle.dkg_core.specs.Sources.{Tip}
 use Rattle.dkg_core.specs.Live.{Live, Dealer, Stage, Deals, Includes, Follows, Ends, Request, VerifiedLogs, Artifact, with_tip, with_participation, with_inclusion, with_queue, phase_of, is_last_height, recorded_at}
-use Rattle.dkg_core.specs.Logs.{canonical, is_accepted, log_event, recorded_log}
+use Rattle.dkg_core.specs.Logs.{canonical, is_accepted, carried_log_event, recorded_log}
 use Rattle.dkg_core.specs.Same.{same_info}
 use Rattle.dkg_core.specs.Setup.{looks, is_past_range, begins_inclusion, seed_for, recovered_share, commits, registers, setup}
 use Rattle.dkg_core.specs.Dealing.{appends, deals, with_round}
@@ -48,14 +48,14 @@ unoffered d = record d { log = None }
 abbrev pub without_own_log : {Dir : Type 0} → Fixed Dir → (dealer : ℕ) → Live Dir → Live Dir
 without_own_log c dealer st = if dealer == c.me then with_participation (record st.participation { dealer = option_map unoffered st.participation.dealer }) st else st
 
-abbrev pub with_log : {Dir : Type 0} → (epoch dealer height : ℕ) → DealerLog → Live Dir → Live Dir
-with_log epoch dealer height log st = record st { records = record st.records { logs = put key_cmp (epoch, dealer) (recorded_log height log) st.records.logs } }
+abbrev pub with_log_at : {Dir : Type 0} → (epoch dealer height : ℕ) → DealerLog → Live Dir → Live Dir
+with_log_at epoch dealer height log st = record st { records = record st.records { logs = put key_cmp (epoch, dealer) (recorded_log height log) st.records.logs } }
 
 -- The first log of a dealer is recorded, with the height of its block.
 abbrev pub records_log : {Dir : Type 0} → (epoch height : ℕ) → SignedDealerLog → Live Dir → Course Dir Fault (Live Dir)
 records_log epoch height log st =
     if is_some (recorded_at st.records.logs epoch log.dealer) then Goes st
-    else appends epoch (log_event log.dealer height log.log) (Goes (with_log epoch log.dealer height log.log st))
+    else appends epoch (carried_log_event log.dealer height log.log) (Goes (with_log_at epoch log.dealer height log.log st))
 
 -- A block's log is recorded where it counts in the round.
 abbrev pub observes : {Dir : Type 0} → Fixed Dir → Round → Block Dir → Live Dir → Option SignedDealerLog → Course Dir Fault (Live Dir)
@@ -120,15 +120,15 @@ verifies_now c round b logs st =
     let found = verified c (job_for c round logs st) in
     bind (starts_verifying c round logs None st) (λ st. artifact c found (retains c found st) (concludes c b))
 
-abbrev pub derives_now : {Dir : Type 0} → Fixed Dir → Round → Block Dir → LogMap → Option VerifiedLogs → Live Dir → Course Dir Fault (Live Dir)
-derives_now c round b logs (Some r) st = artifact c r st (concludes c b)
-derives_now c round b logs None st = verifies_now c round b logs st
+abbrev pub derives_at_block : {Dir : Type 0} → Fixed Dir → Round → Block Dir → LogMap → Option VerifiedLogs → Live Dir → Course Dir Fault (Live Dir)
+derives_at_block c round b logs (Some r) st = artifact c r st (concludes c b)
+derives_at_block c round b logs None st = verifies_now c round b logs st
 
 -- how the final block goes on: by an artifact that was cached, else by that of a result that is retained or found now
 abbrev pub concludes_by : {Dir : Type 0} → Fixed Dir → Round → Block Dir → LogMap → (before now : Option (Artifact Dir)) → Live Dir → Course Dir Fault (Live Dir)
 concludes_by c round b logs (Some made) now st = concludes c b made st
 concludes_by c round b logs None (Some made) st = concludes c b made st
-concludes_by c round b logs None None st = derives_now c round b logs (retained_for st.inclusion.retained logs) st
+concludes_by c round b logs None None st = derives_at_block c round b logs (retained_for st.inclusion.retained logs) st
 
 -- The running verification ends. The artifact of the canonical logs is the one that was cached before it ended, else the one that is cached then, or
 -- that of a result.

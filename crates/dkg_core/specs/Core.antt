@@ -12,9 +12,9 @@ use Rattle.dkg_core.specs.Fixed.{Fixed, OneShot, lending}
 use Rattle.dkg_core.specs.Live.{Live, Participation, Inclusion, Orchestrator, Probe, Follows, Watches, Mail, Peer, NextLog, ReleaseLog, EpochInfoOf, Feed, Over, Cancel, Work, Message, Sent, Finalized}
 use Rattle.dkg_core.specs.Setup.{looks}
 use Rattle.dkg_core.specs.Dealing.{hears_peer}
-use Rattle.dkg_core.specs.Including.{serves_log, releases, asks, feeds, ends, cancels, works}
+use Rattle.dkg_core.specs.Including.{serves_log, releases, asks_request, feeds_request, ends_request, cancels, works}
 use Rattle.dkg_core.specs.Blocks.{delivers}
-use Rattle.dkg_core.specs.Plans.{opens_resharing, in_range}
+use Rattle.dkg_core.specs.Plans.{opens_resharing, stays_in_range}
 use Rattle.dkg_core.specs.OneShots.{opens_once}
 
 -- AN OPENING
@@ -43,7 +43,7 @@ begun_life s = record {
 }
 
 abbrev pub opens_in : {Dir : Type 0} → Fixed Dir → Option (OneShot Dir) → Live Dir → Course Dir Fault (Live Dir)
-opens_in c (Some o) st = in_range c (opens_once c o st)
+opens_in c (Some o) st = stays_in_range c (opens_once c o st)
 opens_in c None st = opens_resharing c st
 
 -- The barrier, the journal's opening, the line with what was restored, and then the start of its mode.
@@ -57,9 +57,9 @@ abbrev pub reads_mail : {Dir : Type 0} → Fixed Dir → Mail Dir → Live Dir �
 reads_mail c (Peer from bytes) st = hears_peer c from bytes st
 reads_mail c (NextLog request height) st = serves_log c request height st
 reads_mail c (ReleaseLog height) st = Goes (releases height st)
-reads_mail c (EpochInfoOf request) st = asks c request st
-reads_mail c (Feed request b) st = feeds c request b st
-reads_mail c (Over request) st = ends c request st
+reads_mail c (EpochInfoOf request) st = asks_request c request st
+reads_mail c (Feed request b) st = feeds_request c request b st
+reads_mail c (Over request) st = ends_request c request st
 reads_mail c (Cancel request) st = cancels c request st
 reads_mail c (Work done) st = works c done st
 

@@ -1,13 +1,13 @@
 -- How many changing calls of the devices a course makes, and which of them its fuse cuts.
 use Rattle.std.specs.Prelude.{◌≡◌, ◌≤◌, ◌<◌, ◌+◌, ◌^◌, ℕ}
 use Rattle.dkg_journal.specs.Fuse.{burnt, Reached}
-use Rattle.dkg_store.specs.Acts.{Held, World, Ended, went, stopped, broken, by_cut, device_calls, after}
+use Rattle.dkg_store.specs.Acts.{Held, World, Ended, went, stopped, broken, by_cut, device_calls, held_after}
 use Rattle.dkg_core.specs.Courses.{Course, Say, Do, Call, Ask, Goes, Stops, EndsSo}
 
 -- over what the devices hold
 abbrev pub calls_of : {Dir F S : Type 0} → Course Dir F S → Held → ℕ
 calls_of (Say line course) h = calls_of course h
-calls_of (Do op course) h = device_calls op h + calls_of course (after op h)
+calls_of (Do op course) h = device_calls op h + calls_of course (held_after op h)
 calls_of (Call outer course) h = calls_of course h
 calls_of (Ask f) h = calls_of (f h) h
 calls_of (Goes end) h = 0

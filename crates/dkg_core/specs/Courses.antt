@@ -5,7 +5,7 @@ use Rattle.dkg_types.specs.declared.finalization.Finalization.{Finalization}
 use Rattle.dkg_infos.specs.declared.participants.TrackedPeers.{TrackedPeers}
 use Rattle.dkg_types.specs.declared.scheme.SchemeInfo.{SchemeInfo}
 use Rattle.dkg_store.specs.Acts as acts_of
-use Rattle.dkg_store.specs.Acts.{Acts, Operation, Held, World, Along, Completes, Ended, Runs, after}
+use Rattle.dkg_store.specs.Acts.{Acts, Operation, Held, World, Along, Completes, Ended, Runs, held_after}
 
 -- CALLS OUTSIDE
 
@@ -84,7 +84,7 @@ pub data Deed (Dir : Type 0) : Type 0 where
 -- .. over what the devices hold
 abbrev pub deeds_of : {Dir F S : Type 0} → Course Dir F S → Held → List (Deed Dir)
 deeds_of (Say line course) h = Said line ∷ deeds_of course h
-deeds_of (Do op course) h = Did op ∷ deeds_of course (after op h)
+deeds_of (Do op course) h = Did op ∷ deeds_of course (held_after op h)
 deeds_of (Call outer course) h = Called outer ∷ deeds_of course h
 deeds_of (Ask f) h = deeds_of (f h) h
 deeds_of (Goes end) h = []
@@ -93,7 +93,7 @@ deeds_of (Stops fault) h = []
 -- what it ends in, and what the devices hold then
 abbrev pub end_of : {Dir F S : Type 0} → Course Dir F S → Held → Option (S × Held)
 end_of (Say line course) h = end_of course h
-end_of (Do op course) h = end_of course (after op h)
+end_of (Do op course) h = end_of course (held_after op h)
 end_of (Call outer course) h = end_of course h
 end_of (Ask f) h = end_of (f h) h
 end_of (Goes end) h = Some (end, h)
@@ -102,7 +102,7 @@ end_of (Stops fault) h = None
 -- the fault that it stops by
 abbrev pub fault_of : {Dir F S : Type 0} → Course Dir F S → Held → Option F
 fault_of (Say line course) h = fault_of course h
-fault_of (Do op course) h = fault_of course (after op h)
+fault_of (Do op course) h = fault_of course (held_after op h)
 fault_of (Call outer course) h = fault_of course h
 fault_of (Ask f) h = fault_of (f h) h
 fault_of (Goes end) h = None

@@ -30,7 +30,7 @@ use Rattle.dkg_store.specs.declared.event.Event.TheVariants as events
 use Rattle.dkg_secrets.specs.declared.secrets.SecretOp.TheVariants.{PutDealing}
 use Rattle.dkg_core.specs.Fixed.{Fixed}
 use Rattle.dkg_core.specs.Live.{Live, Dealer, Seat, Plays, Watches, Stage, Deals, Includes, Follows, Ends, recorded_at, with_participation}
-use Rattle.dkg_core.specs.Setup.{unsent}
+use Rattle.dkg_core.specs.Setup.{unsent_of_round}
 
 abbrev pub blocks_sender : {Dir : Type 0} → (from : ℕ) → BlockedWhy → Live Dir → Course Dir Fault (Live Dir)
 blocks_sender from reason st = Say (Blocked from reason) (Goes st)
@@ -163,4 +163,4 @@ offers c round public (p ∷ ps) st =
 
 -- A dealer offers whatever isn't acknowledged.
 abbrev pub deals : {Dir : Type 0} → Fixed Dir → Live Dir → Course Dir Fault (Live Dir)
-deals c st = with_round st (λ round. option_map_or (λ d. offers c round d.public (unsent round d) st) st.participation.dealer (Goes st))
+deals c st = with_round st (λ round. option_map_or (λ d. offers c round d.public (unsent_of_round round d) st) st.participation.dealer (Goes st))

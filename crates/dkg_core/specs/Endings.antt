@@ -14,7 +14,7 @@ use Rattle.dkg_store.specs.Acts.{Held, Ended, went, stopped, broken}
 use Rattle.dkg_core.specs.Courses.{Course, Say, Do, Call, Ask, Goes, Stops}
 use Rattle.dkg_core.specs.Sources.{Tip}
 use Rattle.dkg_core.specs.Fixed.{Fixed, has}
-use Rattle.dkg_core.specs.Live.{Live, Orchestrator, Stage, Deals, Includes, Seat, Plays, Watches, Message, Sent, Finalized, of_epoch, with_orchestrator}
+use Rattle.dkg_core.specs.Live.{Live, Orchestrator, Stage, Deals, Includes, Seat, Plays, Watches, Message, Sent, Finalized, records_of_epoch, with_orchestrator}
 use Rattle.dkg_core.specs.Logs.{logs_of}
 use Rattle.dkg_core.specs.Setup.{is_lost, participants_of}
 use Rattle.dkg_core.specs.Entering.{HalfAnswer, Acknowledges, Withholds}
@@ -63,7 +63,7 @@ OnInfo {Dir} c P = IsSomeAnd (first_block c) (λ b. IsSomeAnd (info_of b.payload
 
 -- whether this node plays
 abbrev pub seat_in : {Dir : Type 0} → Fixed Dir → Round → Live Dir → Seat
-seat_in c round st = if not (has round.players c.me) || is_lost c round (of_epoch round.number st.records.dealings) (logs_of st round.number) then Watches else Plays
+seat_in c round st = if not (has round.players c.me) || is_lost c round (records_of_epoch round.number st.records.dealings) (logs_of st round.number) then Watches else Plays
 
 -- the orchestrator behind an opening: it halted without the boundary block, and else has entered the awaited epoch
 abbrev pub HasEntered : {Dir : Type 0} → Fixed Dir → Orchestrator Dir → Option (Block Dir) → Type 0

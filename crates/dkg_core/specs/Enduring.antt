@@ -17,18 +17,18 @@ use Rattle.dkg_core.specs.Laws.{reach_of, StartsWithin}
 use Rattle.dkg_core.specs.Agreeing.{AreAgreed, CanRecord}
 
 -- this node's acknowledgement of a public half, by round and dealer
-abbrev pub AckOf : Type 0
-AckOf = Round → (dealer : ℕ) → List ℕ → List ℕ
+abbrev pub OwnAckOf : Type 0
+OwnAckOf = Round → (dealer : ℕ) → List ℕ → List ℕ
 
 -- From an epoch on: a dealing that was told as recorded is given back, and an acknowledgement is that of a dealing that is given back, in a round of its epoch.
-abbrev pub IsSaidFrom : AckOf → (most : ℕ) → Held → Line → Type 0
+abbrev pub IsSaidFrom : OwnAckOf → (most : ℕ) → Held → Line → Type 0
 IsSaidFrom ack_of most h (Recorded epoch dealer public private) = most ≤ epoch → get (recovered_in h) (epoch, dealer) ≡ Some (public, private)
 IsSaidFrom ack_of most h (Ack epoch dealer ack) =
     most ≤ epoch → (pair : List ℕ × ℕ) × (round : Round) × (get (recovered_in h) (epoch, dealer) ≡ Some pair) × (round.number ≡ epoch) × (ack ≡ ack_of round dealer pair.0)
 IsSaidFrom ack_of most h line = Unit {0}
 
 -- At a moment: the devices are whole, and so is each line since the beginning, over what they give back.
-pub record IsKeptFrom (ack_of : AckOf) (most : ℕ) (base : List Line) (w : World) : Type 0 where
+pub record IsKeptFrom (ack_of : OwnAckOf) (most : ℕ) (base : List Line) (w : World) : Type 0 where
   pub whole : IsWhole (notes w.held) w.held.secrets
   pub added : List Line
   pub out : w.out ≡ base ++ added
@@ -48,5 +48,5 @@ StepsGiveBack Dir = (c : Fixed Dir) (st : Live Dir) (message : Message Dir) (end
 
 -- SO DOES AN OPENING, of the epoch that it starts in and of the one before on.
 abbrev pub OpeningsEndure : Type 0 → Type 0
-OpeningsEndure Dir = (c : Fixed Dir) (ack_of : AckOf) (most : ℕ) (base : List Line) (w : World) → StartsWithin c most
+OpeningsEndure Dir = (c : Fixed Dir) (ack_of : OwnAckOf) (most : ℕ) (base : List Line) (w : World) → StartsWithin c most
     → IsKeptFrom ack_of most base w → Throughout (IsKeptFrom ack_of most base) (opening c) w

@@ -18,17 +18,17 @@ IsTracked epoch (Called (Tracks tracked peers directory) ∷ past) = tracked ≡
 IsTracked epoch past = ⊥
 
 -- .. and then the epoch's engine was started by this scheme, and behind it the one before was stopped, if there is one.
-abbrev pub IsStarted : {Dir : Type 0} → (epoch : ℕ) → SchemeInfo → List (Deed Dir) → Type 0
-IsStarted epoch scheme (Called (StopsEngine old) ∷ past) = IsStarted epoch scheme past
-IsStarted epoch scheme (Called (StartsEngine started floor by) ∷ past) = (started ≡ epoch) × (by ≡ scheme) × IsTracked epoch past
-IsStarted epoch scheme past = ⊥
+abbrev pub IsEngineStarted : {Dir : Type 0} → (epoch : ℕ) → SchemeInfo → List (Deed Dir) → Type 0
+IsEngineStarted epoch scheme (Called (StopsEngine old) ∷ past) = IsEngineStarted epoch scheme past
+IsEngineStarted epoch scheme (Called (StartsEngine started floor by) ∷ past) = (started ≡ epoch) × (by ≡ scheme) × IsTracked epoch past
+IsEngineStarted epoch scheme past = ⊥
 
 -- The fence was ready for the epoch, its scheme was registered, its peers were tracked, and its engine was started.
 pub record IsEnterable {Dir : Type 0} (st : Live Dir) (past : List (Deed Dir)) (epoch : ℕ) : Type 0 where
   pub ready : is_ready st.orchestrator.fence.ready epoch ≡ true
   pub scheme : SchemeInfo
   pub registered : lookup epoch st.orchestrator.schemes ≡ Some scheme
-  pub started : IsStarted epoch scheme past
+  pub started : IsEngineStarted epoch scheme past
 
 abbrev pub EntryLine : {Dir : Type 0} → Live Dir → List (Deed Dir) → Line → Type 0
 EntryLine st past (Entered epoch) = IsEnterable st past epoch

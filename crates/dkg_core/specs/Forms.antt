@@ -22,7 +22,7 @@ use Rattle.dkg_infos.specs.declared.fault.ParticipantsCause.TheVariants.{Refused
 use Rattle.dkg_infos.specs.declared.info.EpochInfo.{EpochInfo}
 use Rattle.dkg_journal.specs.Operations.{Bars, Opens, Prunes}
 use Rattle.dkg_secrets.specs.declared.secrets.SecretOp.TheVariants.{PutShare, PutSeed, Prune}
-use Rattle.dkg_store.specs.Acts.{Held, World, Ended, OnDisk, Changes, after}
+use Rattle.dkg_store.specs.Acts.{Held, World, Ended, OnDisk, Changes, held_after}
 use Rattle.dkg_core.specs.Courses.{Course, Say, Do, Call, Ask, Goes, Stops, on_devices, EndsSo}
 use Rattle.dkg_core.specs.Said.{Said}
 use Rattle.dkg_core.specs.Seen.{Seen}
@@ -78,9 +78,9 @@ pub data Judged : Type 0 where
   Applied : Judged
 
 -- .. by its tip
-abbrev pub judged_over : {Dir : Type 0} → Fixed Dir → Block Dir → Live Dir → Option Tip → Judged
-judged_over c b st None = if is_in_window c b st then Applied else Refusal (OutOfWindow b.height)
-judged_over c b st (Some t) =
+abbrev pub judged_over_tip : {Dir : Type 0} → Fixed Dir → Block Dir → Live Dir → Option Tip → Judged
+judged_over_tip c b st None = if is_in_window c b st then Applied else Refusal (OutOfWindow b.height)
+judged_over_tip c b st (Some t) =
     if (b.height == t.height) && not (bytes_eq b.digest t.digest) then Refusal (ConflictingBlock b.height)
     else if nat_lt (t.height + 1) b.height then Refusal (SkippedHeight (t.height + 1) b.height)
     else if (b.height == t.height + 1) && not (bytes_eq b.parent t.digest) then Refusal (DetachedBlock b.height)
@@ -88,7 +88,7 @@ judged_over c b st (Some t) =
     else Applied
 
 abbrev pub judged_block : {Dir : Type 0} → Fixed Dir → Block Dir → Live Dir → Judged
-judged_block c b st = if is_past_range c b.height then Refusal HeightRange else judged_over c b st st.tip
+judged_block c b st = if is_past_range c b.height then Refusal HeightRange else judged_over_tip c b st st.tip
 
 -- What the form takes: a peer's message, a block that isn't applied, one below its epoch's midpoint, and any while the life follows.
 abbrev pub IsTakenIn : {Dir : Type 0} → Fixed Dir → Message Dir → Live Dir → Type 0
@@ -100,7 +100,7 @@ IsTakenIn c message st = ⊥
 
 abbrev pub ComesOver : {Dir F S : Type 0} → (stops : F → Type 0) → (goes : S → Option Held → Type 0) → Course Dir F S → Option Held → Type 0
 ComesOver stops goes (Say line course) devices = ComesOver stops goes course devices
-ComesOver stops goes (Do op course) devices = ComesOver stops goes course (option_map (after op) devices)
+ComesOver stops goes (Do op course) devices = ComesOver stops goes course (option_map (held_after op) devices)
 ComesOver stops goes (Call outer course) devices = ComesOver stops goes course devices
 ComesOver stops goes (Ask f) (Some h) = ComesOver stops goes (f h) (Some h)
 ComesOver stops goes (Ask f) None = (h : Held) → ComesOver stops goes (f h) None
@@ -194,16 +194,16 @@ seed_read c info h = seed_for c info.epoch (lookup info.epoch (c.seen h).seeds)
 -- what devices hold with this share at an epoch, if there is one
 abbrev pub with_share : (epoch : ℕ) → Option ℕ → Held → Held
 with_share epoch None h = h
-with_share epoch (Some share) h = after (Changes (PutShare epoch share)) h
+with_share epoch (Some share) h = held_after (Changes (PutShare epoch share)) h
 
 -- .. behind a commit, if there is one
 abbrev pub committed_by : {Dir : Type 0} → Standing → EpochInfo Dir → (share : Option ℕ) → (seed : List ℕ) → Held → Held
-committed_by Uncommitted info share seed h = after (Changes (PutSeed info.epoch seed)) (with_share info.epoch share h)
+committed_by Uncommitted info share seed h = held_after (Changes (PutSeed info.epoch seed)) (with_share info.epoch share h)
 committed_by WasCommitted info share seed h = h
 
 -- .. behind a setup of this epoch: nothing below the epoch before it
 abbrev pub set_up_by : {Dir : Type 0} → Standing → (epoch : ℕ) → EpochInfo Dir → (share : Option ℕ) → (seed : List ℕ) → Held → Held
-set_up_by standing epoch info share seed h = after (Changes (Prune (epoch - 1))) (after (OnDisk (Prunes (epoch - 1))) (committed_by standing info share seed h))
+set_up_by standing epoch info share seed h = held_after (Changes (Prune (epoch - 1))) (held_after (OnDisk (Prunes (epoch - 1))) (committed_by standing info share seed h))
 
 -- The seed is stored at this epoch, and so is the share, if there is one.
 pub record StoresBoth (epoch : ℕ) (share : Option ℕ) (seed : List ℕ) (h : Held) : Type 0 where
@@ -255,7 +255,7 @@ OpeningsLead Dir = (c : Fixed Dir) (ended : Ended Fault (Live Dir)) (old new : L
 
 -- what devices hold as an opening reads them: the barrier and the journal's opening are behind it
 abbrev pub held_behind : {Dir : Type 0} → Fixed Dir → Held → Held
-held_behind c h = after (OnDisk (Opens c.opening_calls)) (after (OnDisk Bars) h)
+held_behind c h = held_after (OnDisk (Opens c.opening_calls)) (held_after (OnDisk Bars) h)
 
 -- what they hold at its end: by the info of the boundary block the share and the seed that were read, and nothing below the epoch before; without that block all of it
 abbrev pub LeavesHeld : {Dir : Type 0} → Fixed Dir → (k new : Held) → Option (Block Dir) → Type 0

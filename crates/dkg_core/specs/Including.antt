@@ -26,7 +26,7 @@ use Rattle.dkg_infos.specs.NextInfos.{info_by, info_with}
 use Rattle.dkg_types.specs.PayloadCodes.{payload_spelling, its_log, log_payload, info_payload}
 use Rattle.dkg_core.specs.Courses.{Course, Say, Goes, Stops, bind}
 use Rattle.dkg_core.specs.Fixed.{Fixed, OneShot, has}
-use Rattle.dkg_core.specs.Live.{Live, Stage, Deals, Includes, Follows, Ends, Request, Dealings, Job, Verified, VerifiedLogs, Artifact, Cached, GaveLog, GaveInfo, GaveNone, of_epoch, with_inclusion, with_queue, with_used, with_told}
+use Rattle.dkg_core.specs.Live.{Live, Stage, Deals, Includes, Follows, Ends, Request, Dealings, Job, Verified, VerifiedLogs, Artifact, Cached, GaveLog, GaveInfo, GaveNone, records_of_epoch, with_inclusion, with_queue, with_used, with_told}
 use Rattle.dkg_core.specs.Logs.{canonical, is_accepted, filled_by}
 use Rattle.dkg_core.specs.Same.{same_logs, same_round}
 use Rattle.dkg_core.specs.Setup.{looks, is_lost, refused_in}
@@ -80,30 +80,30 @@ abbrev pub final_height : {Dir : Type 0} → Fixed Dir → Live Dir → ℕ
 final_height c st = last c.blocks_per_epoch st.participation.epoch
 
 -- the last needed height: the midpoint, or the tip's successor where the tip is at or above it
-abbrev pub lowest : {Dir : Type 0} → Fixed Dir → Live Dir → ℕ
-lowest c st =
+abbrev pub lowest_needed : {Dir : Type 0} → Fixed Dir → Live Dir → ℕ
+lowest_needed c st =
     let middle = midpoint c.blocks_per_epoch st.participation.epoch in
     option_map_or (λ t. if nat_lt t.height middle then middle else t.height + 1) st.tip middle
 
 -- the digest that the tip has to have: the block's own, where it is the final block's parent and nothing above the tip is needed
-abbrev pub link_of : {Dir : Type 0} → Fixed Dir → Live Dir → Block Dir → List ℕ
-link_of c st b = if nat_lt b.height (lowest c st) then b.digest else b.parent
+abbrev pub request_link_of : {Dir : Type 0} → Fixed Dir → Live Dir → Block Dir → List ℕ
+request_link_of c st b = if nat_lt b.height (lowest_needed c st) then b.digest else b.parent
 
 -- The lowest link isn't the tip, where the tip stands right below the last needed height.
 abbrev pub is_detached : {Dir : Type 0} → Fixed Dir → Live Dir → Block Dir → Bool
-is_detached c st b = option_map_or (λ t. (t.height + 1 == lowest c st) && not (bytes_eq t.digest (link_of c st b))) st.tip false
+is_detached c st b = option_map_or (λ t. (t.height + 1 == lowest_needed c st) && not (bytes_eq t.digest (request_link_of c st b))) st.tip false
 
 -- A lower log of a dealer takes the place of a higher one.
-abbrev pub with_lower : {Dir : Type 0} → Fixed Dir → Round → Live Dir → Block Dir → LogMap → LogMap
-with_lower c round st b found =
-    if nat_lt b.height (lowest c st) then found
+abbrev pub with_lower_log : {Dir : Type 0} → Fixed Dir → Round → Live Dir → Block Dir → LogMap → LogMap
+with_lower_log c round st b found =
+    if nat_lt b.height (lowest_needed c st) then found
     else option_map_or (λ log. if is_accepted c round log then with_pair (log.dealer, log.log) found else found) (option_and_then its_log b.payload) found
 
 abbrev pub is_unlinked : {Dir : Type 0} → Option (Block Dir) → Block Dir → Bool
 is_unlinked above b = option_map_or (λ a. not (bytes_eq b.digest a.parent)) above false
 
-abbrev pub is_final : {Dir : Type 0} → Fixed Dir → Live Dir → Option (Block Dir) → Block Dir → Bool
-is_final c st above b = is_none above && (b.height == final_height c st)
+abbrev pub is_final_read : {Dir : Type 0} → Fixed Dir → Live Dir → Option (Block Dir) → Block Dir → Bool
+is_final_read c st above b = is_none above && (b.height == final_height c st)
 
 -- the height of the next block: one below that above it
 abbrev pub next_height : {Dir : Type 0} → Fixed Dir → Live Dir → Option (Block Dir) → ℕ
@@ -113,12 +113,12 @@ next_height c st above = option_map_or (λ a. a.height - 1) above (final_height 
 abbrev pub scan : {Dir : Type 0} → Fixed Dir → Round → Live Dir → Option (Block Dir) → LogMap → List (Block Dir) → (ended : Bool) → Fed
 scan c round st above found [] ended = if ended then Lacks Short else Need
 scan c round st above found (b ∷ bs) ended =
-    if is_final c st above b then scan c round st (Some b) found bs ended
+    if is_final_read c st above b then scan c round st (Some b) found bs ended
     else if not (b.height == next_height c st above) then Lacks (WrongHeight (next_height c st above) b.height)
     else if is_unlinked above b then Lacks (Unlinked b.height)
-    else if nat_lt (lowest c st) b.height then scan c round st (Some b) (with_lower c round st b found) bs ended
+    else if nat_lt (lowest_needed c st) b.height then scan c round st (Some b) (with_lower_log c round st b found) bs ended
     else if is_detached c st b then Lacks (Detached b.height)
-    else Found (with_lower c round st b found)
+    else Found (with_lower_log c round st b found)
 
 -- A final block at height 0 has no ancestry.
 abbrev pub read_of : {Dir : Type 0} → Fixed Dir → Round → Live Dir → Request Dir → Fed
@@ -128,13 +128,13 @@ read_of c round st r = if final_height c st == 0 then Found [] else scan c round
 
 -- this node has a player for these logs
 abbrev pub can_finish : {Dir : Type 0} → Fixed Dir → Round → LogMap → Live Dir → Bool
-can_finish c round logs st = has round.players c.me && not (is_lost c round (of_epoch round.number st.records.dealings) logs)
+can_finish c round logs st = has round.players c.me && not (is_lost c round (records_of_epoch round.number st.records.dealings) logs)
 
 -- a verification of some logs, by this node's player where it has one
 abbrev pub job_for : {Dir : Type 0} → Fixed Dir → Round → LogMap → Live Dir → Job
 job_for c round logs st = record {
   round = round;
-  player = if can_finish c round logs st then Some (record { me = c.me; dealings = of_epoch round.number st.records.dealings }) else None;
+  player = if can_finish c round logs st then Some (record { me = c.me; dealings = records_of_epoch round.number st.records.dealings }) else None;
   logs = logs;
 }
 
@@ -168,9 +168,9 @@ abbrev pub is_of_job : VerifiedLogs → Job → Bool
 is_of_job handed job = same_round handed.round job.round && same_key handed.me (its_key job) && same_logs handed.logs job.logs
 
 -- The result of a job: the one that is handed in, where it is of that job, else what this node finds.
-abbrev pub result_of : {Dir : Type 0} → Fixed Dir → Option VerifiedLogs → Job → VerifiedLogs
-result_of c None job = verified c job
-result_of c (Some handed) job = if is_of_job handed job then handed else verified c job
+abbrev pub job_result_of : {Dir : Type 0} → Fixed Dir → Option VerifiedLogs → Job → VerifiedLogs
+job_result_of c None job = verified c job
+job_result_of c (Some handed) job = if is_of_job handed job then handed else verified c job
 
 abbrev pub retained_for : Option VerifiedLogs → LogMap → Option VerifiedLogs
 retained_for retained logs = option_and_then (λ r. if same_logs r.logs logs then Some r else None) retained
@@ -181,8 +181,8 @@ cached_for cached logs = option_and_then (λ d. if same_logs d.logs logs then So
 -- THE ARTIFACT
 
 -- how an artifact goes on
-abbrev pub Next : Type 0 → Type 0
-Next Dir = Artifact Dir → Live Dir → Course Dir Fault (Live Dir)
+abbrev pub Continuation : Type 0 → Type 0
+Continuation Dir = Artifact Dir → Live Dir → Course Dir Fault (Live Dir)
 
 abbrev pub info_peers : {Dir : Type 0} → EpochInfo Dir → List ℕ
 info_peers info = peers_of info.output.players info.players info.next_players
@@ -205,7 +205,7 @@ with_provided c epoch acts =
     else acts
 
 -- By a result: the info of the next epoch, and this node's share of it.
-abbrev pub derives_next : {Dir : Type 0} → Fixed Dir → EpochInfo Dir → VerifiedLogs → Live Dir → Next Dir → Course Dir Fault (Live Dir)
+abbrev pub derives_next : {Dir : Type 0} → Fixed Dir → EpochInfo Dir → VerifiedLogs → Live Dir → Continuation Dir → Course Dir Fault (Live Dir)
 derives_next c info r st next =
     let made = info_by c.provided info (option_map (λ found. found.output) r.result) in
     with_provided c (info.epoch + 2) (share_by c info r.result (λ share. with_directory c made (next (record { info = Some made; share = share }) st)))
@@ -213,31 +213,31 @@ derives_next c info r st next =
 abbrev pub oneshot_made : {Dir : Type 0} → OneShot Dir → Output → EpochInfo Dir
 oneshot_made o output = info_with (λ peers. o.directory) Success 0 output o.participants []
 
-abbrev pub oneshot_with : {Dir : Type 0} → Fixed Dir → OneShot Dir → Output → Option ℕ → Live Dir → Next Dir → Course Dir Fault (Live Dir)
+abbrev pub oneshot_with : {Dir : Type 0} → Fixed Dir → OneShot Dir → Output → Option ℕ → Live Dir → Continuation Dir → Course Dir Fault (Live Dir)
 oneshot_with c o output None st next = Stops (LocalState NoShare)
 oneshot_with c o output (Some share) st next =
     with_directory c (oneshot_made o output) (next (record { info = Some (oneshot_made o output); share = Some share }) st)
 
 -- Once alone: an info of epoch 0, or none without an outcome; an outcome needs this node's share.
-abbrev pub derives_once : {Dir : Type 0} → Fixed Dir → OneShot Dir → VerifiedLogs → Live Dir → Next Dir → Course Dir Fault (Live Dir)
+abbrev pub derives_once : {Dir : Type 0} → Fixed Dir → OneShot Dir → VerifiedLogs → Live Dir → Continuation Dir → Course Dir Fault (Live Dir)
 derives_once c o r st next = option_map_or (λ found. oneshot_with c o found.output found.share st next) r.result (next (record { info = None; share = None }) st)
 
 abbrev pub with_cached : {Dir : Type 0} → LogMap → Artifact Dir → Live Dir → Live Dir
 with_cached logs made st = with_inclusion (record st.inclusion { cached = Some (record { logs = logs; artifact = made }) }) st
 
-abbrev pub keeping : {Dir : Type 0} → LogMap → Next Dir → Next Dir
-keeping logs next made st = next made (with_cached logs made st)
+abbrev pub keeping_artifact : {Dir : Type 0} → LogMap → Continuation Dir → Continuation Dir
+keeping_artifact logs next made st = next made (with_cached logs made st)
 
-abbrev pub derives : {Dir : Type 0} → Fixed Dir → Option (OneShot Dir) → VerifiedLogs → Live Dir → Next Dir → Course Dir Fault (Live Dir)
-derives c (Some o) r st next = derives_once c o r st (keeping r.logs next)
-derives c None r st next = option_map_or (λ info. derives_next c info r st (keeping r.logs next)) st.participation.current (Stops HeightRange)
+abbrev pub derives : {Dir : Type 0} → Fixed Dir → Option (OneShot Dir) → VerifiedLogs → Live Dir → Continuation Dir → Course Dir Fault (Live Dir)
+derives c (Some o) r st next = derives_once c o r st (keeping_artifact r.logs next)
+derives c None r st next = option_map_or (λ info. derives_next c info r st (keeping_artifact r.logs next)) st.participation.current (Stops HeightRange)
 
 -- The cached artifact of these logs, or that of this result, which is cached then. (After a setup there is a current info.)
-abbrev pub artifact_by : {Dir : Type 0} → Fixed Dir → VerifiedLogs → (cached : Option (Artifact Dir)) → Live Dir → Next Dir → Course Dir Fault (Live Dir)
+abbrev pub artifact_by : {Dir : Type 0} → Fixed Dir → VerifiedLogs → (cached : Option (Artifact Dir)) → Live Dir → Continuation Dir → Course Dir Fault (Live Dir)
 artifact_by c r (Some made) st next = next made st
 artifact_by c r None st next = derives c c.oneshot r st next
 
-abbrev pub artifact : {Dir : Type 0} → Fixed Dir → VerifiedLogs → Live Dir → Next Dir → Course Dir Fault (Live Dir)
+abbrev pub artifact : {Dir : Type 0} → Fixed Dir → VerifiedLogs → Live Dir → Continuation Dir → Course Dir Fault (Live Dir)
 artifact c r st next = artifact_by c r (cached_for st.inclusion.cached r.logs) st next
 
 -- ANSWERS
@@ -245,8 +245,8 @@ artifact c r st next = artifact_by c r (cached_for st.inclusion.cached r.logs) s
 abbrev pub answers_none : {Dir : Type 0} → (request : ℕ) → Why → Live Dir → Course Dir Fault (Live Dir)
 answers_none request reason st = Say (Answer request (Unavailable reason)) (Goes (with_told request (GaveNone reason) st))
 
-abbrev pub answers : {Dir : Type 0} → Fixed Dir → (request : ℕ) → Artifact Dir → Live Dir → Course Dir Fault (Live Dir)
-answers c request made st =
+abbrev pub answers_request : {Dir : Type 0} → Fixed Dir → (request : ℕ) → Artifact Dir → Live Dir → Course Dir Fault (Live Dir)
+answers_request c request made st =
     Say (Answer request (Available (option_map (λ info. payload_bytes c (info_payload info)) made.info)))
     (Goes (with_told request (GaveInfo (option_map info_payload made.info)) st))
 
@@ -264,18 +264,18 @@ starts_verifying c round logs waiter st =
 
 -- The answer comes from the cache, from the retained result, or from a new verification.
 abbrev pub asks_for_by : {Dir : Type 0} → Fixed Dir → Round → (request : ℕ) → LogMap → (cached : Option (Artifact Dir)) → (retained : Option VerifiedLogs) → Live Dir → Course Dir Fault (Live Dir)
-asks_for_by c round request logs (Some made) retained st = answers c request made st
-asks_for_by c round request logs None (Some r) st = artifact c r st (answers c request)
+asks_for_by c round request logs (Some made) retained st = answers_request c request made st
+asks_for_by c round request logs None (Some r) st = artifact c r st (answers_request c request)
 asks_for_by c round request logs None None st = starts_verifying c round logs (Some request) st
 
-abbrev pub asks_for : {Dir : Type 0} → Fixed Dir → Round → (request : ℕ) → LogMap → Live Dir → Course Dir Fault (Live Dir)
-asks_for c round request logs st = asks_for_by c round request logs (cached_for st.inclusion.cached logs) (retained_for st.inclusion.retained logs) st
+abbrev pub asks_logs : {Dir : Type 0} → Fixed Dir → Round → (request : ℕ) → LogMap → Live Dir → Course Dir Fault (Live Dir)
+asks_logs c round request logs st = asks_for_by c round request logs (cached_for st.inclusion.cached logs) (retained_for st.inclusion.retained logs) st
 
 -- Found logs fill in for dealers that have no recorded log.
 abbrev pub fed : {Dir : Type 0} → Fixed Dir → Round → (request : ℕ) → Live Dir → Fed → Course Dir Fault (Live Dir)
 fed c round request st Need = Goes st
 fed c round request st (Lacks reason) = answers_none request reason st
-fed c round request st (Found logs) = asks_for c round request (filled_by (canonical c st) logs) st
+fed c round request st (Found logs) = asks_logs c round request (filled_by (canonical c st) logs) st
 
 abbrev pub is_need : Fed → Bool
 is_need Need = true
@@ -312,18 +312,18 @@ asks_in c request st Includes = advanced c (queued request st)
 asks_in c request st Follows = answers_none request Following st
 asks_in c request st Ends = answers_none request Terminal st
 
-abbrev pub asks : {Dir : Type 0} → Fixed Dir → (request : ℕ) → Live Dir → Course Dir Fault (Live Dir)
-asks c request st = asks_in c request (with_used request st) st.participation.stage
+abbrev pub asks_request : {Dir : Type 0} → Fixed Dir → (request : ℕ) → Live Dir → Course Dir Fault (Live Dir)
+asks_request c request st = asks_in c request (with_used request st) st.participation.stage
 
 abbrev pub changed : {Dir : Type 0} → (request : ℕ) → (Request Dir → Request Dir) → Live Dir → Live Dir
 changed request f st = with_queue (map (λ r. if r.number == request then f r else r) st.inclusion.queue) st
 
 -- One block more of a request's ancestry, unless that ended.
-abbrev pub feeds : {Dir : Type 0} → Fixed Dir → (request : ℕ) → Block Dir → Live Dir → Course Dir Fault (Live Dir)
-feeds c request b st = advanced c (changed request (λ r. if r.ended then r else record r { blocks = r.blocks ++ b ∷ [] }) st)
+abbrev pub feeds_request : {Dir : Type 0} → Fixed Dir → (request : ℕ) → Block Dir → Live Dir → Course Dir Fault (Live Dir)
+feeds_request c request b st = advanced c (changed request (λ r. if r.ended then r else record r { blocks = r.blocks ++ b ∷ [] }) st)
 
-abbrev pub ends : {Dir : Type 0} → Fixed Dir → (request : ℕ) → Live Dir → Course Dir Fault (Live Dir)
-ends c request st = advanced c (changed request (λ r. record r { ended = true }) st)
+abbrev pub ends_request : {Dir : Type 0} → Fixed Dir → (request : ℕ) → Live Dir → Course Dir Fault (Live Dir)
+ends_request c request st = advanced c (changed request (λ r. record r { ended = true }) st)
 
 -- A verification that a cancelled request started goes on, for nobody.
 abbrev pub cancels : {Dir : Type 0} → Fixed Dir → (request : ℕ) → Live Dir → Course Dir Fault (Live Dir)
@@ -341,7 +341,7 @@ retains c r st =
 
 abbrev pub completes_in : {Dir : Type 0} → Fixed Dir → VerifiedLogs → Live Dir → (waiter : Option ℕ) → Course Dir Fault (Live Dir)
 completes_in c r st None = Goes (retains c r st)
-completes_in c r st (Some request) = artifact c r st (λ made st. bind (answers c request made st) (λ st. Goes (retains c r st)))
+completes_in c r st (Some request) = artifact c r st (λ made st. bind (answers_request c request made st) (λ st. Goes (retains c r st)))
 
 abbrev pub completes : {Dir : Type 0} → Fixed Dir → VerifiedLogs → Live Dir → Course Dir Fault (Live Dir)
 completes c r st = completes_in c r st st.inclusion.waiter
@@ -349,7 +349,7 @@ completes c r st = completes_in c r st st.inclusion.waiter
 -- The running verification ends, if there is one: by a result that is handed in, or by this node's own.
 abbrev pub ends_verifying_in : {Dir : Type 0} → Fixed Dir → Option VerifiedLogs → Live Dir → Option Job → Course Dir Fault (Live Dir)
 ends_verifying_in c handed st None = Goes st
-ends_verifying_in c handed st (Some job) = completes c (result_of c handed job) st
+ends_verifying_in c handed st (Some job) = completes c (job_result_of c handed job) st
 
 abbrev pub ends_verifying : {Dir : Type 0} → Fixed Dir → Option VerifiedLogs → Live Dir → Course Dir Fault (Live Dir)
 ends_verifying c handed st = ends_verifying_in c handed st st.inclusion.running

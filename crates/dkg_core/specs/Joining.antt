@@ -19,10 +19,10 @@ joined directory fault end (of_probe.Goes its) = Goes (end its)
 joined directory fault end (of_probe.Stops its) = Stops (fault its)
 
 -- what ends a probe early is want of memory
-abbrev pub ended_as : {F G S T : Type 0} → (F → G) → (S → T) → of_probe.ProbeEnded F S → of_store.Ended G T
-ended_as fault end (of_probe.went its) = of_store.went (end its)
-ended_as fault end (of_probe.stopped its) = of_store.stopped (fault its)
-ended_as fault end of_probe.broken = of_store.broken by_want
+abbrev pub probe_ended_as : {F G S T : Type 0} → (F → G) → (S → T) → of_probe.ProbeEnded F S → of_store.Ended G T
+probe_ended_as fault end (of_probe.went its) = of_store.went (end its)
+probe_ended_as fault end (of_probe.stopped its) = of_store.stopped (fault its)
+probe_ended_as fault end of_probe.broken = of_store.broken by_want
 
 -- the sets that a manager tracks behind the calls among some deeds, by number
 abbrev pub tracked_by : {Dir : Type 0} → List (Deed Dir) → (ℕ → Option TrackedPeers) → ℕ → Option TrackedPeers
@@ -34,7 +34,7 @@ tracked_by (deed ∷ deeds) sets = tracked_by deeds sets
 -- WHATEVER RUNS AS A PROBE'S ACTS runs as the joined course: over any devices, which it leaves as they were with the fuse, and with the same lines.
 abbrev pub ProbesJoin : (Dir F G S T : Type 0) → Type 0
 ProbesJoin Dir F G S T = (directory : Dir) (fault : F → G) (end : S → T) (acts : ProbeActs F S) (ended : of_probe.ProbeEnded F S) (w : World) (new : List Line)
-    → ProbeRuns acts ended w.out new → EndsSo (joined directory fault end acts) (ended_as fault end ended) w (with_out new w)
+    → ProbeRuns acts ended w.out new → EndsSo (joined directory fault end acts) (probe_ended_as fault end ended) w (with_out new w)
 
 -- A manager that does the calls of the joined course tracks what the acts say, whatever the devices hold.
 abbrev pub JoinsTrack : (Dir F G S T : Type 0) → Type 0

@@ -276,12 +276,12 @@ abbrev pub StandInsAreCeremonies : Type 0 → Type 0
 StandInsAreCeremonies Dir = (c : Fixed Dir) → c.rules ≡ stand_in → IsCeremony c
 
 -- The life awaits this epoch, and where it takes part in a round, that is the epoch's and its own dealing there is valid.
-pub record IsSetUp {Dir : Type 0} (c : Fixed Dir) (epoch : ℕ) (st : Live Dir) : Type 0 where
+pub record IsSetUpFor {Dir : Type 0} (c : Fixed Dir) (epoch : ℕ) (st : Live Dir) : Type 0 where
   pub awaits : st.participation.epoch ≡ epoch
   pub round_is : (round : Round) → st.participation.round ≡ Some round → (round.number ≡ epoch) × DealsValidly c round st.participation.dealer
 
 abbrev pub setup_law : {Dir : Type 0} → Fixed Dir → (epoch : ℕ) → Law Dir (Live Dir)
-setup_law c epoch = record { line = Anything; operation = Anything; end = λ past st. IsSetUp c epoch st }
+setup_law c epoch = record { line = Anything; operation = Anything; end = λ past st. IsSetUpFor c epoch st }
 
 abbrev pub SetupsAreSound : Type 0 → Type 0
 SetupsAreSound Dir = (c : Fixed Dir) (material : Option (EpochInfo Dir × ℕ)) (st : Live Dir) (past : List (Deed Dir)) → IsCeremony c

@@ -105,10 +105,10 @@ pub record Cached (Dir : Type 0) : Type 0 where
   pub artifact : Artifact Dir
 
 -- what a request was answered
-pub data Told (Dir : Type 0) : Type 0 where
-  GaveLog : Option (Payload Dir) → Told Dir
-  GaveInfo : Option (Payload Dir) → Told Dir
-  GaveNone : Why → Told Dir
+pub data RequestAnswer (Dir : Type 0) : Type 0 where
+  GaveLog : Option (Payload Dir) → RequestAnswer Dir
+  GaveInfo : Option (Payload Dir) → RequestAnswer Dir
+  GaveNone : Why → RequestAnswer Dir
 
 -- served: the height for which the own log counts as served. queue: the first request is read while no verification runs.
 -- waiter: the request that the running verification answers.
@@ -121,7 +121,7 @@ pub record Inclusion (Dir : Type 0) : Type 0 where
   pub cached : Option (Cached Dir)
   -- the request numbers of the life, and the answers that requests were told, the newest first
   pub used : List ℕ
-  pub told : List (ℕ × Told Dir)
+  pub told : List (ℕ × RequestAnswer Dir)
 
 -- THE ORCHESTRATOR
 
@@ -246,7 +246,7 @@ with_queue queue st = with_inclusion (record st.inclusion { queue = queue }) st
 abbrev pub with_used : {Dir : Type 0} → (number : ℕ) → Live Dir → Live Dir
 with_used number st = with_inclusion (record st.inclusion { used = number ∷ st.inclusion.used }) st
 
-abbrev pub with_told : {Dir : Type 0} → (number : ℕ) → Told Dir → Live Dir → Live Dir
+abbrev pub with_told : {Dir : Type 0} → (number : ℕ) → RequestAnswer Dir → Live Dir → Live Dir
 with_told number told st = with_inclusion (record st.inclusion { told = (number, told) ∷ st.inclusion.told }) st
 
 -- what is recorded at an epoch and a key
@@ -254,5 +254,5 @@ abbrev pub recorded_at : {V : Type 0} → List ((ℕ × ℕ) × V) → (epoch ke
 recorded_at records epoch key = found_at key_cmp (epoch, key) records
 
 -- what is recorded of an epoch, by key
-abbrev pub of_epoch : {V : Type 0} → (epoch : ℕ) → List ((ℕ × ℕ) × V) → List (ℕ × V)
-of_epoch epoch records = map (λ r. (r.0.1, r.1)) (filter (λ r. (r.0.0 == epoch) && nat_lt r.0.1 (2 ^ 32)) records)
+abbrev pub records_of_epoch : {V : Type 0} → (epoch : ℕ) → List ((ℕ × ℕ) × V) → List (ℕ × V)
+records_of_epoch epoch records = map (λ r. (r.0.1, r.1)) (filter (λ r. (r.0.0 == epoch) && nat_lt r.0.1 (2 ^ 32)) records)

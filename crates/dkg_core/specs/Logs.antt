@@ -11,11 +11,11 @@ use Rattle.dkg_store.specs.declared.event.Event.{Event}
 use Rattle.dkg_store.specs.declared.event.Event.TheVariants.{LogAt}
 use Rattle.dkg_store.specs.declared.recorded_log.RecordedLog.{RecordedLog}
 use Rattle.dkg_core.specs.Fixed.{Fixed, has}
-use Rattle.dkg_core.specs.Live.{Live, of_epoch}
+use Rattle.dkg_core.specs.Live.{Live, records_of_epoch}
 
 -- the record of a log that a block at a height carries, in the journal and in memory
-abbrev pub log_event : (dealer height : ℕ) → DealerLog → Event
-log_event dealer height log = LogAt dealer height log
+abbrev pub carried_log_event : (dealer height : ℕ) → DealerLog → Event
+carried_log_event dealer height log = LogAt dealer height log
 
 abbrev pub recorded_log : (height : ℕ) → DealerLog → RecordedLog
 recorded_log height log = record { height = Some height; log = log }
@@ -26,12 +26,12 @@ is_accepted c round log = has round.dealers log.dealer && c.rules.check_log_of r
 
 -- all recorded logs of an epoch, whatever their heights
 abbrev pub logs_of : {Dir : Type 0} → Live Dir → (epoch : ℕ) → LogMap
-logs_of st epoch = bare_logs (of_epoch epoch st.records.logs)
+logs_of st epoch = bare_logs (records_of_epoch epoch st.records.logs)
 
 -- .. and those of the awaited epoch that blocks at or below the tip carry
 abbrev pub canonical : {Dir : Type 0} → Fixed Dir → Live Dir → LogMap
 canonical c st =
-    reached_logs (midpoint c.blocks_per_epoch st.participation.epoch) (option_map (λ t. t.height) st.tip) (of_epoch st.participation.epoch st.records.logs)
+    reached_logs (midpoint c.blocks_per_epoch st.participation.epoch) (option_map (λ t. t.height) st.tip) (records_of_epoch st.participation.epoch st.records.logs)
 
 -- WORDS ON LOGS BY DEALER
 

@@ -14,7 +14,7 @@ use Rattle.dkg_core.specs.Setup.{looks}
 use Rattle.dkg_core.specs.Plans.{material_at}
 use Rattle.dkg_core.specs.Core.{opening, step, Reply, State, IsReplyOf, Answered}
 use Rattle.dkg_core.specs.Entering.{acked_at, opens_half, asks_again, takes_delivered, hints}
-use Rattle.dkg_core.specs.Desk.{prepares, proposes, verifies}
+use Rattle.dkg_core.specs.Desk.{prepares, proposes, verifies_ancestry}
 use Rattle.dkg_core.specs.Probing.{probes}
 
 -- A one-shot node has no orchestrator's half.
@@ -47,7 +47,7 @@ node_step c (Reshare mail) st = then_again c (step c (Sent mail) st)
 node_step c (Later from epoch) st = unless_once c (hints c from epoch st) (Goes st)
 node_step c (Prepare ancestry) st = then_again c (prepares c ancestry st)
 node_step c (Propose ancestry) st = then_again c (proposes c ancestry st)
-node_step c (Verify ancestry) st = then_again c (verifies c ancestry st)
+node_step c (Verify ancestry) st = then_again c (verifies_ancestry c ancestry st)
 node_step c event st = bind (probes c event st) (λ st. unless_once c (asks_again c st) (Goes st))
 
 -- THE RELATIONS: of an opening, of a step, of a run of calls that were answered, and of a last step

@@ -63,8 +63,8 @@ resolves_plan c next None = next None
 resolves_plan c next (Some m) = if is_outdated c m then Do (OnDisk ClearsPlan) (next None) else next (Some m)
 
 -- The height above the position that the source tells has to be in range.
-abbrev pub in_range : {Dir S : Type 0} → Fixed Dir → Course Dir Fault S → Course Dir Fault S
-in_range c course = if option_map_or (λ t. is_past_range c (t.height + 1)) (start c) false then Stops HeightRange else course
+abbrev pub stays_in_range : {Dir S : Type 0} → Fixed Dir → Course Dir Fault S → Course Dir Fault S
+stays_in_range c course = if option_map_or (λ t. is_past_range c (t.height + 1)) (start c) false then Stops HeightRange else course
 
 abbrev pub starts_at : {Dir : Type 0} → Fixed Dir → Material Dir → Option (Block Dir) → Live Dir → Course Dir Fault (Live Dir)
 starts_at c m None st = Stops FloorBlockMissing
@@ -78,4 +78,4 @@ starts_from c st (Some m) =
 
 -- An opening in reshare mode, behind the store's.
 abbrev pub opens_resharing : {Dir : Type 0} → Fixed Dir → Live Dir → Course Dir Fault (Live Dir)
-opens_resharing c st = finds_material c c.material (λ found. in_range c (resolves_plan c (starts_from c st) found))
+opens_resharing c st = finds_material c c.material (λ found. stays_in_range c (resolves_plan c (starts_from c st) found))

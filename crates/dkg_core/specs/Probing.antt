@@ -19,7 +19,7 @@ use Rattle.dkg_core.specs.Sources.{Source}
 
 -- WHAT IT IS GIVEN
 
-abbrev pub given : {Dir : Type 0} → Fixed Dir → Snapshot Dir → of_probe.Fixed Dir
+abbrev pub given : {Dir : Type 0} → Fixed Dir → Snapshot Dir → of_probe.ProbeFixed Dir
 given c s = record {
   bootstrap = record { epoch = s.epoch; participants = s.participants; directory = s.directory };
   genesis = s.genesis;
@@ -33,7 +33,7 @@ given c s = record {
 abbrev pub lack_in : {Dir : Type 0} → Fixed Dir → Snapshot Dir → Option ℕ
 lack_in c s = c.directories.lacking s.directory (tracked_of s.participants)
 
-abbrev pub served_from : {Dir : Type 0} → Source Dir → lent.Source Dir
+abbrev pub served_from : {Dir : Type 0} → Source Dir → lent.ProbeSource Dir
 served_from source = record { block = source.block; finalization = source.finalization; latest = source.latest }
 
 -- the least epoch of a reply that counts
@@ -45,8 +45,8 @@ least_epoch s = option_map_or (λ floor. max s.epoch floor) s.floor s.epoch
 abbrev pub awaiting_of : Awaited → Awaiting
 awaiting_of a = record { height = a.height; floor = a.floor; asked = a.asked; others = a.candidates }
 
-abbrev pub awaited_of : Awaiting → Awaited
-awaited_of a = record { height = a.height; floor = a.floor; asked = a.asked; candidates = a.others }
+abbrev pub awaited_view : Awaiting → Awaited
+awaited_view a = record { height = a.height; floor = a.floor; asked = a.asked; candidates = a.others }
 
 abbrev pub known_of : {Dir : Type 0} → Discovered Dir → Known Dir
 known_of found = record { finalization = found.finalization; info = found.info; floor = found.floor }
@@ -71,7 +71,7 @@ probe_of st = record {
   serving = st.serving;
   replies = st.sample.replies;
   chosen = st.sample.chosen;
-  awaited = option_map awaited_of st.awaited;
+  awaited = option_map awaited_view st.awaited;
   known = option_map discovered_of st.known;
 }
 

@@ -24,7 +24,7 @@ use Rattle.dkg_core.specs.Core.{step}
 use Rattle.dkg_core.specs.Laws.{IsAmong}
 use Rattle.dkg_core.specs.Stepping.{given_itself, dealt_behind}
 use Rattle.dkg_core.specs.Asked.{OfShares, ReadsShare, InRound, InEpoch}
-use Rattle.dkg_core.specs.Through.{IsFormThrough, IsLiveThrough, IsTakenThrough, IsShareTaken, asked_by, finished, included}
+use Rattle.dkg_core.specs.Through.{IsFormThrough, IsLiveThrough, IsTakenThrough, IsShareTaken, asked_by, verification_ended, included}
 
 -- EACH LINE of a course, whatever is read
 abbrev pub SaysSo : {Dir F S : Type 0} → (Line → Type 0) → Course Dir F S → Type 0
@@ -74,7 +74,7 @@ IsMailLine c st (Peer from bytes) line = IsUnasked line
 IsMailLine c st (NextLog number height) line = (payload : Option (List ℕ)) × (line ≡ Log number payload)
 IsMailLine c st (ReleaseLog height) line = ⊥
 IsMailLine c st (EpochInfoOf number) line = IsReadAnswer c (asked_by (EpochInfoOf number) st) line ⊎ ((st.participation.stage ≡ Follows) × (line ≡ Answer number (Unavailable Following)))
-IsMailLine c st (Work handed) line = IsWaitedAnswer c st line ⊎ IsReadAnswer c (finished st) line
+IsMailLine c st (Work handed) line = IsWaitedAnswer c st line ⊎ IsReadAnswer c (verification_ended st) line
 IsMailLine c st mail line = IsReadAnswer c (asked_by mail st) line
 
 -- A BLOCK, by the stage of the life that it is applied to: while including, the last one answers what waits, and what is left of requests

@@ -44,7 +44,7 @@ use Rattle.dkg_store.specs.Recorded.{Pair, first_refused}
 use Rattle.dkg_secrets.specs.declared.secrets.SecretOp.TheVariants.{PutShare, PutSeed, Prune}
 use Rattle.dkg_core.specs.Seen.{Seen}
 use Rattle.dkg_core.specs.Fixed.{Fixed, has}
-use Rattle.dkg_core.specs.Live.{Live, Records, Dealer, Seat, Plays, Watches, Deals, Includes, Follows, awaited_height, phase_of, of_epoch, with_participation, with_inclusion, with_orchestrator}
+use Rattle.dkg_core.specs.Live.{Live, Records, Dealer, Seat, Plays, Watches, Deals, Includes, Follows, awaited_height, phase_of, records_of_epoch, with_participation, with_inclusion, with_orchestrator}
 use Rattle.dkg_core.specs.Logs.{logs_of}
 
 -- READS
@@ -137,12 +137,12 @@ unsent_of acks privates [] = []
 unsent_of acks privates (player ∷ players) = with_unsent player (lookup player acks) (lookup player privates) (unsent_of acks privates players)
 
 -- .. of the round's players
-abbrev pub unsent : Round → Dealer → List (ℕ × ℕ)
-unsent round d = unsent_of d.acks d.privates round.players
+abbrev pub unsent_of_round : Round → Dealer → List (ℕ × ℕ)
+unsent_of_round round d = unsent_of d.acks d.privates round.players
 
 -- At most as many players lack as may fail.
 abbrev pub has_quorum : Round → Dealer → Bool
-has_quorum round d = nat_le (length (unsent round d)) (max_faults_of (length round.players))
+has_quorum round d = nat_le (length (unsent_of_round round d)) (max_faults_of (length round.players))
 
 -- A dealer without a quorum is given up after Early.
 abbrev pub dealer_for : Phase → Round → Dealer → Option Dealer
@@ -151,12 +151,12 @@ dealer_for Midpoint round d = if has_quorum round d then Some d else None
 dealer_for Late round d = if has_quorum round d then Some d else None
 
 -- of recorded acknowledgements those that pass the check
-abbrev pub passing : {Dir : Type 0} → Fixed Dir → Round → (public : List ℕ) → List (ℕ × List ℕ) → List (ℕ × List ℕ)
-passing c round public acks = filter (λ a. is_ok (c.rules.check_ack_of round c.me public a.0 a.1)) acks
+abbrev pub passing_check : {Dir : Type 0} → Fixed Dir → Round → (public : List ℕ) → List (ℕ × List ℕ) → List (ℕ × List ℕ)
+passing_check c round public acks = filter (λ a. is_ok (c.rules.check_ack_of round c.me public a.0 a.1)) acks
 
 abbrev pub dealer_from : {Dir : Type 0} → Fixed Dir → Round → Live Dir → List ℕ × List (ℕ × ℕ) → Dealer
 dealer_from c round st dealt =
-    record { public = dealt.0; privates = dealt.1; acks = passing c round dealt.0 (of_epoch round.number st.records.acks); log = None }
+    record { public = dealt.0; privates = dealt.1; acks = passing_check c round dealt.0 (records_of_epoch round.number st.records.acks); log = None }
 
 -- A log bears this node's acknowledgement of a dealing that isn't recorded: the player can't go on.
 abbrev pub is_lost : {Dir : Type 0} → Fixed Dir → Round → List (ℕ × (List ℕ × ℕ)) → LogMap → Bool
@@ -173,13 +173,13 @@ part_of None Plays = Player
 part_of None Watches = Observer
 
 -- of these players' acknowledgements those that are there, in the order of the players
-abbrev pub acks_of : (acks : List (ℕ × List ℕ)) → (players : List ℕ) → List (ℕ × List ℕ)
-acks_of acks [] = []
-acks_of acks (player ∷ players) = with_held player (lookup player acks) (acks_of acks players)
+abbrev pub acks_in_order : (acks : List (ℕ × List ℕ)) → (players : List ℕ) → List (ℕ × List ℕ)
+acks_in_order acks [] = []
+acks_in_order acks (player ∷ players) = with_held player (lookup player acks) (acks_in_order acks players)
 
 -- As inclusion begins the dealer signs its log, over what came in of the round's players.
 abbrev pub signed : {Dir : Type 0} → Fixed Dir → Round → Dealer → Dealer
-signed c round d = record d { log = Some (c.rules.sign_log_of c.me round d.public d.privates (acks_of d.acks round.players)) }
+signed c round d = record d { log = Some (c.rules.sign_log_of c.me round d.public d.privates (acks_in_order d.acks round.players)) }
 
 abbrev pub begins_inclusion : {Dir : Type 0} → Fixed Dir → Live Dir → Live Dir
 begins_inclusion c st =
@@ -209,7 +209,7 @@ sits_down c round phase dealer None st = takes_part c round phase dealer Plays s
 -- The player is made after the dealer: none where a dealing is lost, and a stored dealing that is refused is a fault.
 abbrev pub makes_player : {Dir : Type 0} → Fixed Dir → Round → Phase → Option Dealer → Live Dir → Course Dir Fault (Live Dir)
 makes_player c round phase dealer st =
-    if not (has round.players c.me) || is_lost c round (of_epoch round.number st.records.dealings) (logs_of st round.number)
+    if not (has round.players c.me) || is_lost c round (records_of_epoch round.number st.records.dealings) (logs_of st round.number)
     then takes_part c round phase dealer Watches st
     else sits_down c round phase dealer (refused_in c round st) st
 
@@ -261,16 +261,16 @@ with_share_and_seed c floor standing info share seed st =
     bind (commits_new standing c info seed share st) (λ st. bind (prunes (st.participation.epoch - 1) st) (λ st.
     if is_late_floor c floor then follows c st else draws_up c (participants_of info) (Some info.output) share seed st))
 
-abbrev pub judged : {Dir : Type 0} → Fixed Dir → (floor : Option ℕ) → Standing → EpochInfo Dir → Live Dir → Result (Unit {0}) ParticipantsError → Course Dir Fault (Live Dir)
-judged c floor standing info st (Err e) = Stops (InvalidParticipants (Refused e))
-judged c floor standing info st (Ok passed) =
+abbrev pub info_judged : {Dir : Type 0} → Fixed Dir → (floor : Option ℕ) → Standing → EpochInfo Dir → Live Dir → Result (Unit {0}) ParticipantsError → Course Dir Fault (Live Dir)
+info_judged c floor standing info st (Err e) = Stops (InvalidParticipants (Refused e))
+info_judged c floor standing info st (Ok passed) =
     looks c (λ s. with_share_and_seed c floor standing info (recovered_share c s info) (seed_for c info.epoch (lookup info.epoch s.seeds)) st)
 
 -- The info has to be that of the awaited epoch, and its participants have to be valid.
 abbrev pub with_info : {Dir : Type 0} → Fixed Dir → (floor : Option ℕ) → Standing → EpochInfo Dir → Live Dir → Course Dir Fault (Live Dir)
 with_info c floor standing info st =
     if info.epoch == st.participation.epoch
-    then judged c floor standing info st (validation (participants_of info) c.limit (Some info.output) info.epoch)
+    then info_judged c floor standing info st (validation (participants_of info) c.limit (Some info.output) info.epoch)
     else Stops (WrongEpoch st.participation.epoch info.epoch)
 
 -- Without its boundary block the node follows, before anything is committed or pruned.

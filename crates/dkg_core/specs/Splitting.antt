@@ -6,10 +6,10 @@ use Rattle.dkg_core.specs.Courses.{Course, bind, under, on_devices, EndsSo}
 use Rattle.dkg_core.specs.Said.{Said}
 
 -- the same end, with another name for its fault
-abbrev pub named : {F G S : Type 0} → (F → G) → Ended F S → Ended G S
-named name (went end) = went end
-named name (stopped fault) = stopped (name fault)
-named name (broken cause) = broken cause
+abbrev pub fault_named : {F G S : Type 0} → (F → G) → Ended F S → Ended G S
+fault_named name (went end) = went end
+fault_named name (stopped fault) = stopped (name fault)
+fault_named name (broken cause) = broken cause
 
 -- The first of two courses ended so, which ended both.
 abbrev pub IsEarly : {F S T : Type 0} → Ended F S → Ended F T → Type 0
@@ -31,8 +31,8 @@ SaidSplit Dir F S T = (course : Course Dir F S) (next : S → Course Dir F T) (e
 -- A RUN UNDER OTHER NAMES is one of the course.
 abbrev pub RunsUnder : (Dir F G S : Type 0) → Type 0
 RunsUnder Dir F G S = (name : F → G) (course : Course Dir F S) (ended : Ended G S) (w new : World) → EndsSo (under name course) ended w new
-    → (its : Ended F S) × (ended ≡ named name its) × EndsSo course its w new
+    → (its : Ended F S) × (ended ≡ fault_named name its) × EndsSo course its w new
 
 abbrev pub SaidUnder : (Dir F G S : Type 0) → Type 0
 SaidUnder Dir F G S = (name : F → G) (course : Course Dir F S) (ended : Ended G S) (old new : List Line) → Said (on_devices (under name course)) ended old new
-    → (its : Ended F S) × (ended ≡ named name its) × Said (on_devices course) its old new
+    → (its : Ended F S) × (ended ≡ fault_named name its) × Said (on_devices course) its old new

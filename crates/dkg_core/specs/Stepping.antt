@@ -17,7 +17,7 @@ use Rattle.dkg_core.specs.Courses.{on_devices, EndsSo}
 use Rattle.dkg_core.specs.Said.{Said}
 use Rattle.dkg_core.specs.Fixed.{Fixed}
 use Rattle.dkg_core.specs.Live.{Live, Dealer, NodeStop, Stage, Deals, Follows, Seat, Plays, Watches, Message, Sent, Peer, Finalized, recorded_at, is_last_height, with_tip, with_participation}
-use Rattle.dkg_core.specs.Setup.{Uncommitted, WasCommitted, is_past_range, scheme_for, with_registered, anew, unsent, begins_inclusion}
+use Rattle.dkg_core.specs.Setup.{Uncommitted, WasCommitted, is_past_range, scheme_for, with_registered, anew, unsent_of_round, begins_inclusion}
 use Rattle.dkg_core.specs.Dealing.{with_dealing_of, counts, with_ack}
 use Rattle.dkg_core.specs.Core.{step}
 use Rattle.dkg_core.specs.Entering.{active, takes_delivered}
@@ -65,7 +65,7 @@ IsHeardBy c st from end = (end ≡ st) ⊎ (IsDealingHeard c st from end ⊎ IsA
 
 -- this node's half of its own dealing, while it is still to be offered
 abbrev pub own_half : {Dir : Type 0} → Fixed Dir → Round → Dealer → Option ℕ
-own_half c round d = lookup c.me (unsent round d)
+own_half c round d = lookup c.me (unsent_of_round round d)
 
 -- the life with its own dealing recorded, where none is
 abbrev pub with_own_dealing : {Dir : Type 0} → Fixed Dir → Round → List ℕ → (private : ℕ) → Live Dir → Option (List ℕ × ℕ) → Live Dir

@@ -15,7 +15,7 @@ use Rattle.dkg_infos.specs.declared.fault.Fault.TheVariants.{HeightRange, Missin
 use Rattle.dkg_infos.specs.declared.info.EpochInfo.{EpochInfo}
 use Rattle.dkg_types.specs.PayloadCodes.{its_log}
 use Rattle.dkg_journal.specs.Operations.{Appends}
-use Rattle.dkg_store.specs.Acts.{Held, World, Ended, OnDisk, after}
+use Rattle.dkg_store.specs.Acts.{Held, World, Ended, OnDisk, held_after}
 use Rattle.dkg_core.specs.Courses.{on_devices, EndsSo}
 use Rattle.dkg_core.specs.Said.{Said}
 use Rattle.dkg_core.specs.Fixed.{Fixed}
@@ -23,7 +23,7 @@ use Rattle.dkg_core.specs.Live.{Live, Stage, Deals, Includes, Follows, Ends, Mai
 use Rattle.dkg_core.specs.Logs.{canonical, is_accepted}
 use Rattle.dkg_core.specs.Setup.{Standing, Uncommitted, WasCommitted, is_past_range, with_info}
 use Rattle.dkg_core.specs.Including.{releases, queued, changed, is_of_job}
-use Rattle.dkg_core.specs.Blocks.{without_own_log, with_log, unserved, share_for}
+use Rattle.dkg_core.specs.Blocks.{without_own_log, with_log_at, unserved, share_for}
 use Rattle.dkg_core.specs.Core.{no_inclusion, step}
 use Rattle.dkg_core.specs.Laws.{IsAmong}
 use Rattle.dkg_core.specs.Endings.{CameTo}
@@ -77,8 +77,8 @@ pub record IsReadFrom {Dir : Type 0} (c : Fixed Dir) (st end : Live Dir) : Type 
   pub starts : (job : Job) → st.inclusion.running ≡ None → end.inclusion.running ≡ Some job → InRound st (λ round. IsStarted c round st end job)
 
 -- the life whose verification has ended
-abbrev pub finished : {Dir : Type 0} → Live Dir → Live Dir
-finished st = with_inclusion (record st.inclusion { running = None; waiter = None }) st
+abbrev pub verification_ended : {Dir : Type 0} → Live Dir → Live Dir
+verification_ended st = with_inclusion (record st.inclusion { running = None; waiter = None }) st
 
 abbrev pub waits_for : {Dir : Type 0} → (request : ℕ) → Live Dir → Bool
 waits_for request st = option_map_or (λ n. n == request) st.inclusion.waiter false
@@ -97,7 +97,7 @@ asked_by (EpochInfoOf request) st = queued request (with_used request st)
 asked_by (Feed request b) st = changed request (λ r. if r.ended then r else record r { blocks = r.blocks ++ b ∷ [] }) st
 asked_by (Over request) st = changed request (λ r. record r { ended = true }) st
 asked_by (Cancel request) st = cancelled request st
-asked_by (Work handed) st = finished st
+asked_by (Work handed) st = verification_ended st
 
 -- A BLOCK WHILE INCLUDING
 
@@ -106,7 +106,7 @@ abbrev pub observed_log : {Dir : Type 0} → Fixed Dir → Round → Block Dir �
 observed_log c round b st None = st
 observed_log c round b st (Some log) =
     if is_accepted c round log
-    then without_own_log c log.dealer (if is_some (recorded_at st.records.logs round.number log.dealer) then st else with_log round.number log.dealer b.height log.log st)
+    then without_own_log c log.dealer (if is_some (recorded_at st.records.logs round.number log.dealer) then st else with_log_at round.number log.dealer b.height log.log st)
     else st
 
 abbrev pub observed : {Dir : Type 0} → Fixed Dir → Round → Block Dir → Live Dir → Live Dir
@@ -236,7 +236,7 @@ pub record IsNextThrough {Dir : Type 0} (c : Fixed Dir) (stored : OfShares) (st 
 
 -- what a read may find in a step that includes a block: what the devices hold, or that with a record more
 abbrev pub FindsOn : Option Held → Held → Type 0
-FindsOn devices h = FindsHeld devices h ⊎ ((epoch : ℕ) × (bytes : List ℕ) × FindsHeld (option_map (after (OnDisk (Appends (epoch, bytes)))) devices) h)
+FindsOn devices h = FindsHeld devices h ⊎ ((epoch : ℕ) × (bytes : List ℕ) × FindsHeld (option_map (held_after (OnDisk (Appends (epoch, bytes)))) devices) h)
 
 -- The read of an epoch's share finds what is said of it.
 abbrev pub StepReads : {Dir : Type 0} → Fixed Dir → OfShares → Option Held → Type 0

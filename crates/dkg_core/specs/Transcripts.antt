@@ -23,11 +23,11 @@ TranscriptsMove F S = (acts : Acts F S) (ended : Ended F S) (w new : World) (oth
 
 -- DEEDS AND THEIR LINES
 
-abbrev pub lines_of : {Dir : Type 0} → List (Deed Dir) → List Line
-lines_of [] = []
-lines_of (Said line ∷ deeds) = line ∷ lines_of deeds
-lines_of (Did op ∷ deeds) = lines_of deeds
-lines_of (Called outer ∷ deeds) = lines_of deeds
+abbrev pub deed_lines : {Dir : Type 0} → List (Deed Dir) → List Line
+deed_lines [] = []
+deed_lines (Said line ∷ deeds) = line ∷ deed_lines deeds
+deed_lines (Did op ∷ deeds) = deed_lines deeds
+deed_lines (Called outer ∷ deeds) = deed_lines deeds
 
 -- How it ended by itself: with all its lines, in its end, or by its fault.
 abbrev pub IsOwnEnd : {Dir F S : Type 0} → Course Dir F S → Ended F S → (held now : Held) → (rest : List Line) → Type 0
@@ -40,7 +40,7 @@ pub record AddsDeeds {Dir F S : Type 0} (course : Course Dir F S) (ended : Ended
   pub added : List Line
   pub rest : List Line
   pub out : new.out ≡ w.out ++ added
-  pub of_deeds : lines_of (deeds_of course w.held) ≡ added ++ rest
+  pub of_deeds : deed_lines (deeds_of course w.held) ≡ added ++ rest
   pub own_end : IsOwnEnd course ended w.held new.held rest
 
 -- A RUN OF A COURSE adds the lines of its deeds, in their order.
@@ -57,9 +57,9 @@ Obeys law past (Did op ∷ deeds) = law.operation past op × Obeys law (Did op �
 Obeys law past (Called outer ∷ deeds) = Obeys law (Called outer ∷ past) deeds
 
 -- all of them, the newest first
-abbrev pub behind : {Dir : Type 0} → (past deeds : List (Deed Dir)) → List (Deed Dir)
-behind past [] = past
-behind past (deed ∷ deeds) = behind (deed ∷ past) deeds
+abbrev pub deeds_behind : {Dir : Type 0} → (past deeds : List (Deed Dir)) → List (Deed Dir)
+deeds_behind past [] = past
+deeds_behind past (deed ∷ deeds) = deeds_behind (deed ∷ past) deeds
 
 abbrev pub IfWentTo : {F S : Type 0} → Ended F S → (S → Type 0) → Type 0
 IfWentTo (went end) P = P end
@@ -67,16 +67,16 @@ IfWentTo (stopped fault) P = Unit {0}
 IfWentTo (broken cause) P = Unit {0}
 
 -- What was added are the lines of such deeds, and the law has the end behind them.
-pub record Front {Dir F S : Type 0} (law : Law Dir S) (past : List (Deed Dir)) (ended : Ended F S) (old new : List Line) : Type 0 where
+pub record LinesFront {Dir F S : Type 0} (law : Law Dir S) (past : List (Deed Dir)) (ended : Ended F S) (old new : List Line) : Type 0 where
   pub deeds : List (Deed Dir)
   pub obeys : Obeys law past deeds
-  pub added : new ≡ old ++ lines_of deeds
-  pub end : IfWentTo ended (law.end (behind past deeds))
+  pub added : new ≡ old ++ deed_lines deeds
+  pub end : IfWentTo ended (law.end (deeds_behind past deeds))
 
 -- LINES THAT A COURSE SAYS keep its laws, whatever the devices tell.
 abbrev pub LinesObey : (Dir F S : Type 0) → Type 1
 LinesObey Dir F S = (law : Law Dir S) (past : List (Deed Dir)) (course : Course Dir F S) (ended : Ended F S) (old new : List Line)
-    → Holds law past course → SaysBy (on_devices course) ended old new → Front law past ended old new
+    → Holds law past course → SaysBy (on_devices course) ended old new → LinesFront law past ended old new
 
 -- QUIET LINES
 

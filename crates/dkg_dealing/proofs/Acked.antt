@@ -35,7 +35,7 @@ use Rattle.dkg_core.specs.Said.{Said}
 use Rattle.dkg_life.specs.declared.life.Life.{Life}
 use Rattle.dkg_life.specs.declared.stop.Stop.{Stop}
 use Rattle.dkg_life.specs.declared.stop.Stop.TheVariants.{Fault as Faulted}
-use Rattle.dkg_life.specs.Ends.{by_stop, ends_in, fault_of}
+use Rattle.dkg_life.specs.Ends.{by_stop, ends_in, fault_of_store}
 use Rattle.dkg_life.specs.LiveOf.{Beside, dealer_of, live_of}
 use Rattle.dkg_life.specs.Made.{MakesAt}
 use Rattle.dkg_life.specs.Rules.{CheckAckOf}
@@ -49,7 +49,7 @@ module _ {Dir : Type 0} (round : Round) (d : live.Dealer) (from : ℕ) (ack : Li
   counted_in counted recorded = if counted then st else if recorded then dealing.counts d from ack st else dealing.counts d from ack (dealing.with_ack round.number from ack st)
 
   abbrev its_acts : (epoch : ℕ) → Result (Unit {0}) AckError → (counted recorded : Bool) → Acts Fault (Result AckOutcome AckError)
-  its_acts epoch check counted recorded = acts_of.under fault_of (acking check counted recorded (epoch, event_spelling (events.Ack from ack)))
+  its_acts epoch check counted recorded = acts_of.under fault_of_store (acking check counted recorded (epoch, event_spelling (events.Ack from ack)))
 
   abbrev answered : (counted recorded : Bool) → Result AckOutcome AckError → Acts Fault (Live Dir)
   answered counted recorded (Ok outcome) = acts_of.Goes (counted_in counted recorded)

@@ -20,7 +20,7 @@ use Rattle.dkg_store.specs.declared.store.Store.{Store}
 use Rattle.dkg_life.specs.Heard.{pairs_after}
 use Rattle.dkg_life.specs.LiveOf.{SitsAt, SitsIn}
 use Rattle.dkg_life.specs.Moved.{IsFirm}
-use Rattle.dkg_life.specs.Ends.{fault_of}
+use Rattle.dkg_life.specs.Ends.{fault_of_store}
 use Rattle.dkg_core.specs.Said.{Said}
 
 same_pair : (v w : List ℕ × ℕ) → ◌≡◌ {A = Option (List ℕ × ℕ)} (Some v) (Some w) → v ≡ w
@@ -28,7 +28,7 @@ same_pair v w e = cc
 
 module _ (ack_of : ℕ → Round → ℕ → List ℕ → List ℕ) (me : ℕ) (round : Round) (epoch dealer : ℕ) (public : List ℕ) (private : ℕ) (check : Result (Unit {0}) DealingError) (pairs : Pairs) where
   abbrev its : Option (List ℕ × ℕ) → Result (Unit {0}) DealingError → Acts Fault (Result (List ℕ) DealingError)
-  its known passed = under fault_of (answering (ack_of me round dealer) known passed epoch dealer public private)
+  its known passed = under fault_of_store (answering (ack_of me round dealer) known passed epoch dealer public private)
 
   -- it answered by an acknowledgement
   pub handed_said : (ack : List ℕ) (new : Pairs) {out now : List Line} → Acknowledges ack_of me round new epoch dealer ack

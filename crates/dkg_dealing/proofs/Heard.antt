@@ -25,7 +25,7 @@ use Rattle.dkg_life.specs.declared.stop.Stop.{Stop}
 use Rattle.dkg_life.specs.declared.stop.Stop.TheVariants.{Fault as Faulted}
 use Rattle.dkg_life.specs.Ends.{by_stop, ends_in}
 use Rattle.dkg_life.specs.Given.{IsOf}
-use Rattle.dkg_life.specs.Heard.{answers, pairs_after, round_dealt}
+use Rattle.dkg_life.specs.Heard.{player_answers, pairs_after, round_dealt}
 use Rattle.dkg_life.specs.LiveOf.{Beside, PlayerSits, Sits, SitsAt, live_of, seat_of}
 use Rattle.dkg_life.specs.Made.{MakesAt}
 use Rattle.dkg_life.specs.Rules.{AckOf, AnswersBy, CheckAckOf, DealingOf}
@@ -45,7 +45,7 @@ module _ {Dir : Type 0} (dealing_of : DealingOf) (ack_of : AckOf) (its : ℕ) (t
     of_round = sits_at ack_of terms.me its old player sits mine epoch dealt
 
     abbrev its_acts : Acts Fault (Result (List ℕ) DealingError)
-    its_acts = answers dealing_of ack_of player.me player.round (get old.store.dealings (epoch, from)) epoch from public private
+    its_acts = player_answers dealing_of ack_of player.me player.round (get old.store.dealings (epoch, from)) epoch from public private
 
     module _ (c : Fixed Dir) (round : Round) (beside : Beside Dir) (fence : Readiness) (of : IsOf terms c) {check_ack_of : CheckAckOf} (by : AnswersBy dealing_of ack_of check_ack_of c.rules) (has : old.round ≡ Some round) where
       abbrev course : Course Dir Fault (Live Dir)

@@ -25,7 +25,7 @@ use Rattle.dkg_life.specs.declared.life.Life.{Life}
 use Rattle.dkg_life.specs.declared.stop.Stop.{Stop}
 use Rattle.dkg_life.specs.declared.stop.Stop.TheVariants.{Fault as Faulted}
 use Rattle.dkg_life.specs.Ends.{by_stop, ends_in}
-use Rattle.dkg_life.specs.Heard.{answers, pairs_after}
+use Rattle.dkg_life.specs.Heard.{player_answers, pairs_after}
 use Rattle.dkg_life.specs.Made.{MakesAt}
 use Rattle.dkg_life.specs.LiveOf.{Beside, live_of, seat_of}
 use Rattle.dkg_life.specs.Rules.{AckOf, DealingOf}
@@ -46,12 +46,12 @@ module _ {Dir : Type 0} (c : Fixed Dir) (round : Round) (from : ℕ) (public : L
   its_check = c.rules.dealing_of round c.me from public private
 
   checked_as : (check : Result (Unit {0}) DealingError) → on_devices (dealing.checked_dealing c round from public private st check)
-      ≡ acts_of.bind (answers (λ r me d p q. check) c.rules.ack_of c.me round None round.number from public private) (λ a. acts_of.Say (told_by round.number from a) (acts_of.Goes (heard None check)))
+      ≡ acts_of.bind (player_answers (λ r me d p q. check) c.rules.ack_of c.me round None round.number from public private) (λ a. acts_of.Say (told_by round.number from a) (acts_of.Goes (heard None check)))
   checked_as (Err e) = refl
   checked_as (Ok passed) = refl
 
   hears_as : (known : Option (List ℕ × ℕ)) → on_devices (dealing.hears_dealing_in c round from public private st known)
-      ≡ acts_of.bind (answers c.rules.dealing_of c.rules.ack_of c.me round known round.number from public private) (λ a. acts_of.Say (told_by round.number from a) (acts_of.Goes (heard known its_check)))
+      ≡ acts_of.bind (player_answers c.rules.dealing_of c.rules.ack_of c.me round known round.number from public private) (λ a. acts_of.Say (told_by round.number from a) (acts_of.Goes (heard known its_check)))
   hears_as (Some kept) = refl
   hears_as None = checked_as its_check
 
@@ -87,7 +87,7 @@ module _ {Dir : Type 0} (c : Fixed Dir) (round : Round) (from : ℕ) (public : L
     st = live_of beside fence old
 
     abbrev its : Acts Fault (Result (List ℕ) DealingError)
-    its = answers dealing_of ack_of player.me player.round (get old.store.dealings (epoch, from)) epoch from public private
+    its = player_answers dealing_of ack_of player.me player.round (get old.store.dealings (epoch, from)) epoch from public private
 
     number : round.number ≡ epoch
     number = ap (λ (q : Round). q.number) r ∙ sym e
@@ -107,7 +107,7 @@ module _ {Dir : Type 0} (c : Fixed Dir) (round : Round) (from : ℕ) (public : L
     course_is : on_devices course ≡ acts_of.bind its (λ x. acts_of.Say (told_by epoch from x) (acts_of.Goes end))
     course_is = ap (λ (s : Seat). on_devices (dealing.seats_dealing_in c round from public private st s)) plays
         ∙ hears_as c round from public private st known
-        ∙ (λ i. acts_of.bind (answers (d i) (a i) (m i) (r i) (is_known i) (number i) from public private) (λ x. acts_of.Say (told_by (number i) from x) (acts_of.Goes end)))
+        ∙ (λ i. acts_of.bind (player_answers (d i) (a i) (m i) (r i) (is_known i) (number i) from public private) (λ x. acts_of.Say (told_by (number i) from x) (acts_of.Goes end)))
 
     pub ends_at : (new : Life Dir) → new ≡ record old { store = new.store; player = new.player } → SameRest old.store new.store → seat_of new.player ≡ seat_of old.player
         → new.store.dealings ≡ pairs_after (get old.store.dealings (epoch, from)) (dealing_of player.round player.me from public private) (epoch, from) (public, private) old.store.dealings

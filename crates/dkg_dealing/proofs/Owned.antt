@@ -36,8 +36,8 @@ use Rattle.dkg_life.specs.declared.stop.Stop.{Stop}
 use Rattle.dkg_life.specs.declared.stop.Stop.TheVariants.{Fault as Faulted}
 use Rattle.dkg_life.specs.Ends.{IsCaused, by_stop}
 use Rattle.dkg_life.specs.Given.{IsOf}
-use Rattle.dkg_life.specs.Heard.{answers, pairs_after, round_dealt}
-use Rattle.dkg_life.specs.LiveOf.{Beside, DealsIn, IsDealing, PlayerSits, IsWithin, Sits, SitsAt, dealer_of, live_of, seat_of}
+use Rattle.dkg_life.specs.Heard.{player_answers, pairs_after, round_dealt}
+use Rattle.dkg_life.specs.LiveOf.{Beside, DealsIn, IsDealing, PlayerSits, IsRoundWithin, Sits, SitsAt, dealer_of, live_of, seat_of}
 use Rattle.dkg_life.specs.Made.{MakesAt, Speaks}
 use Rattle.dkg_life.specs.Rules.{AckOf, AnswersBy, CheckAckOf, DealOf, DealingOf}
 use Rattle.dkg_life.proofs.Burning.{makes_early, makes_next}
@@ -99,7 +99,7 @@ module _ {Dir : Type 0} (c : Fixed Dir) (round : Round) (public : List ℕ) (pri
 
   own_as : (known : Option (List ℕ × ℕ)) (check : Result (Unit {0}) DealingError) → IfSome known (λ kept. kept.0 ≡ public) → check ≡ Ok tt
       → on_devices (dealing.deals_to_itself_in c round public private st known)
-      ≡ acts_of.bind (answers (λ r me d p q. check) c.rules.ack_of c.me round known round.number c.me public private) (next_of known check)
+      ≡ acts_of.bind (player_answers (λ r me d p q. check) c.rules.ack_of c.me round known round.number c.me public private) (next_of known check)
   own_as (Some kept) check same passed =
       ap (λ (b : Bool). on_devices (if b then dealing.own_ack c round public st else courses.Stops (LocalState (OwnDealing round.number kept.0 public)))) (same_bytes kept.0 public same)
   own_as None (Ok passed) same is = refl
@@ -107,12 +107,12 @@ module _ {Dir : Type 0} (c : Fixed Dir) (round : Round) (public : List ℕ) (pri
 
 -- what the player answered is the acknowledgement of this dealing
 pub own_answer : (dealing_of : DealingOf) (ack_of : AckOf) (me : ℕ) (round : Round) (known : Option (List ℕ × ℕ)) (epoch from : ℕ) (public : List ℕ) (private : ℕ) (answer : Result (List ℕ) DealingError) {out now : List Line}
-    → Said (answers dealing_of ack_of me round known epoch from public private) (went answer) out now
+    → Said (player_answers dealing_of ack_of me round known epoch from public private) (went answer) out now
     → IfSome known (λ kept. kept.0 ≡ public) → dealing_of round me from public private ≡ Ok tt → answer ≡ Ok (ack_of me round from public)
 own_answer dealing_of ack_of me round known epoch from public private answer said same passed = by_known known (dealing_of round me from public private) same passed said.lines said.by
   where
     by_known : (k : Option (List ℕ × ℕ)) (check : Result (Unit {0}) DealingError) → IfSome k (λ kept. kept.0 ≡ public) → check ≡ Ok tt → (lines : List Line)
-        → SaysAll (answers (λ r me d p q. check) ack_of me round k epoch from public private) answer lines → answer ≡ Ok (ack_of me round from public)
+        → SaysAll (player_answers (λ r me d p q. check) ack_of me round k epoch from public private) answer lines → answer ≡ Ok (ack_of me round from public)
     by_known (Some kept) check is ok lines says = says.1 ∙ ap (λ (p : List ℕ). Ok (ack_of me round from p)) is
     by_known None (Ok done) is ok lines says = says.2.1
     by_known None (Err e) is ok lines says = absurd cc
@@ -131,7 +131,7 @@ module _ {Dir : Type 0} (c : Fixed Dir) (round : Round) (public : List ℕ) (pri
     known = get old.store.dealings (epoch, me)
 
     abbrev its : Acts Fault (Result (List ℕ) DealingError)
-    its = answers dealing_of ack_of player.me player.round known epoch me public private
+    its = player_answers dealing_of ack_of player.me player.round known epoch me public private
 
     is_known : recorded_at st.records.dealings round.number c.me ≡ known
     is_known = sym (get-entries old.store.dealings (round.number, c.me)) ∙ (λ i. get old.store.dealings (e i, its_me i))
@@ -153,7 +153,7 @@ module _ {Dir : Type 0} (c : Fixed Dir) (round : Round) (public : List ℕ) (pri
         ap (λ (o : Option Player). on_devices (dealing.offers_to_itself_in c round public private st (seat_of o))) plays
         ∙ ap (λ (o : Option (List ℕ × ℕ)). on_devices (dealing.deals_to_itself_in c round public private st o)) is_known
         ∙ own_as c round public private st known check same (is_check ∙ passed)
-        ∙ (λ i. acts_of.bind (answers (λ r me d p q. is_check i) (a i) ((its_me ∙ sym m) i) (r i) known (e i) (its_me i) public private) (λ x. on_devices (dealing.own_ack c round public now)))
+        ∙ (λ i. acts_of.bind (player_answers (λ r me d p q. is_check i) (a i) ((its_me ∙ sym m) i) (r i) known (e i) (its_me i) public private) (λ x. on_devices (dealing.own_ack c round public now)))
 
     -- what it has in memory once its player took it, ..
     module _ (store : Store Dir) (sitting : Player) (rest : SameRest old.store store)
@@ -260,7 +260,7 @@ at_some_and {A} P o x is h = let Q : Option A → Type 0 = λ q. IsSomeAnd q P i
 pub own_within : {Dir : Type 0} (deal_of : DealOf) (check_ack_of : CheckAckOf) (me : ℕ) (life : Life Dir) (dealer : Dealer) → DealsIn deal_of check_ack_of me life dealer
     → ((round : Round) (signer : ℕ) (share : Option ℕ) (seed : List ℕ)
     → IfOk (deal_of round signer share seed) (λ dealt. (n : ℕ) → 1 ≤ n → length round.players ≤ n → length dealt.0 ≤ n))
-    → (limit : ℕ) → 1 ≤ limit → IsWithin limit life.round → length dealer.public ≤ limit
+    → (limit : ℕ) → 1 ≤ limit → IsRoundWithin limit life.round → length dealer.public ≤ limit
 own_within deal_of check_ack_of me life dealer deals short limit some within =
     own_short deal_of check_ack_of dealer deals.deals.is short limit some
     (subst (λ (r : Round). length r.players ≤ limit) (sym deals.deals.round_is) (at_some (λ (r : Round). length r.players ≤ limit) life.round deals.round deals.has within))
@@ -289,7 +289,7 @@ module _ {Dir : Type 0} (dealing_of : DealingOf) (ack_of : AckOf) (deal_of : Dea
     -- .. and within it here
     pub own_few : ((round : Round) (signer : ℕ) (share : Option ℕ) (seed : List ℕ)
         → IfOk (deal_of round signer share seed) (λ dealt. (n : ℕ) → 1 ≤ n → length round.players ≤ n → length dealt.0 ≤ n))
-        → IsWithin (non_zero_u32_get terms.limit) old.round → length public ≤ non_zero_u32_get terms.limit
+        → IsRoundWithin (non_zero_u32_get terms.limit) old.round → length public ≤ non_zero_u32_get terms.limit
     own_few short within =
         subst (λ (p : List ℕ). length p ≤ non_zero_u32_get terms.limit) halves.0
         (own_within deal_of check_ack_of terms.me old dealer deal short (non_zero_u32_get terms.limit) (omega (arith, terms.limit.ok)) within)
@@ -307,7 +307,7 @@ module _ {Dir : Type 0} (dealing_of : DealingOf) (ack_of : AckOf) (deal_of : Dea
     recorded = get old.store.dealings (epoch, terms.me)
 
     abbrev its_acts : Acts Fault (Result (List ℕ) DealingError)
-    its_acts = answers dealing_of ack_of player.me player.round recorded epoch terms.me public private
+    its_acts = player_answers dealing_of ack_of player.me player.round recorded epoch terms.me public private
 
     module _ (same : IfSome recorded (λ kept. kept.0 ≡ public)) where
       -- a refusal is none of its answers

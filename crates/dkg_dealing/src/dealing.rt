@@ -18,7 +18,7 @@ ghost use Rattle.dkg_core.specs.Said.{Said};
 ghost use Rattle.dkg_life.specs.Ready.{IsReadyLife};
 ghost use Rattle.dkg_life.specs.Ends.{StopsOver, ends, ends_in};
 ghost use Rattle.dkg_life.specs.Given.{IsOf};
-ghost use Rattle.dkg_life.specs.Heard.{KeepsSeat, answers, round_dealt};
+ghost use Rattle.dkg_life.specs.Heard.{KeepsSeat, player_answers, round_dealt};
 ghost use Rattle.dkg_life.specs.LiveOf.{Beside, SitsAt, dealer_of, live_of, seat_of};
 ghost use Rattle.dkg_life.specs.Made.{Makes, MakesOn, Tells};
 ghost use Rattle.dkg_life.specs.Moved.{IsFirm, Moved};
@@ -111,10 +111,10 @@ pub(crate) fn handle<C: Ceremony, Dir: Directory + Drop, D: Disk, X: SecretStore
     requires firm { IsTrue D.tells → IsFirm store.old.journal (D.files devices.old.disk.now) (D.image devices.old.disk.now) }
     ensures firm { OnOk result (IsTrue D.tells → IsFirm store.new.journal (D.files devices.new.disk.now) (D.image devices.new.disk.now)) }
     ensures keeps { KeepsSeat result C.dealing_of C.ack_of (C.Signer.key_of signer.now) epoch from public private store.old store.new player.old player.new }
-    ensures acts { IsTrue D.tells → IsTrue X.tells → MakesOn D.files D.image X.held (answers C.dealing_of C.ack_of player.old.me player.old.round
+    ensures acts { IsTrue D.tells → IsTrue X.tells → MakesOn D.files D.image X.held (player_answers C.dealing_of C.ack_of player.old.me player.old.round
         (map.get store.old.dealings (epoch, from)) epoch from public private) (ends (λ answer. answer) result)
         devices.old devices.new out.old.entries out.new.entries }
-    ensures tells { Said (answers C.dealing_of C.ack_of player.old.me player.old.round (map.get store.old.dealings (epoch, from)) epoch from public private)
+    ensures tells { Said (player_answers C.dealing_of C.ack_of player.old.me player.old.round (map.get store.old.dealings (epoch, from)) epoch from public private)
         (ends (λ answer. answer) result) out.old.entries out.new.entries }
     ensures moved { Moved D.tells D.made X.made D.faults X.faults devices.old devices.new }
     ensures causes { StopsOver D.faults X.faults devices.old devices.new result }

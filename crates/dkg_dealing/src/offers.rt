@@ -24,7 +24,7 @@ ghost use Rattle.dkg_life.specs.LiveOf.{Beside, live_of};
 ghost use Rattle.dkg_life.specs.Made.{Makes, Tells};
 ghost use Rattle.dkg_life.specs.Moved.{Moved};
 ghost use Rattle.dkg_life.specs.Rules.{AnswersBy};
-ghost use Rattle.dkg_life.specs.Steps.{SameHalves, halves_of, with_public};
+ghost use Rattle.dkg_life.specs.Steps.{SameHalves, private_halves_of, with_public};
 ghost use Rattle.dkg_life.specs.declared.life.Stage.TheVariants.{Dealing};
 ghost use Rattle.dkg_life.specs.declared.stop.Stop.TheVariants.{Fault as Faulted};
 
@@ -224,11 +224,11 @@ fn offer_all<C: Ceremony, Dir: Directory + Drop, D: Disk, X: SecretStore>(
     ensures current { life.new.store.current ≡ life.old.store.current }
     ensures acts { IsTrue D.tells → IsTrue X.tells → (c : Fixed Dir) (round : Round) (dealer : Dealer) (beside : Beside Dir) (fence : Readiness)
         → IsOf terms.now c → AnswersBy C.dealing_of C.ack_of C.check_ack_of c.rules → life.old.round ≡ Some round → life.old.dealer ≡ Some dealer
-        → Makes D.files D.image X.held (dealing.offers c round dealer.public (halves_of unsent.items) (live_of beside fence life.old))
+        → Makes D.files D.image X.held (dealing.offers c round dealer.public (private_halves_of unsent.items) (live_of beside fence life.old))
         (ends_in (live_of beside fence life.new) result) devices.old devices.new out.old.entries out.new.entries }
     ensures tells { (c : Fixed Dir) (round : Round) (dealer : Dealer) (beside : Beside Dir) (fence : Readiness)
         → IsOf terms.now c → AnswersBy C.dealing_of C.ack_of C.check_ack_of c.rules → life.old.round ≡ Some round → life.old.dealer ≡ Some dealer
-        → Tells (dealing.offers c round dealer.public (halves_of unsent.items) (live_of beside fence life.old))
+        → Tells (dealing.offers c round dealer.public (private_halves_of unsent.items) (live_of beside fence life.old))
         (ends_in (live_of beside fence life.new) result) out.old.entries out.new.entries }
     ensures moved { Moved D.tells D.made X.made D.faults X.faults devices.old devices.new }
     ensures causes { StopsOver D.faults X.faults devices.old devices.new result }

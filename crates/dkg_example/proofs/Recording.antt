@@ -13,7 +13,7 @@ use Rattle.dkg_store.specs.Player.{Acknowledges, IsPlayerOf}
 use Rattle.dkg_store.specs.declared.player.Player.{Player}
 use Rattle.dkg_store.proofs.Pairs.{get_other}
 use Rattle.dkg_store.proofs.Playing.{not_none}
-use Rattle.dkg_example.specs.Sent.{IsFair, IsPlaying, Stays}
+use Rattle.dkg_example.specs.Sent.{IsFair, IsNodePlaying, Stays}
 use Rattle.dkg_example.specs.declared.Node.{Node}
 
 none_kept : (acks : FinMap nat_cmp (List ℕ)) (dealer : ℕ) → acks ≡ empty → get acks dealer ≡ None
@@ -23,7 +23,7 @@ fresh : (ack_of : ℕ → Round → ℕ → List ℕ → List ℕ) (me : ℕ) (r
 fresh ack_of me round acks pairs epoch none = record { kept = λ dealer ack is. let not : get acks dealer ≡ None = none_kept acks dealer none in cc }
 
 playing : (ack_of : ℕ → Round → ℕ → List ℕ → List ℕ) (me : ℕ) (round : Round) (node : Node) → node.player.me ≡ me → node.player.round ≡ round → node.player.acks ≡ empty → Contains round.players me
-    → IsPlaying ack_of node
+    → IsNodePlaying ack_of node
 playing ack_of me round node mine its none sits = record {
   seated = subst (λ (n : ℕ). Contains node.player.round.players n) (sym mine) (subst (λ (r : Round). Contains r.players me) (sym its) sits);
   answers = fresh ack_of node.player.me node.player.round node.player.acks node.store.dealings node.epoch none;
@@ -31,7 +31,7 @@ playing ack_of me round node mine its none sits = record {
 
 -- a player that has acknowledged nothing is one of any recorded dealings, and sits in its round
 pub fresh_player : (ack_of : ℕ → Round → ℕ → List ℕ → List ℕ) (me : ℕ) (round : Round) (made : Option Player) (node : Node)
-    → made ≡ Some node.player → IfSome made (λ p. p.me ≡ me) → IfSome made (λ p. p.round ≡ round) → IfSome made (λ p. p.acks ≡ empty) → Contains round.players me → IsPlaying ack_of node
+    → made ≡ Some node.player → IfSome made (λ p. p.me ≡ me) → IfSome made (λ p. p.round ≡ round) → IfSome made (λ p. p.acks ≡ empty) → Contains round.players me → IsNodePlaying ack_of node
 fresh_player ack_of me round made node is mine its none sits = playing ack_of me round node (subst (λ (m : Option Player). IfSome m (λ p. p.me ≡ me)) is mine)
     (subst (λ (m : Option Player). IfSome m (λ p. p.round ≡ round)) is its) (subst (λ (m : Option Player). IfSome m (λ p. p.acks ≡ empty)) is none) sits
 
@@ -53,8 +53,8 @@ pub stays_same : (pairs later : Pairs) → later ≡ pairs → Stays pairs later
 stays_same pairs later is = λ epoch dealer there. ap (λ (m : Pairs). get m (epoch, dealer)) is
 
 -- the node still plays, behind a message
-pub plays_on : (ack_of : ℕ → Round → ℕ → List ℕ → List ℕ) (old new : Node) → new.player.me ≡ old.player.me → new.player.round ≡ old.player.round → IsPlaying ack_of old
-    → IsPlayerOf ack_of new.player.me new.player.round new.player.acks new.store.dealings new.epoch → IsPlaying ack_of new
+pub plays_on : (ack_of : ℕ → Round → ℕ → List ℕ → List ℕ) (old new : Node) → new.player.me ≡ old.player.me → new.player.round ≡ old.player.round → IsNodePlaying ack_of old
+    → IsPlayerOf ack_of new.player.me new.player.round new.player.acks new.store.dealings new.epoch → IsNodePlaying ack_of new
 plays_on ack_of old new mine its playing answers = record {
   seated = subst (λ (n : ℕ). Contains new.player.round.players n) (sym mine) (subst (λ (r : Round). Contains r.players old.player.me) (sym its) playing.seated);
   answers = answers;

@@ -10,7 +10,7 @@ use Rattle.dkg_example.specs.declared.Answer.TheVariants.{Send, Block}
 use Rattle.dkg_example.specs.declared.Node.{Node}
 
 -- Between two messages: the node is one of its round's players, and acknowledges what is recorded and nothing else.
-pub record IsPlaying (ack_of : ℕ → Round → ℕ → List ℕ → List ℕ) (node : Node) : Type 0 where
+pub record IsNodePlaying (ack_of : ℕ → Round → ℕ → List ℕ → List ℕ) (node : Node) : Type 0 where
   pub seated : Contains node.player.round.players node.player.me
   pub answers : IsPlayerOf ack_of node.player.me node.player.round node.player.acks node.store.dealings node.epoch
 

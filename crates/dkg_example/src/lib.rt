@@ -7,7 +7,7 @@ ghost use Rattle.std.specs.Prelude.{◌≡◌, Contains, IfOk, IfSome, IsTrue, O
 ghost use Rattle.dkg_journal.specs.Journals.{IsOpen};
 ghost use Rattle.dkg_journal.specs.Records.{entries};
 ghost use Rattle.dkg_store.specs.Pairs.{recovered};
-ghost use Rattle.dkg_example.specs.Sent.{IsFair, IsPlaying, IsSameSeat, IsSoundAnswer, Stays, since_below};
+ghost use Rattle.dkg_example.specs.Sent.{IsFair, IsNodePlaying, IsSameSeat, IsSoundAnswer, Stays, since_below};
 
 #[cfg(test)]
 mod tests;
@@ -60,7 +60,7 @@ impl Node {
         ensures round { IfOk result (λ made. IfSome made (λ node. node.player.round ≡ round.now)) }
         ensures open { IfOk result (λ made. IfSome made (λ node. IsTrue D.tells →
             IsOpen node.store.journal (D.files devices.new.disk.now) (D.image devices.new.disk.now))) }
-        ensures playing { IfOk result (λ made. IfSome made (λ node. IsPlaying C.ack_of node)) }
+        ensures playing { IfOk result (λ made. IfSome made (λ node. IsNodePlaying C.ack_of node)) }
         // What the devices give of this epoch and the one below.
         ensures restored { IfOk result (λ made. IfSome made (λ node. IsTrue D.tells → IsTrue X.tells →
             node.store.dealings ≡ since_below epoch (recovered (entries (D.files devices.old.disk.now)) (X.held devices.old.secrets.now)))) }
@@ -93,12 +93,12 @@ impl Node {
         public: Public,
         private: Private,
     ) -> Result<Answer, StoreError>
-        requires playing { IsPlaying C.ack_of self.old }
+        requires playing { IsNodePlaying C.ack_of self.old }
         requires signer { C.Signer.key_of signer.now ≡ self.old.player.me }
         requires open { IsTrue D.tells → IsOpen self.old.store.journal (D.files devices.old.disk.now) (D.image devices.old.disk.now) }
         ensures seat { IsSameSeat self.old self.new }
         ensures open { OnOk result (IsTrue D.tells → IsOpen self.new.store.journal (D.files devices.new.disk.now) (D.image devices.new.disk.now)) }
-        ensures playing { IsPlaying C.ack_of self.new }
+        ensures playing { IsNodePlaying C.ack_of self.new }
         ensures sound { IfOk result (IsSoundAnswer C.ack_of self.new.player.me self.new.player.round self.new.store.dealings self.new.epoch from) }
         ensures fair { IfOk result (IsFair (C.dealing_of self.old.player.round self.old.player.me from public private) public
             self.old.store.dealings self.old.epoch from) }
@@ -140,12 +140,12 @@ impl Node {
         from: Key,
         bytes: &[u8],
     ) -> Result<Answer, StoreError>
-        requires playing { IsPlaying C.ack_of self.old }
+        requires playing { IsNodePlaying C.ack_of self.old }
         requires signer { C.Signer.key_of signer.now ≡ self.old.player.me }
         requires open { IsTrue D.tells → IsOpen self.old.store.journal (D.files devices.old.disk.now) (D.image devices.old.disk.now) }
         ensures seat { IsSameSeat self.old self.new }
         ensures open { OnOk result (IsTrue D.tells → IsOpen self.new.store.journal (D.files devices.new.disk.now) (D.image devices.new.disk.now)) }
-        ensures playing { IsPlaying C.ack_of self.new }
+        ensures playing { IsNodePlaying C.ack_of self.new }
         // What is sent is the acknowledgement of the dealing that is recorded, and what is recorded stays.
         ensures sound { IfOk result (IsSoundAnswer C.ack_of self.new.player.me self.new.player.round self.new.store.dealings self.new.epoch from) }
         ensures stays { Stays self.old.store.dealings self.new.store.dealings }

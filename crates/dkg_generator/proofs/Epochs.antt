@@ -11,14 +11,14 @@ use Rattle.dkg_text.specs.declared.script.Script.{Script}
 use Rattle.dkg_text.specs.declared.script.ScriptConfig.{ScriptConfig}
 use Rattle.dkg_generator.specs.declared.make.Making.{Making}
 use Rattle.dkg_generator.specs.declared.plan.Plan.{Plan}
-use Rattle.dkg_generator.specs.Chain.{info_after, info_at}
-use Rattle.dkg_generator.specs.Made.{acks_to, begin_of, blocks_with, dealings_of, epoch_blocks, events_from, events_with, first_of, life_of, life_with, log_payloads, made_config, made_script, next_of, rest_before}
+use Rattle.dkg_generator.specs.Chain.{info_made_after, made_info_at}
+use Rattle.dkg_generator.specs.Made.{acks_to, begin_of, blocks_with, dealings_of, epoch_blocks, events_from, events_with, first_payload, life_of, life_with, log_payloads, made_config, made_script, next_of, rest_before}
 use Rattle.dkg_generator.specs.Making.{IsMaking, IsPlan}
 use Rattle.dkg_generator.proofs.Holders.{epoch_is}
 use Rattle.dkg_generator.proofs.Ranges.{flat_more}
 
 -- what was written by a plan is what the info of the epoch asks
-plan_blocks : (number epoch : ℕ) (plan : Plan) → IsPlan number (info_at number epoch) plan → blocks_with plan.first plan.next plan.logs.items epoch ≡ epoch_blocks number epoch
+plan_blocks : (number epoch : ℕ) (plan : Plan) → IsPlan number (made_info_at number epoch) plan → blocks_with plan.first plan.next plan.logs.items epoch ≡ epoch_blocks number epoch
 plan_blocks number epoch plan is =
     let first = is.first in
     let next = is.next in
@@ -26,14 +26,14 @@ plan_blocks number epoch plan is =
     let its = epoch_is number epoch in
     cc
 
-pub plan_events : (number epoch place count : ℕ) (plan : Plan) → IsPlan number (info_at number epoch) plan → events_with plan.dealings.items plan.acks.items epoch place count ≡ events_from number (info_at number epoch) place count
+pub plan_events : (number epoch place count : ℕ) (plan : Plan) → IsPlan number (made_info_at number epoch) plan → events_with plan.dealings.items plan.acks.items epoch place count ≡ events_from number (made_info_at number epoch) place count
 plan_events number epoch place count plan is =
     let dealings = is.dealings in
     let acks = is.acks in
     let its = epoch_is number epoch in
     cc
 
-pub blocks_further : (number epoch : ℕ) (plan : Plan) (blocks : List BlockLine) → IsPlan number (info_at number epoch) plan → blocks ≡ flat_map (epoch_blocks number) (range_with_len 0 epoch)
+pub blocks_further : (number epoch : ℕ) (plan : Plan) (blocks : List BlockLine) → IsPlan number (made_info_at number epoch) plan → blocks ≡ flat_map (epoch_blocks number) (range_with_len 0 epoch)
     → blocks ++ blocks_with plan.first plan.next plan.logs.items epoch ≡ flat_map (epoch_blocks number) (range_with_len 0 (epoch + 1))
 blocks_further number epoch plan blocks is before =
     let more = flat_more (epoch_blocks number) 0 epoch epoch (omega arith) in
@@ -41,14 +41,14 @@ blocks_further number epoch plan blocks is before =
     cc
 
 -- a life before the last one goes on into its epoch
-goes_on : (number epoch : ℕ) → epoch < 5 → begin_of number epoch ≡ events_from number (info_at number epoch) 0 16
+goes_on : (number epoch : ℕ) → epoch < 5 → begin_of number epoch ≡ events_from number (made_info_at number epoch) 0 16
 goes_on number epoch lt =
     elim (cases_Bool (epoch == 5)) [
       | inl is ↦ absurd (let five = eqb-true epoch 5 is in omega arith)
       | inr off ↦ rw off refl
     ]
 
-pub life_is : (number epoch : ℕ) (events begun : List Event) → epoch < 5 → events ≡ rest_before number epoch → begun ≡ events_from number (info_at number epoch) 0 16 → life_with number epoch (events ++ begun) ≡ life_of number epoch
+pub life_is : (number epoch : ℕ) (events begun : List Event) → epoch < 5 → events ≡ rest_before number epoch → begun ≡ events_from number (made_info_at number epoch) 0 16 → life_with number epoch (events ++ begun) ≡ life_of number epoch
 unfolding life_of
 life_is number epoch events begun lt rest is =
     let both : events ++ begun ≡ rest_before number epoch ++ begin_of number epoch = (let more = goes_on number epoch lt in cc) in
@@ -64,11 +64,11 @@ lives_further number life lives one before is =
     let more = map-range_with_len_more (life_of number) 0 life life (omega arith) in
     cc
 
-pub info_further : (number epoch : ℕ) → info_after number (info_at number epoch) ≡ info_at number (epoch + 1)
-unfolding info_at
+pub info_further : (number epoch : ℕ) → info_made_after number (made_info_at number epoch) ≡ made_info_at number (epoch + 1)
+unfolding made_info_at
 info_further number epoch = rw (add-one epoch) refl
 
-pub rest_further : (number epoch : ℕ) → events_from number (info_at number epoch) 16 48 ≡ rest_before number (epoch + 1)
+pub rest_further : (number epoch : ℕ) → events_from number (made_info_at number epoch) 16 48 ≡ rest_before number (epoch + 1)
 rest_further number epoch = rw (add-one epoch) refl
 
 -- THE SCRIPT

@@ -9,7 +9,7 @@ use Rattle.dkg_ceremony.specs.declared.sharing.Sharing.{Sharing}
 use Rattle.dkg_ceremony.specs.Agreement.{PartsAgree, parts_agree}
 use Rattle.dkg_ceremony.specs.AgreementTest.{agreed}
 use Rattle.dkg_ceremony.specs.Deals.{coefficient_of}
-use Rattle.dkg_ceremony.specs.OutputGrammar.{same_output}
+use Rattle.dkg_ceremony.specs.OutputGrammar.{output_by_parts}
 use Rattle.dkg_infos.specs.declared.outcome.EpochOutcome.TheVariants.{Success}
 use Rattle.dkg_generator.specs.Chain.{everybody, genesis, genesis_output, genesis_poly}
 use Rattle.dkg_generator.specs.Made.{Shown}
@@ -50,7 +50,7 @@ shared poly = record { mode = NonZeroCounter; total = 7; poly = poly }
 first_output : (number : ℕ) (output : Output) (poly : List ℕ) → output.summary ≡ replicate 8 0 → output.sharing ≡ shared poly → poly ≡ genesis_poly number → output.dealers ≡ everybody → output.players ≡ everybody → output.revealed ≡ []
     → output ≡ genesis_output number
 unfolding genesis_output
-first_output number output poly summary sharing drawn dealers players none = same_output output (genesis_output number) summary (sharing ∙ ap shared drawn) dealers players none
+first_output number output poly summary sharing drawn dealers players none = output_by_parts output (genesis_output number) summary (sharing ∙ ap shared drawn) dealers players none
 
 -- THE INFO
 

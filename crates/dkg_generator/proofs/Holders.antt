@@ -11,7 +11,7 @@ use Rattle.dkg_ceremony.specs.OutputGrammar.{parts_of_output}
 use Rattle.dkg_ceremony.specs.Outcomes.{LogMap, combined_of, keeps_key, outcome_of, outcome_parts, output_with, revealed_of, selected_of, sum_of}
 use Rattle.dkg_ceremony.specs.Outputs.{OutputParts, do_parts_agree, output_from}
 use Rattle.dkg_infos.specs.NextInfos.{info_by, next_info}
-use Rattle.dkg_generator.specs.Chain.{by_dealer, everybody, genesis, genesis_output, info_after, info_at, logs_of, provided, round_after}
+use Rattle.dkg_generator.specs.Chain.{by_dealer, everybody, genesis, genesis_output, info_made_after, made_info_at, logs_made, provided, round_after}
 use Rattle.dkg_generator.specs.Made.{Shown}
 
 -- each key from 1 to 7 is one of all
@@ -53,26 +53,26 @@ by_holders : (shown : Shown) (round : Round) (logs : LogMap) (made : Option Outp
 by_holders shown round logs None e players before = before
 by_holders shown round logs (Some o) e players before = outcome_players round logs o e ∙ players
 
-after_holders : (number : ℕ) (shown : Shown) → shown.output.players ≡ everybody → (info_after number shown).output.players ≡ everybody
-unfolding info_after next_info
+after_holders : (number : ℕ) (shown : Shown) → shown.output.players ≡ everybody → (info_made_after number shown).output.players ≡ everybody
+unfolding info_made_after next_info
 after_holders number shown before =
-    let logs = by_dealer (logs_of number shown) in
+    let logs = by_dealer (logs_made number shown) in
     by_holders shown (round_after shown) logs (outcome_of (round_after shown) logs) refl refl before
 
 by_epoch : (shown : Shown) (made : Option Output) → (info_by provided shown made).epoch ≡ shown.epoch + 1
 by_epoch shown None = refl
 by_epoch shown (Some o) = refl
 
-after_epoch : (number : ℕ) (shown : Shown) → (info_after number shown).epoch ≡ shown.epoch + 1
-unfolding info_after next_info
-after_epoch number shown = by_epoch shown (outcome_of (round_after shown) (by_dealer (logs_of number shown)))
+after_epoch : (number : ℕ) (shown : Shown) → (info_made_after number shown).epoch ≡ shown.epoch + 1
+unfolding info_made_after next_info
+after_epoch number shown = by_epoch shown (outcome_of (round_after shown) (by_dealer (logs_made number shown)))
 
-pub holders : (number epoch : ℕ) → (info_at number epoch).output.players ≡ everybody
-unfolding info_at genesis genesis_output
+pub holders : (number epoch : ℕ) → (made_info_at number epoch).output.players ≡ everybody
+unfolding made_info_at genesis genesis_output
 holders number zero = refl
-holders number (suc epoch) = after_holders number (info_at number epoch) (holders number epoch)
+holders number (suc epoch) = after_holders number (made_info_at number epoch) (holders number epoch)
 
-pub epoch_is : (number epoch : ℕ) → (info_at number epoch).epoch ≡ epoch
-unfolding info_at genesis
+pub epoch_is : (number epoch : ℕ) → (made_info_at number epoch).epoch ≡ epoch
+unfolding made_info_at genesis
 epoch_is number zero = refl
-epoch_is number (suc epoch) = let one = after_epoch number (info_at number epoch) in let before = epoch_is number epoch in omega (arith, one, before)
+epoch_is number (suc epoch) = let one = after_epoch number (made_info_at number epoch) in let before = epoch_is number epoch in omega (arith, one, before)

@@ -25,8 +25,8 @@ use Rattle.dkg_infos.specs.NextInfos.{Provided, next_info}
 -- WHO
 
 -- this node
-abbrev pub me : ℕ
-me = 1
+abbrev pub this_node : ℕ
+this_node = 1
 
 abbrev pub everybody : List ℕ
 everybody = range_with_len 1 7
@@ -86,8 +86,8 @@ dealt (Err e) = ([], [])
 unfoldable pub halves_of : EpochInfo directory.Unit → (key : ℕ) → (seed : List ℕ) → Halves
 halves_of info key seed = dealt (deal_of (round_after info) key (partial_public_of info.output key) seed)
 
-abbrev pub dealing_of : (number : ℕ) → EpochInfo directory.Unit → (key : ℕ) → Halves
-dealing_of number info key = halves_of info key (dealer_seed number key info.epoch)
+abbrev pub dealing_made : (number : ℕ) → EpochInfo directory.Unit → (key : ℕ) → Halves
+dealing_made number info key = halves_of info key (dealer_seed number key info.epoch)
 
 -- each player's acknowledgement
 unfoldable pub acks_of : Round → (dealer : ℕ) → List ℕ → List (ℕ × List ℕ)
@@ -98,32 +98,32 @@ log_by round dealer halves = sign_log_of dealer round halves.0 halves.1 (acks_of
 
 -- a dealer's log holds every player's acknowledgement
 unfoldable pub signed_of : (number : ℕ) → EpochInfo directory.Unit → (key : ℕ) → SignedDealerLog
-signed_of number info key = log_by (round_after info) key (dealing_of number info key)
+signed_of number info key = log_by (round_after info) key (dealing_made number info key)
 
 -- THE CHAIN
 
 -- how many logs an epoch's blocks carry: too few for an outcome in the epoch that fails
-abbrev pub included : (number epoch : ℕ) → ℕ
-included number epoch = if epoch == failed number then 2 else 6
+abbrev pub logs_included : (number epoch : ℕ) → ℕ
+logs_included number epoch = if epoch == failed number then 2 else 6
 
-unfoldable pub logs_of : (number : ℕ) → EpochInfo directory.Unit → List SignedDealerLog
-logs_of number info = map (signed_of number info) (range_with_len 2 (included number info.epoch))
+unfoldable pub logs_made : (number : ℕ) → EpochInfo directory.Unit → List SignedDealerLog
+logs_made number info = map (signed_of number info) (range_with_len 2 (logs_included number info.epoch))
 
-abbrev pub entry_of : SignedDealerLog → ℕ × DealerLog
-entry_of signed = (signed.dealer, signed.log)
+abbrev pub dealer_and_log : SignedDealerLog → ℕ × DealerLog
+dealer_and_log signed = (signed.dealer, signed.log)
 
 abbrev pub by_dealer : List SignedDealerLog → LogMap
-by_dealer logs = map_of (map entry_of logs)
+by_dealer logs = map_of (map dealer_and_log logs)
 
 -- whoever is asked says that all take part
 abbrev pub provided : Provided directory.Unit
 provided = record { participants = λ epoch. everybody; directory = λ epoch peers. record {} }
 
 -- the info after an epoch's info, by the logs that the epoch's blocks carry
-unfoldable pub info_after : (number : ℕ) → EpochInfo directory.Unit → EpochInfo directory.Unit
-info_after number info = next_info outcome_of provided info (round_after info) (by_dealer (logs_of number info))
+unfoldable pub info_made_after : (number : ℕ) → EpochInfo directory.Unit → EpochInfo directory.Unit
+info_made_after number info = next_info outcome_of provided info (round_after info) (by_dealer (logs_made number info))
 
 -- the info of an epoch
-unfoldable pub info_at : (number epoch : ℕ) → EpochInfo directory.Unit
-info_at number zero = genesis number
-info_at number (suc epoch) = info_after number (info_at number epoch)
+unfoldable pub made_info_at : (number epoch : ℕ) → EpochInfo directory.Unit
+made_info_at number zero = genesis number
+made_info_at number (suc epoch) = info_made_after number (made_info_at number epoch)

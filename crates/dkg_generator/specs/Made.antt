@@ -25,7 +25,7 @@ use Rattle.dkg_text.specs.declared.script.PlayerLine.{PlayerLine}
 use Rattle.dkg_text.specs.declared.script.Script.{Script}
 use Rattle.dkg_text.specs.declared.script.ScriptConfig.{ScriptConfig}
 use Rattle.dkg_ceremony.specs.Deals.{fresh_seed}
-use Rattle.dkg_generator.specs.Chain.{Halves, dealing_of, epochs, everybody, failed, halves_of, info_after, info_at, logs_of, me, others, round_after}
+use Rattle.dkg_generator.specs.Chain.{Halves, dealing_made, epochs, everybody, failed, halves_of, info_made_after, made_info_at, logs_made, this_node, others, round_after}
 
 -- an epoch has 64 blocks
 
@@ -46,7 +46,7 @@ players_of epoch = record { epoch = epoch; players = everybody }
 
 abbrev pub made_config : ScriptConfig
 made_config = record {
-  me = me;
+  me = this_node;
   blocks_per_epoch = sixty_four;
   limit = seven;
   mode = NonZeroCounter;
@@ -67,14 +67,14 @@ abbrev pub log_bytes : SignedDealerLog → List ℕ
 log_bytes signed = payload_spelling unit_spelling (DealerLog signed)
 
 -- what the first block of an epoch carries: the first of all that epoch's info, each other one nothing
-unfoldable pub first_of : Shown → Option (List ℕ)
-first_of shown = if shown.epoch == 0 then Some (info_bytes shown) else None
+unfoldable pub first_payload : Shown → Option (List ℕ)
+first_payload shown = if shown.epoch == 0 then Some (info_bytes shown) else None
 
 unfoldable pub next_of : (number : ℕ) → Shown → List ℕ
-next_of number shown = info_bytes (info_after number shown)
+next_of number shown = info_bytes (info_made_after number shown)
 
 unfoldable pub log_payloads : (number : ℕ) → Shown → List (List ℕ)
-log_payloads number shown = map log_bytes (logs_of number shown)
+log_payloads number shown = map log_bytes (logs_made number shown)
 
 -- What the block at a place of an epoch carries: the last one the next info, and from the midpoint on each a log, as long as there are any.
 abbrev pub carried_at : (first : Option (List ℕ)) (next : List ℕ) (logs : List (List ℕ)) (place : ℕ) → Option (List ℕ)
@@ -92,15 +92,15 @@ parent_of (suc below) = Some below
 abbrev pub block_with : (height : ℕ) → Option (List ℕ) → BlockLine
 block_with height payload = record { height = height; parent = parent_of height; view = 0; payload = payload }
 
-abbrev pub block_at : (first : Option (List ℕ)) (next : List ℕ) (logs : List (List ℕ)) (epoch place : ℕ) → BlockLine
-block_at first next logs epoch place = block_with (epoch * 64 + place) (carried_at first next logs place)
+abbrev pub block_at_place : (first : Option (List ℕ)) (next : List ℕ) (logs : List (List ℕ)) (epoch place : ℕ) → BlockLine
+block_at_place first next logs epoch place = block_with (epoch * 64 + place) (carried_at first next logs place)
 
 -- the blocks of an epoch
 unfoldable pub blocks_with : (first : Option (List ℕ)) (next : List ℕ) (logs : List (List ℕ)) (epoch : ℕ) → List BlockLine
-blocks_with first next logs epoch = map (block_at first next logs epoch) (range_with_len 0 64)
+blocks_with first next logs epoch = map (block_at_place first next logs epoch) (range_with_len 0 64)
 
 abbrev pub blocks_of : (number : ℕ) → Shown → List BlockLine
-blocks_of number shown = blocks_with (first_of shown) (next_of number shown) (log_payloads number shown) shown.epoch
+blocks_of number shown = blocks_with (first_payload shown) (next_of number shown) (log_payloads number shown) shown.epoch
 
 -- WHAT REACHES THE NODE
 
@@ -113,14 +113,14 @@ peer_of sent = Peer sent.0 sent.1
 
 -- a dealing's message to this node
 abbrev pub halves_message : Halves → List ℕ
-halves_message halves = message_spelling (Dealer halves.0 (unwrap_or (lookup me halves.1) 0))
+halves_message halves = message_spelling (Dealer halves.0 (unwrap_or (lookup this_node halves.1) 0))
 
 abbrev pub dealing_from : (number : ℕ) → Shown → (key : ℕ) → Sent
-dealing_from number shown key = (key, halves_message (dealing_of number shown key))
+dealing_from number shown key = (key, halves_message (dealing_made number shown key))
 
 -- a player's acknowledgement of what this node deals
 abbrev pub ack_from : (number : ℕ) → Shown → (key : ℕ) → Sent
-ack_from number shown key = (key, message_spelling (Ack (ack_of key (round_after shown) me (halves_of shown me (fresh_seed number shown.epoch)).0)))
+ack_from number shown key = (key, message_spelling (Ack (ack_of key (round_after shown) this_node (halves_of shown this_node (fresh_seed number shown.epoch)).0)))
 
 -- This node is given a share by the first ceremony that ends well, since it holds none before.
 abbrev pub holds_share : (number epoch : ℕ) → Bool
@@ -133,8 +133,8 @@ unfoldable pub acks_to : (number : ℕ) → Shown → List Sent
 acks_to number shown = if holds_share number shown.epoch then map (ack_from number shown) others else []
 
 -- a request for what the last block has to carry, which is fed the block below it
-abbrev pub request_of : (epoch : ℕ) → List Event
-request_of epoch = Info (2 * epoch + 1) ∷ Feed (2 * epoch + 1) (epoch * 64 + 62) ∷ Work ∷ []
+abbrev pub info_request_events : (epoch : ℕ) → List Event
+info_request_events epoch = Info (2 * epoch + 1) ∷ Feed (2 * epoch + 1) (epoch * 64 + 62) ∷ Work ∷ []
 
 -- what follows the delivery of the block at a place of an epoch
 abbrev pub after_block : (dealings acks : List Sent) (epoch place : ℕ) → List Event
@@ -143,7 +143,7 @@ after_block dealings acks epoch place =
     else if place == 2 then map peer_of acks
     else if place == 16 then map peer_of (take 1 dealings)
     else if place == 39 then Next (2 * epoch) (epoch * 64 + 40) ∷ []
-    else if place == 62 then request_of epoch
+    else if place == 62 then info_request_events epoch
     else []
 
 abbrev pub events_at : (dealings acks : List Sent) (epoch place : ℕ) → List Event
@@ -161,11 +161,11 @@ events_from number shown place count = events_with (dealings_of number shown) (a
 -- A life begins behind the first 16 blocks of an epoch, the first one at the first block of all.
 abbrev pub rest_before : (number life : ℕ) → List Event
 rest_before number zero = []
-rest_before number (suc epoch) = events_from number (info_at number epoch) 16 48
+rest_before number (suc epoch) = events_from number (made_info_at number epoch) 16 48
 
 -- .. and ends with the first 16 of the next, the last one at the last block of all.
 abbrev pub begin_of : (number life : ℕ) → List Event
-begin_of number life = if life == epochs then [] else events_from number (info_at number life) 0 16
+begin_of number life = if life == epochs then [] else events_from number (made_info_at number life) 0 16
 
 -- the last block that was processed
 abbrev pub anchor_of : (life : ℕ) → Option Anchor
@@ -187,7 +187,7 @@ life_of number life = life_with number life (rest_before number life ++ begin_of
 
 -- the blocks of an epoch
 abbrev pub epoch_blocks : (number epoch : ℕ) → List BlockLine
-epoch_blocks number epoch = blocks_of number (info_at number epoch)
+epoch_blocks number epoch = blocks_of number (made_info_at number epoch)
 
 -- The script of a number.
 unfoldable pub made_script : (number : ℕ) → Script

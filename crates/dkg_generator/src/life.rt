@@ -1,6 +1,6 @@
 //! The node's lives: what is delivered to it, and what it begins with.
 ghost use Rattle.std.specs.Prelude.{◌≡◌, ◌<◌, ◌≤◌, ◌-◌, ◌++◌, map, vec_len, IfOk, OnOk};
-ghost use Rattle.dkg_generator.specs.Made.{after_block as after_block_of, anchor_of, events_with, held_of, life_with, peer_of, request_of};
+ghost use Rattle.dkg_generator.specs.Made.{after_block as after_block_of, anchor_of, events_with, held_of, life_with, peer_of, info_request_events};
 
 use crate::plan::Plan;
 use dkg_ceremony::{Blob, Height, Key, Mem};
@@ -23,7 +23,7 @@ fn put_peers(events: &mut Events, sent: &[(Key, Blob)]) -> Mem<()>
 /// The request for what the last block has to carry, which is fed the block below it.
 fn put_request(events: &mut Events, epoch: u64) -> Mem<()>
     requires { epoch < 5 }
-    ensures { OnOk result (events.new ≡ events.old ++ request_of epoch) }
+    ensures { OnOk result (events.new ≡ events.old ++ info_request_events epoch) }
 {
     let request = 2 * epoch + 1;
     events.push(&Event::Info { request })?;

@@ -3,8 +3,8 @@
 //! `make` makes one an epoch, and writes its blocks and events from it.
 ghost use Rattle.std.specs.Prelude.{◌≡◌, ◌<◌, map, IfOk, IsSome};
 ghost use Rattle.dkg_values.specs.Rising.{lookup};
-ghost use Rattle.dkg_generator.specs.Chain.{everybody as everybody_of, included as included_of, me, others, round_after as round_from, signed_of};
-ghost use Rattle.dkg_generator.specs.Made.{acks_to, dealings_of, first_of, halves_message, holds_share as holds_share_of, info_bytes as info_bytes_of, log_bytes};
+ghost use Rattle.dkg_generator.specs.Chain.{everybody as everybody_of, logs_included as included_of, this_node, others, round_after as round_from, signed_of};
+ghost use Rattle.dkg_generator.specs.Made.{acks_to, dealings_of, first_payload, halves_message, holds_share as holds_share_of, info_bytes as info_bytes_of, log_bytes};
 ghost use Rattle.dkg_generator.specs.Making.{IsPlan};
 
 use crate::chain::{deal, dealer_seed, info_after, round_after, sign};
@@ -68,7 +68,7 @@ fn log_payloads(alloc: Global, logs: &[SignedDealerLog]) -> Mem<Vec<Blob>>
 
 /// The message of a dealing to this node.
 fn message_of(alloc: Global, halves: &(Public, Map<Private>)) -> Mem<Blob>
-    requires { IsSome (lookup me halves.now.1) }
+    requires { IsSome (lookup this_node halves.now.1) }
     ensures { IfOk result (λ message. message ≡ halves_message halves.now) }
 {
     let private = match halves.1.get(ME) {
@@ -138,9 +138,9 @@ fn acks_of(
 }
 
 /// What the first block of an info's epoch carries.
-#[tactic(auto, unfolding(crate::specs::Made::first_of))]
+#[tactic(auto, unfolding(crate::specs::Made::first_payload))]
 fn first(alloc: Global, info: &EpochInfo<Unit>) -> Mem<Option<Blob>>
-    ensures { IfOk result (λ bytes. bytes ≡ first_of info.now) }
+    ensures { IfOk result (λ bytes. bytes ≡ first_payload info.now) }
 {
     if info.epoch.0 == 0 {
         Ok(Some(info_bytes(alloc, info)?))

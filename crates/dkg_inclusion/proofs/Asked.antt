@@ -30,7 +30,7 @@ use Rattle.dkg_verifying.proofs.Included.{ready_as, seen_as}
 -- IT IS MADE
 
 -- a request that was fed nothing yet
-abbrev pub new_request : {Dir : Type 0} → (number : ℕ) → requested.Request Dir
+abbrev pub new_request : {Dir : Type 0} → (number : ℕ) → requested.WaitingRequest Dir
 new_request number = record { number = number; blocks = []; ended = false }
 
 module _ {Dir : Type 0} (request : ℕ) (beside : Beside Dir) where
@@ -45,16 +45,16 @@ module _ {Dir : Type 0} (request : ℕ) (beside : Beside Dir) where
   }
 
   module _ (c : Fixed Dir) (fence : Readiness) (life : Life Dir) where
-    asks_at : (s : Stage) → life.stage ≡ s → including.asks c request (live_of beside fence life) ≡ including.asks_in c request (live_of used_beside fence life) (stage_of s)
+    asks_at : (s : Stage) → life.stage ≡ s → including.asks_request c request (live_of beside fence life) ≡ including.asks_in c request (live_of used_beside fence life) (stage_of s)
     asks_at s is = ap (λ (x : Stage). including.asks_in c request (live_of used_beside fence life) (stage_of x)) is
 
-    pub asks_dealing : life.stage ≡ Dealing → including.asks c request (live_of beside fence life) ≡ Goes (live_of asked_beside fence life)
+    pub asks_dealing : life.stage ≡ Dealing → including.asks_request c request (live_of beside fence life) ≡ Goes (live_of asked_beside fence life)
     asks_dealing is = asks_at Dealing is
 
-    pub asks_including : life.stage ≡ Including → including.asks c request (live_of beside fence life) ≡ including.advanced c (live_of asked_beside fence life)
+    pub asks_including : life.stage ≡ Including → including.asks_request c request (live_of beside fence life) ≡ including.advanced c (live_of asked_beside fence life)
     asks_including is = asks_at Including is
 
-    pub asks_following : life.stage ≡ Following → including.asks c request (live_of beside fence life) ≡ including.answers_none request why.Following (live_of used_beside fence life)
+    pub asks_following : life.stage ≡ Following → including.asks_request c request (live_of beside fence life) ≡ including.answers_none request why.Following (live_of used_beside fence life)
     asks_following is = asks_at Following is
 
   module _ {C Signer Cfg : Type 0} (its : Inclusion C Dir Signer Cfg) (seen : IsSeen its beside.inclusion) (told : FinMap nat_cmp (Told Dir)) (posted : told ≡ posted_in request its.told) where
@@ -73,7 +73,7 @@ module _ {C Dir Signer Cfg : Type 0} (check_log_of : CheckLogOf) (dealing_of : D
   abbrev Settled : Inclusion C Dir Signer Cfg → Type 0
   Settled new = IsSettledInclusion check_log_of dealing_of finish_of n life new
 
-  module _ (told : FinMap nat_cmp (Told Dir)) (requests : List (requested.Request Dir)) (new : Inclusion C Dir Signer Cfg) (is : new ≡ record its { told = told; requests = requests }) where
+  module _ (told : FinMap nat_cmp (Told Dir)) (requests : List (requested.WaitingRequest Dir)) (new : Inclusion C Dir Signer Cfg) (is : new ≡ record its { told = told; requests = requests }) where
     -- A request waits, where one may.
     pub ready_asked : (life.stage ≡ Following → ⊥) → Ready its → Ready new
     ready_asked apart ready = ready_as check_log_of dealing_of finish_of n life (record its { told = told; requests = requests }) new is (record {
@@ -145,7 +145,7 @@ module _ {C Dir Signer Cfg : Type 0} (check_log_of : CheckLogOf) (dealing_of : D
           hand = hand_left its.hand ready.hand;
           free = λ some. ready.free (had_hand its.hand some);
           runs = ready.runs;
-          idle = λ follows. ap (λ (rs : List (requested.Request Dir)). filter (is_other request) rs) (ready.idle follows);
+          idle = λ follows. ap (λ (rs : List (requested.WaitingRequest Dir)). filter (is_other request) rs) (ready.idle follows);
           current = ready.current;
           unserved = ready.unserved;
         })

@@ -29,7 +29,7 @@ use Rattle.dkg_store.specs.declared.devices.Devices.{Devices}
 use Rattle.dkg_core.specs.Courses.{Course, Goes, bind}
 use Rattle.dkg_core.specs.Fixed.{Fixed}
 use Rattle.dkg_core.specs.Including as including
-use Rattle.dkg_core.specs.Including.{advanced, advances, asks_for}
+use Rattle.dkg_core.specs.Including.{advanced, advances, asks_logs}
 use Rattle.dkg_core.specs.Live as core
 use Rattle.dkg_core.specs.Live.{Live, with_told}
 use Rattle.dkg_verifying.specs.declared.inclusion.Hand.{Hand}
@@ -42,7 +42,7 @@ use Rattle.dkg_verifying.specs.declared.told.Told.{Told}
 use Rattle.dkg_verifying.specs.declared.told.Told.TheVariants.{Info}
 use Rattle.dkg_life.specs.Ends.{by_stop, ends_in}
 use Rattle.dkg_verifying.specs.Including.{EndsCaching, behind_first, caching, fed_of, goes_on, on_fed, reads_next, telling, unless_of}
-use Rattle.dkg_verifying.specs.InclusionOf.{IsSeen, answer_or, artifact_of, cached_of, in_front, job_of, kept_of, posted_in, request_of, result_of}
+use Rattle.dkg_verifying.specs.InclusionOf.{IsSeen, answer_or, artifact_of, cached_of, in_front, job_of, kept_of, posted_in, waiting_request_of, checked_result_of}
 use Rattle.dkg_life.specs.LiveOf.{Beside, EndsWith, live_of, stage_of}
 use Rattle.dkg_life.specs.Made.{Makes, Tells}
 use Rattle.dkg_inclusion.proofs.Advancing.{ReadsFirst, Waits, WaitsBy, advances_next, advances_over, goes_by, next_is, waits_advances, waits_next}
@@ -127,8 +127,8 @@ module _ {C Dir Signer Cfg : Type 0} (its : Inclusion C Dir Signer Cfg) (i : cor
     used = seen.used;
   }
 
-  pub seen_requests : (requests : List (requested.Request Dir)) → requests ≡ its.requests → IsSeen (record its { requests = requests }) i
-  seen_requests requests same = seen_queue its i its.hand requests i.queue (seen.queue ∙ ap (λ (rs : List (requested.Request Dir)). map request_of (in_front its.hand rs)) (sym same)) seen
+  pub seen_requests : (requests : List (requested.WaitingRequest Dir)) → requests ≡ its.requests → IsSeen (record its { requests = requests }) i
+  seen_requests requests same = seen_queue its i its.hand requests i.queue (seen.queue ∙ ap (λ (rs : List (requested.WaitingRequest Dir)). map waiting_request_of (in_front its.hand rs)) (sym same)) seen
 
   -- nobody waits for the verification
   pub seen_nobody : IsSeen (record its { waiter = None }) (record i { waiter = None })
@@ -144,34 +144,34 @@ module _ {C Dir Signer Cfg : Type 0} (its : Inclusion C Dir Signer Cfg) (i : cor
   }
 
   -- the requests behind the one in hand
-  pub seen_behind : IsSeen (record its { hand = None }) (record i { queue = map request_of its.requests })
-  seen_behind = seen_queue its i None its.requests (map request_of its.requests) refl seen
+  pub seen_behind : IsSeen (record its { hand = None }) (record i { queue = map waiting_request_of its.requests })
+  seen_behind = seen_queue its i None its.requests (map waiting_request_of its.requests) refl seen
 
-  front_more : (hand : Option (Hand Dir Cfg)) (r : requested.Request Dir) → in_front hand its.requests ++ r ∷ [] ≡ in_front hand (its.requests ++ r ∷ [])
+  front_more : (hand : Option (Hand Dir Cfg)) (r : requested.WaitingRequest Dir) → in_front hand its.requests ++ r ∷ [] ≡ in_front hand (its.requests ++ r ∷ [])
   front_more None r = refl
   front_more (Some hand) r = refl
 
   -- a request more
-  pub seen_more : (r : requested.Request Dir) → IsSeen (record its { requests = its.requests ++ r ∷ [] }) (record i { queue = i.queue ++ request_of r ∷ [] })
+  pub seen_more : (r : requested.WaitingRequest Dir) → IsSeen (record its { requests = its.requests ++ r ∷ [] }) (record i { queue = i.queue ++ waiting_request_of r ∷ [] })
   seen_more r =
-      seen_queue its i its.hand (its.requests ++ r ∷ []) (i.queue ++ request_of r ∷ [])
-      (ap (λ (q : List (core.Request Dir)). q ++ request_of r ∷ []) seen.queue
-      ∙ sym (map-append request_of (in_front its.hand its.requests) (r ∷ []))
-      ∙ ap (λ (rs : List (requested.Request Dir)). map request_of rs) (front_more its.hand r)) seen
+      seen_queue its i its.hand (its.requests ++ r ∷ []) (i.queue ++ waiting_request_of r ∷ [])
+      (ap (λ (q : List (core.Request Dir)). q ++ waiting_request_of r ∷ []) seen.queue
+      ∙ sym (map-append waiting_request_of (in_front its.hand its.requests) (r ∷ []))
+      ∙ ap (λ (rs : List (requested.WaitingRequest Dir)). map waiting_request_of rs) (front_more its.hand r)) seen
 
 -- others than these
 module _ {Dir : Type 0} (request : ℕ) where
-  others_kept : (rs : List (requested.Request Dir)) → filter (λ r. not (r.number == request)) (map request_of rs) ≡ map request_of (filter (is_other request) rs)
+  others_kept : (rs : List (requested.WaitingRequest Dir)) → filter (λ r. not (r.number == request)) (map waiting_request_of rs) ≡ map waiting_request_of (filter (is_other request) rs)
   others_kept [] = refl
   others_kept (r ∷ rs) = by_test (r.number == request) (others_kept rs)
     where
-      by_test : (same : Bool) → filter (λ r. not (r.number == request)) (map request_of rs) ≡ map request_of (filter (is_other request) rs)
-          → (if not same then request_of r ∷ filter (λ r. not (r.number == request)) (map request_of rs) else filter (λ r. not (r.number == request)) (map request_of rs))
-          ≡ map request_of (if not same then r ∷ filter (is_other request) rs else filter (is_other request) rs)
+      by_test : (same : Bool) → filter (λ r. not (r.number == request)) (map waiting_request_of rs) ≡ map waiting_request_of (filter (is_other request) rs)
+          → (if not same then waiting_request_of r ∷ filter (λ r. not (r.number == request)) (map waiting_request_of rs) else filter (λ r. not (r.number == request)) (map waiting_request_of rs))
+          ≡ map waiting_request_of (if not same then r ∷ filter (is_other request) rs else filter (is_other request) rs)
       by_test true rest = rest
-      by_test false rest = ap (λ (l : List (core.Request Dir)). request_of r ∷ l) rest
+      by_test false rest = ap (λ (l : List (core.Request Dir)). waiting_request_of r ∷ l) rest
 
-  others_in_front : {Cfg : Type 0} (hand : Option (Hand Dir Cfg)) (rs : List (requested.Request Dir)) → filter (is_other request) (in_front hand rs) ≡ in_front (unless_of request hand) (filter (is_other request) rs)
+  others_in_front : {Cfg : Type 0} (hand : Option (Hand Dir Cfg)) (rs : List (requested.WaitingRequest Dir)) → filter (is_other request) (in_front hand rs) ≡ in_front (unless_of request hand) (filter (is_other request) rs)
   others_in_front None rs = refl
   others_in_front {Cfg} (Some hand) rs = by_test (hand.request.number == request)
     where
@@ -185,7 +185,7 @@ module _ {Dir : Type 0} (request : ℕ) where
       seen_queue its i (unless_of request its.hand) (filter (is_other request) its.requests) (filter (λ r. not (r.number == request)) i.queue)
       (ap (λ (q : List (core.Request Dir)). filter (λ r. not (r.number == request)) q) seen.queue
       ∙ others_kept (in_front its.hand its.requests)
-      ∙ ap (λ (rs : List (requested.Request Dir)). map request_of rs) (others_in_front its.hand its.requests)) seen
+      ∙ ap (λ (rs : List (requested.WaitingRequest Dir)). map waiting_request_of rs) (others_in_front its.hand its.requests)) seen
 
 -- ANSWERS
 
@@ -196,7 +196,7 @@ module _ {C Dir Signer Cfg W : Type 0} (R : Course Dir Fault (Live Dir) → Ende
     EndsBy new = EndsWith beside (λ i. OnOk result (IsSeen new i)) NoMore (λ now. R course (ends_in (live_of now fence life) result) x y)
 
     -- it was told this
-    pub told_ends : (what : Told Dir) (answer : core.Told Dir) → kept_of what ≡ Some answer → (told : FinMap nat_cmp (Told Dir)) → OnOk result (told ≡ maps.insert its.told request what)
+    pub told_ends : (what : Told Dir) (answer : core.RequestAnswer Dir) → kept_of what ≡ Some answer → (told : FinMap nat_cmp (Told Dir)) → OnOk result (told ≡ maps.insert its.told request what)
         → R course (ends_in (with_told request answer (live_of beside fence life)) result) x y → EndsBy (record its { told = told })
     told_ends what answer kept told is made = ends_with beside (record beside.inclusion { told = (request, answer) ∷ beside.inclusion.told }) (by_result result is) refl made
       where
@@ -234,52 +234,52 @@ module _ {C Dir Signer Cfg : Type 0} (c : Fixed Dir) (round : Round) (request : 
     st = live_of beside fence life
 
     asks_by : (cached : Option (core.Artifact Dir)) (retained : Option core.VerifiedLogs) → including.cached_for st.inclusion.cached logs ≡ cached → including.retained_for st.inclusion.retained logs ≡ retained
-        → asks_for c round request logs st ≡ including.asks_for_by c round request logs cached retained st
+        → asks_logs c round request logs st ≡ including.asks_for_by c round request logs cached retained st
     asks_by cached retained of_cache of_kept = λ i. including.asks_for_by c round request logs (of_cache i) (of_kept i) st
 
     uncached : (IsSomeAnd its.cache (λ k. k.0 ≡ logs) → ⊥) → including.cached_for st.inclusion.cached logs ≡ None
     uncached apart = ap (λ (d : Option (core.Cached Dir)). including.cached_for d logs) seen.cached ∙ sym (cached_none logs its.cache apart)
 
-    retained : including.retained_for st.inclusion.retained logs ≡ including.retained_for (option_map result_of its.verification.kept) logs
+    retained : including.retained_for st.inclusion.retained logs ≡ including.retained_for (option_map checked_result_of its.verification.kept) logs
     retained = ap (λ (r : Option core.VerifiedLogs). including.retained_for r logs) seen.retained
 
     -- from the cache,
-    pub from_cache : IsSomeAnd its.cache (λ k. k.0 ≡ logs) → (made : artifact.Artifact Dir) → Some made ≡ option_map (λ k. k.1) its.cache → asks_for c round request logs st ≡ including.answers c request (artifact_of made) st
+    pub from_cache : IsSomeAnd its.cache (λ k. k.0 ≡ logs) → (made : artifact.Artifact Dir) → Some made ≡ option_map (λ k. k.1) its.cache → asks_logs c round request logs st ≡ including.answers_request c request (artifact_of made) st
     from_cache is made kept =
         asks_by (Some (artifact_of made)) (including.retained_for st.inclusion.retained logs) (ap (λ (d : Option (core.Cached Dir)). including.cached_for d logs) seen.cached ∙ sym (cached_some logs its.cache is made kept)) refl
 
     -- .. from the result that is kept,
     pub from_kept : (IsSomeAnd its.cache (λ k. k.0 ≡ logs) → ⊥) → IsSomeAnd its.verification.kept (λ r. r.logs ≡ logs) → (found : Checked) → Some found ≡ its.verification.kept
-        → asks_for c round request logs st ≡ including.artifact c (result_of found) st (including.answers c request)
-    from_kept apart is found kept = asks_by None (Some (result_of found)) (uncached apart) (retained ∙ kept_some logs its.verification.kept is ∙ sym (ap (λ (o : Option Checked). option_map result_of o) kept))
+        → asks_logs c round request logs st ≡ including.artifact c (checked_result_of found) st (including.answers_request c request)
+    from_kept apart is found kept = asks_by None (Some (checked_result_of found)) (uncached apart) (retained ∙ kept_some logs its.verification.kept is ∙ sym (ap (λ (o : Option Checked). option_map checked_result_of o) kept))
 
     -- .. or from a verification that starts
-    pub from_none : (IsSomeAnd its.cache (λ k. k.0 ≡ logs) → ⊥) → (IsSomeAnd its.verification.kept (λ r. r.logs ≡ logs) → ⊥) → asks_for c round request logs st ≡ including.starts_verifying c round logs (Some request) st
+    pub from_none : (IsSomeAnd its.cache (λ k. k.0 ≡ logs) → ⊥) → (IsSomeAnd its.verification.kept (λ r. r.logs ≡ logs) → ⊥) → asks_logs c round request logs st ≡ including.starts_verifying c round logs (Some request) st
     from_none apart unkept = asks_by None None (uncached apart) (retained ∙ kept_none logs its.verification.kept unkept)
 
 -- THE FIRST THAT WAITS
 
 module _ {C Dir Signer Cfg : Type 0} (c : Fixed Dir) (beside : Beside Dir) (fence : Readiness) (life : Life Dir) (its : Inclusion C Dir Signer Cfg) (seen : IsSeen its beside.inclusion)
-    (includes : life.stage ≡ stage.Including) (none : its.hand ≡ None) (free : its.verification.running ≡ None) (r : requested.Request Dir) (rs : List (requested.Request Dir)) (first : its.requests ≡ r ∷ rs)
+    (includes : life.stage ≡ stage.Including) (none : its.hand ≡ None) (free : its.verification.running ≡ None) (r : requested.WaitingRequest Dir) (rs : List (requested.WaitingRequest Dir)) (first : its.requests ≡ r ∷ rs)
   where
     -- what inclusion has without it
     abbrev pub behind_it : Beside Dir
-    behind_it = record beside { inclusion = record beside.inclusion { queue = map request_of rs } }
+    behind_it = record beside { inclusion = record beside.inclusion { queue = map waiting_request_of rs } }
 
-    front_none : (hand : Option (Hand Dir Cfg)) (waiting : List (requested.Request Dir)) → hand ≡ None → in_front hand waiting ≡ waiting
+    front_none : (hand : Option (Hand Dir Cfg)) (waiting : List (requested.WaitingRequest Dir)) → hand ≡ None → in_front hand waiting ≡ waiting
     front_none hand waiting is = ap (λ (o : Option (Hand Dir Cfg)). in_front o waiting) is
 
     pub seen_popped : IsSeen (record its { requests = rs }) behind_it.inclusion
-    seen_popped = seen_queue its beside.inclusion its.hand rs (map request_of rs) (ap (λ (l : List (requested.Request Dir)). map request_of l) (sym (front_none its.hand rs none))) seen
+    seen_popped = seen_queue its beside.inclusion its.hand rs (map waiting_request_of rs) (ap (λ (l : List (requested.WaitingRequest Dir)). map waiting_request_of l) (sym (front_none its.hand rs none))) seen
 
-    queue_is : beside.inclusion.queue ≡ request_of r ∷ map request_of rs
-    queue_is = seen.queue ∙ ap (λ (l : List (requested.Request Dir)). map request_of l) (front_none its.hand its.requests none ∙ first)
+    queue_is : beside.inclusion.queue ≡ waiting_request_of r ∷ map waiting_request_of rs
+    queue_is = seen.queue ∙ ap (λ (l : List (requested.WaitingRequest Dir)). map waiting_request_of l) (front_none its.hand its.requests none ∙ first)
 
     -- It is in hand.
     pub seen_held : (hand : Hand Dir Cfg) → hand.request ≡ r → IsSeen (record its { hand = Some hand; requests = rs }) beside.inclusion
-    seen_held hand is = seen_queue its beside.inclusion (Some hand) rs beside.inclusion.queue (queue_is ∙ ap (λ (q : requested.Request Dir). request_of q ∷ map request_of rs) (sym is)) seen
+    seen_held hand is = seen_queue its beside.inclusion (Some hand) rs beside.inclusion.queue (queue_is ∙ ap (λ (q : requested.WaitingRequest Dir). waiting_request_of q ∷ map waiting_request_of rs) (sym is)) seen
 
-    pub reads_it : (round : Round) → life.round ≡ Some round → ReadsFirst c (live_of beside fence life) round (request_of r) (map request_of rs)
+    pub reads_it : (round : Round) → life.round ≡ Some round → ReadsFirst c (live_of beside fence life) round (waiting_request_of r) (map waiting_request_of rs)
     reads_it round has = record {
       round_is = has;
       includes = ap stage_of includes;
@@ -288,12 +288,12 @@ module _ {C Dir Signer Cfg : Type 0} (c : Fixed Dir) (beside : Beside Dir) (fenc
     }
 
     -- It is answered.
-    pub answered_next : (round : Round) → life.round ≡ Some round → (x : scan.Fed) → including.read_of c round (live_of beside fence life) (request_of r) ≡ fed_of x → including.is_need (fed_of x) ≡ false
+    pub answered_next : (round : Round) → life.round ≡ Some round → (x : scan.Fed) → including.read_of c round (live_of beside fence life) (waiting_request_of r) ≡ fed_of x → including.is_need (fed_of x) ≡ false
         → reads_next c (live_of beside fence life) ≡ on_fed c round r.number (fed_of x) (live_of behind_it fence life)
-    answered_next round has x is answered = next_is c (live_of beside fence life) round (request_of r) (map request_of rs) (reads_it round has) (fed_of x) is answered
+    answered_next round has x is answered = next_is c (live_of beside fence life) round (waiting_request_of r) (map waiting_request_of rs) (reads_it round has) (fed_of x) is answered
 
     -- .. or needs more.
-    pub needed_next : (round : Round) → life.round ≡ Some round → (x : scan.Fed) → including.read_of c round (live_of beside fence life) (request_of r) ≡ fed_of x → including.is_need (fed_of x) ≡ true
+    pub needed_next : (round : Round) → life.round ≡ Some round → (x : scan.Fed) → including.read_of c round (live_of beside fence life) (waiting_request_of r) ≡ fed_of x → including.is_need (fed_of x) ≡ true
         → reads_next c (live_of beside fence life) ≡ Goes (live_of beside fence life)
     needed_next round has x is needs = waits_next c (live_of beside fence life) (λ its had.
         let same : round ≡ its = one_round round its (sym has ∙ had) in
@@ -317,15 +317,15 @@ module _ {C Dir Signer Cfg W : Type 0} (R : Course Dir Fault (Live Dir) → Ende
   where
     -- without it
     abbrev pub behind_hand : Beside Dir
-    behind_hand = record beside { inclusion = record beside.inclusion { queue = map request_of its.requests } }
+    behind_hand = record beside { inclusion = record beside.inclusion { queue = map waiting_request_of its.requests } }
 
-    behind_is : behind_first beside.inclusion.queue ≡ map request_of its.requests
-    behind_is = ap (λ (q : List (core.Request Dir)). behind_first q) (seen.queue ∙ ap (λ (o : Option (Hand Dir Cfg)). map request_of (in_front o its.requests)) has)
+    behind_is : behind_first beside.inclusion.queue ≡ map waiting_request_of its.requests
+    behind_is = ap (λ (q : List (core.Request Dir)). behind_first q) (seen.queue ∙ ap (λ (o : Option (Hand Dir Cfg)). map waiting_request_of (in_front o its.requests)) has)
 
     abbrev answers_in : List (core.Request Dir) → Round → Course Dir Fault (Live Dir)
     answers_in rest round = bind (including.fed c round request (core.with_queue rest (live_of beside fence life)) (fed_of x)) (λ now. advances c (length rest) now)
 
-    goes_is : goes_on c request (fed_of x) (live_of beside fence life) ≡ bind (on_fed c round request (fed_of x) (live_of behind_hand fence life)) (λ now. advances c (length (map request_of its.requests)) now)
+    goes_is : goes_on c request (fed_of x) (live_of beside fence life) ≡ bind (on_fed c round request (fed_of x) (live_of behind_hand fence life)) (λ now. advances c (length (map waiting_request_of its.requests)) now)
     goes_is =
         goes_by c request (live_of beside fence life) (fed_of x) answered
         ∙ ap (λ (o : Option Round). option_map_or (answers_in (behind_first beside.inclusion.queue)) o (Goes (live_of beside fence life))) joined
@@ -333,7 +333,7 @@ module _ {C Dir Signer Cfg W : Type 0} (R : Course Dir Fault (Live Dir) → Ende
 
     -- the answer stopped
     pub answer_stopped : (its : Stop) (a z : W) → R (on_fed c round request (fed_of x) (live_of behind_hand fence life)) (by_stop its) a z → R (goes_on c request (fed_of x) (live_of beside fence life)) (by_stop its) a z
-    answer_stopped stop a z made = joined_as R goes_is (joins.early (on_fed c round request (fed_of x) (live_of behind_hand fence life)) (λ now. advances c (length (map request_of its.requests)) now) stop a z made)
+    answer_stopped stop a z made = joined_as R goes_is (joins.early (on_fed c round request (fed_of x) (live_of behind_hand fence life)) (λ now. advances c (length (map waiting_request_of its.requests)) now) stop a z made)
 
     -- the others behind it
     pub answer_then : (mid : Inclusion C Dir Signer Cfg) → mid.hand ≡ None → mid.requests ≡ its.requests → (now : Beside Dir) → IsSeen mid now.inclusion → (how : Ended Fault (Live Dir)) (later : Life Dir) (a b z : W)
@@ -341,15 +341,15 @@ module _ {C Dir Signer Cfg W : Type 0} (R : Course Dir Fault (Live Dir) → Ende
         → R (goes_on c request (fed_of x) (live_of beside fence life)) how a z
     answer_then mid none same now seen_now how later a b z first second =
         joined_as R goes_is
-        (joins.next (on_fed c round request (fed_of x) (live_of behind_hand fence life)) (λ now. advances c (length (map request_of its.requests)) now) (live_of now fence later) how a b z first
+        (joins.next (on_fed c round request (fed_of x) (live_of behind_hand fence life)) (λ now. advances c (length (map waiting_request_of its.requests)) now) (live_of now fence later) how a b z first
         (subst (λ (q : List (core.Request Dir)). R (advances c (length q) (live_of now fence later)) how b z)
-        (seen_now.queue ∙ (λ i. map request_of (in_front (none i) (same i)))) second))
+        (seen_now.queue ∙ (λ i. map waiting_request_of (in_front (none i) (same i)))) second))
 
 -- THOSE THAT WAIT are no more than there are in all
 
-pub front_length : {Dir Cfg : Type 0} (hand : Option (Hand Dir Cfg)) (requests : List (requested.Request Dir)) → length requests ≤ length (map request_of (in_front hand requests))
-front_length None requests = omega (arith, length-map requests request_of)
-front_length (Some hand) requests = omega (arith, length-map requests request_of)
+pub front_length : {Dir Cfg : Type 0} (hand : Option (Hand Dir Cfg)) (requests : List (requested.WaitingRequest Dir)) → length requests ≤ length (map waiting_request_of (in_front hand requests))
+front_length None requests = omega (arith, length-map requests waiting_request_of)
+front_length (Some hand) requests = omega (arith, length-map requests waiting_request_of)
 
 -- one fewer waits behind the first
 pub behind_length : {A : Type 0} (rs now : List A) (turn count : ℕ) → now ≡ behind_first rs → length rs + turn ≤ count → turn < count → length now + (turn + 1) ≤ count

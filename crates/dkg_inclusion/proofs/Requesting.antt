@@ -27,7 +27,7 @@ use Rattle.dkg_life.specs.declared.life.Life.{Life}
 use Rattle.dkg_life.specs.declared.life.Stage.{Stage}
 use Rattle.dkg_life.specs.declared.life.Stage.TheVariants as stage
 use Rattle.dkg_verifying.specs.Including.{IsHandOf, behind_answer, ends_hand, fed_of, feeds_hand, goes_on}
-use Rattle.dkg_verifying.specs.InclusionOf.{IsInHand, IsReadyInclusion, IsSeen, IsSettledInclusion, in_front, job_of, request_of, tip_of}
+use Rattle.dkg_verifying.specs.InclusionOf.{IsInHand, IsReadyInclusion, IsSeen, IsSettledInclusion, in_front, job_of, waiting_request_of, tip_of}
 use Rattle.dkg_life.specs.LiveOf.{Beside, IsPlaced, awaited_of, live_of, stage_of}
 use Rattle.dkg_life.specs.Rules.{CheckLogOf, DealingOf, FinishOf}
 use Rattle.dkg_verifying.specs.Scanned.{IsFed, fed_all}
@@ -52,8 +52,8 @@ none_some {A} P o none some = absurd (let e : false ≡ true = subst (λ (q : Op
 -- AS THE RELATION HAS THEM
 
 -- what inclusion has, with other requests
-pub seen_queue : {C Dir Signer Cfg : Type 0} (its : Inclusion C Dir Signer Cfg) (i : core.Inclusion Dir) (hand : Option (Hand Dir Cfg)) (requests : List (requested.Request Dir)) (queue : List (core.Request Dir))
-    → queue ≡ map request_of (in_front hand requests) → IsSeen its i → IsSeen (record its { hand = hand; requests = requests }) (record i { queue = queue })
+pub seen_queue : {C Dir Signer Cfg : Type 0} (its : Inclusion C Dir Signer Cfg) (i : core.Inclusion Dir) (hand : Option (Hand Dir Cfg)) (requests : List (requested.WaitingRequest Dir)) (queue : List (core.Request Dir))
+    → queue ≡ map waiting_request_of (in_front hand requests) → IsSeen its i → IsSeen (record its { hand = hand; requests = requests }) (record i { queue = queue })
 seen_queue its i hand requests queue same seen = record {
   served = seen.served;
   queue = same;
@@ -65,8 +65,8 @@ seen_queue its i hand requests queue same seen = record {
   used = seen.used;
 }
 
-module _ {Dir : Type 0} (f : core.Request Dir → core.Request Dir) (g : requested.Request Dir → requested.Request Dir) (alike : (r : requested.Request Dir) → f (request_of r) ≡ request_of (g r)) where
-  pub map_alike : (rs : List (requested.Request Dir)) → map f (map request_of rs) ≡ map request_of (map g rs)
+module _ {Dir : Type 0} (f : core.Request Dir → core.Request Dir) (g : requested.WaitingRequest Dir → requested.WaitingRequest Dir) (alike : (r : requested.WaitingRequest Dir) → f (waiting_request_of r) ≡ waiting_request_of (g r)) where
+  pub map_alike : (rs : List (requested.WaitingRequest Dir)) → map f (map waiting_request_of rs) ≡ map waiting_request_of (map g rs)
   map_alike [] = refl
   map_alike (r ∷ rs) = λ i. alike r i ∷ map_alike rs i
 
@@ -75,11 +75,11 @@ module _ {Dir : Type 0} (request : ℕ) where
   abbrev pub feeding : Block Dir → core.Request Dir → core.Request Dir
   feeding b r = if r.number == request then (if r.ended then r else record r { blocks = r.blocks ++ b ∷ [] }) else r
 
-  pub fed_alike : (b : Block Dir) (r : requested.Request Dir) → feeding b (request_of r) ≡ request_of (fed_for request b r)
+  pub fed_alike : (b : Block Dir) (r : requested.WaitingRequest Dir) → feeding b (waiting_request_of r) ≡ waiting_request_of (fed_for request b r)
   fed_alike b r = by_test (r.number == request) r.ended
     where
-      by_test : (is ended : Bool) → (if is then (if ended then request_of r else request_of (record r { blocks = r.blocks ++ b ∷ [] })) else request_of r)
-          ≡ request_of (if is && not ended then record r { blocks = r.blocks ++ b ∷ [] } else r)
+      by_test : (is ended : Bool) → (if is then (if ended then waiting_request_of r else waiting_request_of (record r { blocks = r.blocks ++ b ∷ [] })) else waiting_request_of r)
+          ≡ waiting_request_of (if is && not ended then record r { blocks = r.blocks ++ b ∷ [] } else r)
       by_test true true = refl
       by_test true false = refl
       by_test false ended = refl
@@ -88,10 +88,10 @@ module _ {Dir : Type 0} (request : ℕ) where
   abbrev pub ending : core.Request Dir → core.Request Dir
   ending r = if r.number == request then record r { ended = true } else r
 
-  pub ended_alike : (r : requested.Request Dir) → ending (request_of r) ≡ request_of (ended_for request r)
+  pub ended_alike : (r : requested.WaitingRequest Dir) → ending (waiting_request_of r) ≡ waiting_request_of (ended_for request r)
   ended_alike r = by_test (r.number == request)
     where
-      by_test : (is : Bool) → (if is then request_of (record r { ended = true }) else request_of r) ≡ request_of (if is then record r { ended = true } else r)
+      by_test : (is : Bool) → (if is then waiting_request_of (record r { ended = true }) else waiting_request_of r) ≡ waiting_request_of (if is then record r { ended = true } else r)
       by_test true = refl
       by_test false = refl
 
@@ -109,7 +109,7 @@ module _ {Dir : Type 0} (check : CheckLogOf) (n : ℕ) (life : Life Dir) (placed
     middle_is is = λ i. midpoint (sym blocks i) (sym (includes_is is) i)
 
     -- The request in hand needs more.
-    pub hand_needs : {Cfg : Type 0} (hand : Hand Dir Cfg) → IsInHand check n life hand → (round : Round) → life.round ≡ Some round → including.read_of c round (live_of beside fence life) (request_of hand.request) ≡ including.Need
+    pub hand_needs : {Cfg : Type 0} (hand : Hand Dir Cfg) → IsInHand check n life hand → (round : Round) → life.round ≡ Some round → including.read_of c round (live_of beside fence life) (waiting_request_of hand.request) ≡ including.Need
     hand_needs hand in_hand round has =
         let its = at_some_and (λ (r : Round). IsFed check r (bounds_at n (awaited_of life)) (option_map tip_of life.tip) hand.request.blocks hand.scan) life.round round has in_hand.stands in
         ap (λ (ended : Bool). including.read_of c round (live_of beside fence life) (record { number = hand.request.number; blocks = hand.request.blocks; ended = ended })) in_hand.goes_on
@@ -136,13 +136,13 @@ module _ {C Dir Signer Cfg : Type 0} (check : CheckLogOf) (dealing_of : DealingO
     settled_waits its seen settled = λ round has. by_stage round has life.stage refl
       where
         by_hand : (round : Round) → life.round ≡ Some round → life.stage ≡ stage.Including → its.verification.running ≡ None → (hand : Option (Hand Dir Cfg)) → its.hand ≡ hand
-            → WaitsBy c round (live_of beside fence life) Includes None (map request_of (in_front hand its.requests))
+            → WaitsBy c round (live_of beside fence life) Includes None (map waiting_request_of (in_front hand its.requests))
         by_hand round has includes free None is =
-            subst (λ (rs : List (requested.Request Dir)). WaitsBy c round (live_of beside fence life) Includes None (map request_of rs)) (sym (settled.settled includes (subst (λ (o : Option Round). IsSome o) (sym has) refl) is free)) tt
+            subst (λ (rs : List (requested.WaitingRequest Dir)). WaitsBy c round (live_of beside fence life) Includes None (map waiting_request_of rs)) (sym (settled.settled includes (subst (λ (o : Option Round). IsSome o) (sym has) refl) is free)) tt
         by_hand round has includes free (Some hand) is = ap including.is_need (hand_needs check n life placed c blocks checks beside fence hand (at_some (IsInHand check n life) its.hand hand is settled.ready.hand) round has)
 
         by_running : (round : Round) → life.round ≡ Some round → life.stage ≡ stage.Including → (running : Option job.Job) → its.verification.running ≡ running
-            → WaitsBy c round (live_of beside fence life) Includes (option_map job_of running) (map request_of (in_front its.hand its.requests))
+            → WaitsBy c round (live_of beside fence life) Includes (option_map job_of running) (map waiting_request_of (in_front its.hand its.requests))
         by_running round has includes None free = by_hand round has includes free its.hand refl
         by_running round has includes (Some j) is = tt
 
@@ -166,24 +166,24 @@ module _ {C Dir Signer Cfg : Type 0} (check : CheckLogOf) (dealing_of : DealingO
     pub seen : IsSeen new st.inclusion
     pub goes : including.advanced c st ≡ goes_on c request (fed_of its) st
 
-  ready_changed : (its : Inclusion C Dir Signer Cfg) (g : requested.Request Dir → requested.Request Dir) → Ready its → Ready (record its { requests = map g its.requests })
+  ready_changed : (its : Inclusion C Dir Signer Cfg) (g : requested.WaitingRequest Dir → requested.WaitingRequest Dir) → Ready its → Ready (record its { requests = map g its.requests })
   ready_changed its g ready = record {
     hand = ready.hand;
     free = ready.free;
     runs = ready.runs;
-    idle = λ follows. ap (λ (rs : List (requested.Request Dir)). map g rs) (ready.idle follows);
+    idle = λ follows. ap (λ (rs : List (requested.WaitingRequest Dir)). map g rs) (ready.idle follows);
     current = ready.current;
     unserved = ready.unserved;
   }
 
   -- It goes to a request that isn't in hand.
-  settled_changed : (its : Inclusion C Dir Signer Cfg) (g : requested.Request Dir → requested.Request Dir) → Settled its → Settled (record its { requests = map g its.requests })
+  settled_changed : (its : Inclusion C Dir Signer Cfg) (g : requested.WaitingRequest Dir → requested.WaitingRequest Dir) → Settled its → Settled (record its { requests = map g its.requests })
   settled_changed its g settled = record {
     ready = ready_changed its g settled.ready;
-    settled = λ includes round none free. ap (λ (rs : List (requested.Request Dir)). map g rs) (settled.settled includes round none free);
+    settled = λ includes round none free. ap (λ (rs : List (requested.WaitingRequest Dir)). map g rs) (settled.settled includes round none free);
   }
 
-  answers_none : (request : ℕ) (its : Inclusion C Dir Signer Cfg) (g : requested.Request Dir → requested.Request Dir) → Settled its → Answers request fed.Need (record its { requests = map g its.requests })
+  answers_none : (request : ℕ) (its : Inclusion C Dir Signer Cfg) (g : requested.WaitingRequest Dir → requested.WaitingRequest Dir) → Settled its → Answers request fed.Need (record its { requests = map g its.requests })
   answers_none request its g settled = record {
     needs = λ needs. settled_changed its g settled;
     answers = ready_changed its g settled.ready;
@@ -198,33 +198,33 @@ module _ {C Dir Signer Cfg : Type 0} (check : CheckLogOf) (dealing_of : DealingO
     is_free = settled.ready.free (subst (λ (o : Option (Hand Dir Cfg)). IsSome o) (sym has) refl)
 
     -- the request in hand is another then
-    abbrev with_hand : (g : requested.Request Dir → requested.Request Dir) → Hand Dir Cfg → Inclusion C Dir Signer Cfg
+    abbrev with_hand : (g : requested.WaitingRequest Dir → requested.WaitingRequest Dir) → Hand Dir Cfg → Inclusion C Dir Signer Cfg
     with_hand g now = record its { hand = Some now; requests = map g its.requests }
 
-    ready_hand : (g : requested.Request Dir → requested.Request Dir) (now : Hand Dir Cfg) → IsInHand check n life now → Ready (with_hand g now)
+    ready_hand : (g : requested.WaitingRequest Dir → requested.WaitingRequest Dir) (now : Hand Dir Cfg) → IsInHand check n life now → Ready (with_hand g now)
     ready_hand g now is = record {
       hand = is;
       free = λ some. is_free;
       runs = settled.ready.runs;
-      idle = λ follows. ap (λ (rs : List (requested.Request Dir)). map g rs) (settled.ready.idle follows);
+      idle = λ follows. ap (λ (rs : List (requested.WaitingRequest Dir)). map g rs) (settled.ready.idle follows);
       current = settled.ready.current;
       unserved = settled.ready.unserved;
     }
 
-    ready_behind : (g : requested.Request Dir → requested.Request Dir) → Ready (record its { hand = None; requests = map g its.requests })
+    ready_behind : (g : requested.WaitingRequest Dir → requested.WaitingRequest Dir) → Ready (record its { hand = None; requests = map g its.requests })
     ready_behind g = record {
       hand = tt;
       free = λ some. is_free;
       runs = settled.ready.runs;
-      idle = λ follows. ap (λ (rs : List (requested.Request Dir)). map g rs) (settled.ready.idle follows);
+      idle = λ follows. ap (λ (rs : List (requested.WaitingRequest Dir)). map g rs) (settled.ready.idle follows);
       current = settled.ready.current;
       unserved = settled.ready.unserved;
     }
 
-    settled_hand : (g : requested.Request Dir → requested.Request Dir) (now : Hand Dir Cfg) → IsInHand check n life now → Settled (with_hand g now)
+    settled_hand : (g : requested.WaitingRequest Dir → requested.WaitingRequest Dir) (now : Hand Dir Cfg) → IsInHand check n life now → Settled (with_hand g now)
     settled_hand g now is = record { ready = ready_hand g now is; settled = λ includes round none free. let e : ◌≡◌ {A = Option (Hand Dir Cfg)} (Some now) None = none in absurd cc }
 
-    hand_of : (g : requested.Request Dir → requested.Request Dir) (now : Hand Dir Cfg) → now.request.number ≡ request → IsHandOf life (with_hand g now) request
+    hand_of : (g : requested.WaitingRequest Dir → requested.WaitingRequest Dir) (now : Hand Dir Cfg) → now.request.number ≡ request → IsHandOf life (with_hand g now) request
     hand_of g now same = record {
       hand = same;
       includes = in_hand.includes;
@@ -233,7 +233,7 @@ module _ {C Dir Signer Cfg : Type 0} (check : CheckLogOf) (dealing_of : DealingO
     }
 
     -- by what the scan answered
-    answers_by : (g : requested.Request Dir → requested.Request Dir) (now : Hand Dir Cfg) → now.request.number ≡ request → (x : scan.Fed) → (x ≡ fed.Need → IsInHand check n life now) → Answers request x (with_hand g now)
+    answers_by : (g : requested.WaitingRequest Dir → requested.WaitingRequest Dir) (now : Hand Dir Cfg) → now.request.number ≡ request → (x : scan.Fed) → (x ≡ fed.Need → IsInHand check n life now) → Answers request x (with_hand g now)
     answers_by g now same fed.Need is = record { needs = λ needs. settled_hand g now (is refl); answers = ready_hand g now (is refl); hand = λ no. hand_of g now same }
     answers_by g now same (fed.Logs found) is = record { needs = λ needs. absurd (let e : fed.Logs found ≡ fed.Need = needs in cc); answers = ready_behind g; hand = λ no. hand_of g now same }
     answers_by g now same (fed.Unavailable why) is = record { needs = λ needs. absurd (let e : fed.Unavailable why ≡ fed.Need = needs in cc); answers = ready_behind g; hand = λ no. hand_of g now same }
@@ -306,15 +306,15 @@ module _ {C Dir Signer Cfg : Type 0} (check : CheckLogOf) (dealing_of : DealingO
       abbrev live_changed : (core.Request Dir → core.Request Dir) → Live Dir
       live_changed f = live_of (beside_changed f) fence life
 
-      module _ (f : core.Request Dir → core.Request Dir) (g : requested.Request Dir → requested.Request Dir) (alike : (r : requested.Request Dir) → f (request_of r) ≡ request_of (g r)) where
+      module _ (f : core.Request Dir → core.Request Dir) (g : requested.WaitingRequest Dir → requested.WaitingRequest Dir) (alike : (r : requested.WaitingRequest Dir) → f (waiting_request_of r) ≡ waiting_request_of (g r)) where
         -- each of them
         changed_queue : (hand : Option (Hand Dir Cfg)) (now : Option (Hand Dir Cfg)) → map g (in_front hand its.requests) ≡ in_front now (map g its.requests) → its.hand ≡ hand
-            → map f beside.inclusion.queue ≡ map request_of (in_front now (map g its.requests))
+            → map f beside.inclusion.queue ≡ map waiting_request_of (in_front now (map g its.requests))
         changed_queue hand now same has =
             ap (λ (q : List (core.Request Dir)). map f q) seen.queue
             ∙ map_alike f g alike (in_front its.hand its.requests)
-            ∙ ap (λ (o : Option (Hand Dir Cfg)). map request_of (map g (in_front o its.requests))) has
-            ∙ ap (λ (rs : List (requested.Request Dir)). map request_of rs) same
+            ∙ ap (λ (o : Option (Hand Dir Cfg)). map waiting_request_of (map g (in_front o its.requests))) has
+            ∙ ap (λ (rs : List (requested.WaitingRequest Dir)). map waiting_request_of rs) same
 
         seen_changed : (hand : Option (Hand Dir Cfg)) (now : Option (Hand Dir Cfg)) → map g (in_front hand its.requests) ≡ in_front now (map g its.requests) → its.hand ≡ hand
             → IsSeen (record its { hand = now; requests = map g its.requests }) (as_changed f)
@@ -330,16 +330,16 @@ module _ {C Dir Signer Cfg : Type 0} (check : CheckLogOf) (dealing_of : DealingO
         other_kept : (hand : Hand Dir Cfg) → its.hand ≡ Some hand → g hand.request ≡ hand.request → IsSeen (record its { requests = map g its.requests }) (as_changed f)
         other_kept hand has same =
             subst (λ (o : Option (Hand Dir Cfg)). IsSeen (record its { hand = o; requests = map g its.requests }) (as_changed f)) (sym has)
-            (seen_changed (Some hand) (Some hand) (ap (λ (r : requested.Request Dir). r ∷ map g its.requests) same) has)
+            (seen_changed (Some hand) (Some hand) (ap (λ (r : requested.WaitingRequest Dir). r ∷ map g its.requests) same) has)
 
         -- The one in hand was: it is read.
         module _ (hand : Hand Dir Cfg) (has : its.hand ≡ Some hand) (now : Hand Dir Cfg) (same : g hand.request ≡ now.request) (number : now.request.number ≡ request) (x : scan.Fed)
-            (reads : (round : Round) → life.round ≡ Some round → including.read_of c round (live_changed f) (request_of now.request) ≡ fed_of x)
+            (reads : (round : Round) → life.round ≡ Some round → including.read_of c round (live_changed f) (waiting_request_of now.request) ≡ fed_of x)
           where
             seen_now : IsSeen (record its { hand = Some now; requests = map g its.requests }) (as_changed f)
-            seen_now = seen_changed (Some hand) (Some now) (ap (λ (r : requested.Request Dir). r ∷ map g its.requests) same) has
+            seen_now = seen_changed (Some hand) (Some now) (ap (λ (r : requested.WaitingRequest Dir). r ∷ map g its.requests) same) has
 
-            reads_first : (round : Round) → life.round ≡ Some round → ReadsFirst c (live_changed f) round (request_of now.request) (map request_of (map g its.requests))
+            reads_first : (round : Round) → life.round ≡ Some round → ReadsFirst c (live_changed f) round (waiting_request_of now.request) (map waiting_request_of (map g its.requests))
             reads_first round is = record {
               round_is = is;
               includes = ap stage_of (in_hand request its hand has settled).includes;
@@ -350,13 +350,13 @@ module _ {C Dir Signer Cfg : Type 0} (check : CheckLogOf) (dealing_of : DealingO
             goes_answered : including.is_need (fed_of x) ≡ false → (o : Option Round) → life.round ≡ o → IsSome o → including.advanced c (live_changed f) ≡ goes_on c request (fed_of x) (live_changed f)
             goes_answered answered None is some = absurd (let e : false ≡ true = some in cc)
             goes_answered answered (Some round) is some =
-                goes_as c (live_changed f) round (request_of now.request) (map request_of (map g its.requests)) (reads_first round is) (fed_of x) (reads round is) answered request number
+                goes_as c (live_changed f) round (waiting_request_of now.request) (map waiting_request_of (map g its.requests)) (reads_first round is) (fed_of x) (reads round is) answered request number
 
             has_round : IsSome life.round
             has_round = some_and (λ (r : Round). IsFed check r (bounds_at n (awaited_of life)) (option_map tip_of life.tip) hand.request.blocks hand.scan) life.round (in_hand request its hand has settled).stands
 
         goes_hand : (hand : Hand Dir Cfg) (has : its.hand ≡ Some hand) (now : Hand Dir Cfg) → g hand.request ≡ now.request → now.request.number ≡ request → (x : scan.Fed)
-            → ((round : Round) → life.round ≡ Some round → including.read_of c round (live_changed f) (request_of now.request) ≡ fed_of x)
+            → ((round : Round) → life.round ≡ Some round → including.read_of c round (live_changed f) (waiting_request_of now.request) ≡ fed_of x)
             → Answers request x (with_hand request its hand has settled g now) → GoesBy c request (live_changed f) x (with_hand request its hand has settled g now)
         goes_hand hand has now same number fed.Need reads answers = goes_none (with_hand request its hand has settled g now) (seen_now hand has now same number fed.Need reads) (answers.needs refl)
         goes_hand hand has now same number (fed.Logs found) reads answers =
@@ -367,7 +367,7 @@ module _ {C Dir Signer Cfg : Type 0} (check : CheckLogOf) (dealing_of : DealingO
       -- ONE BLOCK MORE
 
       fed_reads : (b : Block Dir) (hand : Hand Dir Cfg) (has : its.hand ≡ Some hand) (round : Round) → life.round ≡ Some round
-          → including.read_of c round (live_changed (feeding request b)) (request_of (fed_hand request its hand has settled b).request) ≡ fed_of (feeds check hand.scan b).0
+          → including.read_of c round (live_changed (feeding request b)) (waiting_request_of (fed_hand request its hand has settled b).request) ≡ fed_of (feeds check hand.scan b).0
       fed_reads b hand has round is =
           let is_in = in_hand request its hand has settled in
           let at = at_some_and (λ (r : Round). IsFed check r (bounds_at n (awaited_of life)) (option_map tip_of life.tip) hand.request.blocks hand.scan) life.round round is is_in.stands in
@@ -410,7 +410,7 @@ module _ {C Dir Signer Cfg : Type 0} (check : CheckLogOf) (dealing_of : DealingO
       over_hand hand = record hand { request = record hand.request { ended = true }; scan = scans.closes hand.scan }
 
       end_reads : (hand : Hand Dir Cfg) (has : its.hand ≡ Some hand) (round : Round) → life.round ≡ Some round
-          → including.read_of c round (live_changed (ending request)) (request_of (over_hand hand).request) ≡ fed_of (fed.Unavailable Short)
+          → including.read_of c round (live_changed (ending request)) (waiting_request_of (over_hand hand).request) ≡ fed_of (fed.Unavailable Short)
       end_reads hand has round is =
           let is_in = in_hand request its hand has settled in
           let at = at_some_and (λ (r : Round). IsFed check r (bounds_at n (awaited_of life)) (option_map tip_of life.tip) hand.request.blocks hand.scan) life.round round is is_in.stands in

@@ -16,7 +16,7 @@ use Rattle.dkg_infos.specs.declared.entry.Why.{Why}
 use Rattle.dkg_infos.specs.declared.entry.Why.TheVariants.{Short, WrongHeight, Unlinked, Detached}
 use Rattle.dkg_artifact.specs.Found.{with_log}
 use Rattle.dkg_artifact.specs.Scans as scans
-use Rattle.dkg_artifact.specs.Scans.{Check, counted, feeds, first_answer, starts}
+use Rattle.dkg_artifact.specs.Scans.{Check, counted_log, feeds, first_answer, starts}
 use Rattle.dkg_artifact.specs.Seen.{Next, Scan}
 use Rattle.dkg_artifact.specs.declared.scan.Fed as declared
 use Rattle.dkg_artifact.specs.declared.scan.Fed.TheVariants as answer
@@ -63,10 +63,10 @@ module _ {Dir : Type 0} (check : Check) where
 
   module _ (s : Scan) (n : Next) (b : Block Dir) where
     abbrev its_answer : declared.Fed × Scan
-    its_answer = scans.answers check s b (scans.stand_of s n b)
+    its_answer = scans.answers_block check s b (scans.stand_of s n b)
 
     pub feeds_is : s.next ≡ Some n → feeds check s b ≡ its_answer
-    feeds_is has = ap (λ (o : Option Next). option_map_or (λ n. scans.answers check s b (scans.stand_of s n b)) o (answer.Unavailable Short, s)) has
+    feeds_is has = ap (λ (o : Option Next). option_map_or (λ n. scans.answers_block check s b (scans.stand_of s n b)) o (answer.Unavailable Short, s)) has
 
     pub at_final : scans.is_final s n b ≡ true → its_answer ≡ (answer.Need, scans.passes s b s.found)
     at_final is = rw is refl
@@ -76,24 +76,24 @@ module _ {Dir : Type 0} (check : Check) where
       at_wrong is = rw (is_final, is) refl
 
       module _ (wrong : not (b.height == n.height) ≡ false) where
-        pub at_unlinked : scans.is_other n.digest b.digest ≡ true → its_answer ≡ (answer.Unavailable (Unlinked b.height), scans.closes s)
+        pub at_unlinked : scans.names_another n.digest b.digest ≡ true → its_answer ≡ (answer.Unavailable (Unlinked b.height), scans.closes s)
         at_unlinked is = rw (is_final, wrong, is) refl
 
-        module _ (unlinked : scans.is_other n.digest b.digest ≡ false) where
+        module _ (unlinked : scans.names_another n.digest b.digest ≡ false) where
           pub at_higher : nat_lt s.down_to b.height ≡ true → its_answer ≡ (answer.Need, scans.passes s b (scans.with_lower check s b))
           at_higher is = rw (is_final, wrong, unlinked, is) refl
 
           module _ (higher : nat_lt s.down_to b.height ≡ false) where
-            pub at_detached : scans.is_other s.below (scans.link_of s.down_to b) ≡ true → its_answer ≡ (answer.Unavailable (Detached b.height), scans.closes s)
+            pub at_detached : scans.names_another s.below (scans.link_of s.down_to b) ≡ true → its_answer ≡ (answer.Unavailable (Detached b.height), scans.closes s)
             at_detached is = rw (is_final, wrong, unlinked, higher, is) refl
 
-            pub at_lowest : scans.is_other s.below (scans.link_of s.down_to b) ≡ false → its_answer ≡ (answer.Logs (scans.with_lower check s b), scans.closes s)
+            pub at_lowest : scans.names_another s.below (scans.link_of s.down_to b) ≡ false → its_answer ≡ (answer.Logs (scans.with_lower check s b), scans.closes s)
             at_lowest is = rw (is_final, wrong, unlinked, higher, is) refl
 
   -- A scan that needs more awaits a block.
   module _ (s : Scan) (b : Block Dir) where
-    answered_so : (n : Next) (final wrong unlinked higher detached : Bool) → scans.is_final s n b ≡ final → not (b.height == n.height) ≡ wrong → scans.is_other n.digest b.digest ≡ unlinked → nat_lt s.down_to b.height ≡ higher
-        → scans.is_other s.below (scans.link_of s.down_to b) ≡ detached → (P : declared.Fed × Scan → Type 0) → ((now : Scan) → IsSome now.next → P (answer.Need, now)) → ((why : Why) (now : Scan) → P (answer.Unavailable why, now))
+    answered_so : (n : Next) (final wrong unlinked higher detached : Bool) → scans.is_final s n b ≡ final → not (b.height == n.height) ≡ wrong → scans.names_another n.digest b.digest ≡ unlinked → nat_lt s.down_to b.height ≡ higher
+        → scans.names_another s.below (scans.link_of s.down_to b) ≡ detached → (P : declared.Fed × Scan → Type 0) → ((now : Scan) → IsSome now.next → P (answer.Need, now)) → ((why : Why) (now : Scan) → P (answer.Unavailable why, now))
         → ((found : LogMap) (now : Scan) → P (answer.Logs found, now)) → P (its_answer s n b)
     answered_so n true wrong unlinked higher detached f w u h d P needs lacks found = subst P (sym (at_final s n b f)) (needs (scans.passes s b s.found) refl)
     answered_so n false true unlinked higher detached f w u h d P needs lacks found = subst P (sym (at_wrong s n b f w)) (lacks (WrongHeight n.height b.height) (scans.closes s))
@@ -107,7 +107,7 @@ module _ {Dir : Type 0} (check : Check) where
     by_next None is some P needs lacks found = absurd (let e : false ≡ true = some in cc)
     by_next (Some n) is some P needs lacks found =
         subst P (sym (feeds_is s n b is))
-        (answered_so n (scans.is_final s n b) (not (b.height == n.height)) (scans.is_other n.digest b.digest) (nat_lt s.down_to b.height) (scans.is_other s.below (scans.link_of s.down_to b)) refl refl refl refl refl P needs lacks found)
+        (answered_so n (scans.is_final s n b) (not (b.height == n.height)) (scans.names_another n.digest b.digest) (nat_lt s.down_to b.height) (scans.names_another s.below (scans.link_of s.down_to b)) refl refl refl refl refl P needs lacks found)
 
     pub feeds_awaits : IsSome s.next → (feeds check s b).0 ≡ answer.Need → IsSome (feeds check s b).1.next
     feeds_awaits awaits =
@@ -157,16 +157,16 @@ module _ {Dir : Type 0} (c : Fixed Dir) (round : Round) (st : Live Dir) where
     found = found;
   }
 
-  link_is : (b : Block Dir) → scans.link_of (scans.lowest middle tip) b ≡ including.link_of c st b
+  link_is : (b : Block Dir) → scans.link_of (scans.lowest middle tip) b ≡ including.request_link_of c st b
   link_is b = ap (λ (l : ℕ). if nat_lt b.height l then b.digest else b.parent) (lowest_is st.tip)
 
   detached_by : (t : Option placed.Tip) (link : List ℕ)
-      → scans.is_other (scans.tip_below middle (option_map tip_of t)) link
+      → scans.names_another (scans.tip_below middle (option_map tip_of t)) link
       ≡ option_map_or (λ t. (t.height + 1 == scans.lowest middle (option_map tip_of (Some t))) && not (bytes_eq t.digest link)) t false
   detached_by None link = refl
   detached_by (Some t) link = by_test (t.height + 1 == scans.lowest middle (Some (tip_of t)))
     where
-      by_test : (b : Bool) → scans.is_other (if b then Some t.digest else None) link ≡ (b && not (bytes_eq t.digest link))
+      by_test : (b : Bool) → scans.names_another (if b then Some t.digest else None) link ≡ (b && not (bytes_eq t.digest link))
       by_test true = refl
       by_test false = refl
 
@@ -176,8 +176,8 @@ module _ {Dir : Type 0} (c : Fixed Dir) (round : Round) (st : Live Dir) where
   detached_at None link = refl
   detached_at (Some t) link = refl
 
-  detached_is : (b : Block Dir) → scans.is_other (scans.tip_below middle tip) (scans.link_of (scans.lowest middle tip) b) ≡ including.is_detached c st b
-  detached_is b = ap (scans.is_other (scans.tip_below middle tip)) (link_is b) ∙ detached_by st.tip (including.link_of c st b) ∙ detached_at st.tip (including.link_of c st b)
+  detached_is : (b : Block Dir) → scans.names_another (scans.tip_below middle tip) (scans.link_of (scans.lowest middle tip) b) ≡ including.is_detached c st b
+  detached_is b = ap (scans.names_another (scans.tip_below middle tip)) (link_is b) ∙ detached_by st.tip (including.request_link_of c st b) ∙ detached_at st.tip (including.request_link_of c st b)
 
   counts_by : (log : SignedDealerLog) (b : Bool) (found : LogMap) → with_log (if b then Some (log.dealer, log.log) else None) found ≡ (if b then with_pair (log.dealer, log.log) found else found)
   counts_by log true found = refl
@@ -185,30 +185,30 @@ module _ {Dir : Type 0} (c : Fixed Dir) (round : Round) (st : Live Dir) where
 
   module _ (check : Check) (checks : c.rules.check_log_of ≡ check) where
     counts_is : (o : Option SignedDealerLog) (found : LogMap)
-        → with_log (counted check round o) found ≡ option_map_or (λ log. if is_accepted c round log then with_pair (log.dealer, log.log) found else found) o found
+        → with_log (counted_log check round o) found ≡ option_map_or (λ log. if is_accepted c round log then with_pair (log.dealer, log.log) found else found) o found
     counts_is None found = refl
     counts_is (Some log) found =
         counts_by log (scans.is_counted check round log) found
         ∙ (λ i. if (has round.dealers log.dealer && sym checks i round log) then with_pair (log.dealer, log.log) found else found)
 
     lower_by : (b : Block Dir) (low : Bool) (found : LogMap)
-        → with_log (if low then None else counted check round (option_and_then its_log b.payload)) found
+        → with_log (if low then None else counted_log check round (option_and_then its_log b.payload)) found
         ≡ (if low then found else option_map_or (λ log. if is_accepted c round log then with_pair (log.dealer, log.log) found else found) (option_and_then its_log b.payload) found)
     lower_by b true found = refl
     lower_by b false found = counts_is (option_and_then its_log b.payload) found
 
-    lower_is : (above : Option (Block Dir)) (b : Block Dir) (found : LogMap) → scans.with_lower check (at_scan above found) b ≡ including.with_lower c round st b found
+    lower_is : (above : Option (Block Dir)) (b : Block Dir) (found : LogMap) → scans.with_lower check (at_scan above found) b ≡ including.with_lower_log c round st b found
     lower_is above b found =
         lower_by b (nat_lt b.height (scans.lowest middle tip)) found
         ∙ ap (λ (l : ℕ). if nat_lt b.height l then found else option_map_or (λ log. if is_accepted c round log then with_pair (log.dealer, log.log) found else found) (option_and_then its_log b.payload) found) (lowest_is st.tip)
 
     -- ONE BLOCK
 
-    unlinked_is : (above : Option (Block Dir)) (b : Block Dir) → scans.is_other (option_map (λ (b : Block Dir). b.parent) above) b.digest ≡ including.is_unlinked above b
+    unlinked_is : (above : Option (Block Dir)) (b : Block Dir) → scans.names_another (option_map (λ (b : Block Dir). b.parent) above) b.digest ≡ including.is_unlinked above b
     unlinked_is None b = refl
     unlinked_is (Some a) b = ap not (same_either a.parent b.digest)
 
-    final_is : (above : Option (Block Dir)) (b : Block Dir) → (is_none (option_map (λ (b : Block Dir). b.parent) above) && (b.height == including.final_height c st)) ≡ including.is_final c st above b
+    final_is : (above : Option (Block Dir)) (b : Block Dir) → (is_none (option_map (λ (b : Block Dir). b.parent) above) && (b.height == including.final_height c st)) ≡ including.is_final_read c st above b
     final_is None b = refl
     final_is (Some a) b = refl
 
@@ -219,9 +219,9 @@ module _ {Dir : Type 0} (c : Fixed Dir) (round : Round) (st : Live Dir) where
         if final then including.scan c round st (Some b) found bs ended
         else if wrong then Lacks (WrongHeight (including.next_height c st above) b.height)
         else if unlinked then Lacks (Unlinked b.height)
-        else if higher then including.scan c round st (Some b) (including.with_lower c round st b found) bs ended
+        else if higher then including.scan c round st (Some b) (including.with_lower_log c round st b found) bs ended
         else if detached then Lacks (Detached b.height)
-        else Found (including.with_lower c round st b found)
+        else Found (including.with_lower_log c round st b found)
 
     refused_is : (s : Scan) (why : Why) (bs : List (Block Dir)) (ended : Bool) → closed_by ended (fed_all check s (answer.Unavailable why) bs).0 ≡ Lacks why
     refused_is s why bs ended = ap (λ (p : declared.Fed × Scan). closed_by ended p.0) (fed_done check s (answer.Unavailable why) bs (λ e. cc))
@@ -241,15 +241,15 @@ module _ {Dir : Type 0} (c : Fixed Dir) (round : Round) (st : Live Dir) where
         abbrev here : declared.Fed × Scan
         here = its_answer check (at_scan above found) next b
 
-        higher_is : including.scan c round st (Some b) (including.with_lower c round st b found) bs ended ≡ ends_as (answer.Need, scans.passes (at_scan above found) b (scans.with_lower check (at_scan above found) b))
-        higher_is = below (Some b) (including.with_lower c round st b found)
+        higher_is : including.scan c round st (Some b) (including.with_lower_log c round st b found) bs ended ≡ ends_as (answer.Need, scans.passes (at_scan above found) b (scans.with_lower check (at_scan above found) b))
+        higher_is = below (Some b) (including.with_lower_log c round st b found)
             ∙ ap (λ (l : LogMap). closed_by ended (fed_all check (at_scan (Some b) l) answer.Need bs).0) (sym (lower_is above b found))
 
-        lowest_found : Found (including.with_lower c round st b found) ≡ ends_as (answer.Logs (scans.with_lower check (at_scan above found) b), scans.closes (at_scan above found))
+        lowest_found : Found (including.with_lower_log c round st b found) ≡ ends_as (answer.Logs (scans.with_lower check (at_scan above found) b), scans.closes (at_scan above found))
         lowest_found = ap Found (sym (lower_is above b found)) ∙ sym (found_is (scans.closes (at_scan above found)) (scans.with_lower check (at_scan above found) b) bs ended)
 
-        by_tests : (final wrong unlinked higher detached : Bool) → including.is_final c st above b ≡ final → not (b.height == including.next_height c st above) ≡ wrong → including.is_unlinked above b ≡ unlinked
-            → nat_lt (including.lowest c st) b.height ≡ higher → including.is_detached c st b ≡ detached → rest_by final wrong unlinked higher detached above found b bs ended ≡ ends_as here
+        by_tests : (final wrong unlinked higher detached : Bool) → including.is_final_read c st above b ≡ final → not (b.height == including.next_height c st above) ≡ wrong → including.is_unlinked above b ≡ unlinked
+            → nat_lt (including.lowest_needed c st) b.height ≡ higher → including.is_detached c st b ≡ detached → rest_by final wrong unlinked higher detached above found b bs ended ≡ ends_as here
         by_tests true wrong unlinked higher detached f w u h d =
             below (Some b) found ∙ ap (λ (p : declared.Fed × Scan). ends_as p) (sym (at_final check (at_scan above found) next b (final_is above b ∙ f)))
         by_tests false true unlinked higher detached f w u h d =
@@ -275,8 +275,8 @@ module _ {Dir : Type 0} (c : Fixed Dir) (round : Round) (st : Live Dir) where
         → including.scan c round st above found bs ended ≡ closed_by ended (fed_all check (at_scan above found) answer.Need bs).0
     scan_is ended above found [] = refl
     scan_is ended above found (b ∷ bs) =
-        by_tests ended above found b bs (λ a l. scan_is ended a l bs) (including.is_final c st above b) (not (b.height == including.next_height c st above)) (including.is_unlinked above b)
-        (nat_lt (including.lowest c st) b.height) (including.is_detached c st b) refl refl refl refl refl
+        by_tests ended above found b bs (λ a l. scan_is ended a l bs) (including.is_final_read c st above b) (not (b.height == including.next_height c st above)) (including.is_unlinked above b)
+        (nat_lt (including.lowest_needed c st) b.height) (including.is_detached c st b) refl refl refl refl refl
 
     -- A REQUEST, from the start of its ancestry
 

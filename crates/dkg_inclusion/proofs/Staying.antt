@@ -138,15 +138,15 @@ unless_none {A} {P} o none some = absurd (let e : false ≡ true = subst (λ (q 
 module _ {C Dir Signer Cfg : Type 0} (check_log_of : CheckLogOf) (dealing_of : DealingOf) (finish_of : FinishOf) (n : ℕ) (life : Life Dir) (its : Inclusion C Dir Signer Cfg) (includes : life.stage ≡ stage.Including)
     (ready : IsReadyInclusion check_log_of dealing_of finish_of n life its)
   where
-    not_idle : (requests : List (requested.Request Dir)) → life.stage ≡ stage.Following → requests ≡ []
+    not_idle : (requests : List (requested.WaitingRequest Dir)) → life.stage ≡ stage.Following → requests ≡ []
     not_idle requests follows = absurd (let e : stage.Including ≡ stage.Following = sym includes ∙ follows in cc)
 
     -- other requests wait
-    pub ready_requests : (requests : List (requested.Request Dir)) → IsReadyInclusion check_log_of dealing_of finish_of n life (record its { requests = requests })
+    pub ready_requests : (requests : List (requested.WaitingRequest Dir)) → IsReadyInclusion check_log_of dealing_of finish_of n life (record its { requests = requests })
     ready_requests requests = record { hand = ready.hand; free = ready.free; runs = ready.runs; idle = not_idle requests; current = ready.current; unserved = ready.unserved }
 
     -- .. and one is in hand
-    pub ready_held : (hand : Hand Dir Cfg) (requests : List (requested.Request Dir)) → its.verification.running ≡ None → hand.request.ended ≡ false
+    pub ready_held : (hand : Hand Dir Cfg) (requests : List (requested.WaitingRequest Dir)) → its.verification.running ≡ None → hand.request.ended ≡ false
         → (round : Round) → life.round ≡ Some round → IsFed check_log_of round (bounds_at n (awaited_of life)) (option_map tip_of life.tip) hand.request.blocks hand.scan
         → IsReadyInclusion check_log_of dealing_of finish_of n life (record its { hand = Some hand; requests = requests })
     ready_held hand requests free on round has fed = record {

@@ -21,7 +21,7 @@ ghost use Rattle.dkg_life.specs.Steps.{AreBoundsAt};
 ghost use Rattle.dkg_life.specs.declared.life.Stage.TheVariants.{Including};
 ghost use Rattle.dkg_verifying.specs.Including.{fed_of, behind_first, on_fed, reads_next};
 ghost use Rattle.dkg_verifying.specs.Scanned.{IsFed, fed_all};
-ghost use Rattle.dkg_verifying.specs.InclusionOf.{IsReadyInclusion, IsSeen, IsSettledInclusion, request_of, tip_of};
+ghost use Rattle.dkg_verifying.specs.InclusionOf.{IsReadyInclusion, IsSeen, IsSettledInclusion, waiting_request_of, tip_of};
 ghost use Rattle.dkg_verifying.specs.Looks.{OnlyLooks};
 
 use dkg_artifact as artifact;
@@ -109,7 +109,7 @@ fn read<C: Ceremony, Dir: Directory + Drop>(
     requires placed { IsPlaced (non_zero_u64_get terms.now.blocks_per_epoch) life.now }
     ensures read { IfOk result (λ it. (c : Fixed Dir) (beside : Beside Dir) (fence : Readiness) → c.blocks_per_epoch
         ≡ non_zero_u64_get terms.now.blocks_per_epoch
-        → c.rules.check_log_of ≡ C.check_log_of → including.read_of c round.now (live_of beside fence life.now) (request_of request.now) ≡ fed_of it.1) }
+        → c.rules.check_log_of ≡ C.check_log_of → including.read_of c round.now (live_of beside fence life.now) (waiting_request_of request.now) ≡ fed_of it.1) }
     // While it needs more, its ancestry goes on, and the scan stands behind what it was fed.
     ensures stands { IfOk result (λ it. it.1 ≡ Fed.Need → (request.now.ended ≡ false) × IsFed C.check_log_of round.now
         (bounds_at (non_zero_u64_get terms.now.blocks_per_epoch) (awaited_of life.now)) (option_map tip_of life.now.tip) request.now.blocks it.0) }
@@ -186,14 +186,14 @@ fn ask_for<
         → IsRuledBy C.round_of C.deal_of C.dealing_of C.ack_of C.check_ack_of C.sign_log_of C.bears_ack_of C.share_public_of C.partial_public_of c.rules
         → IncludesBy C.check_log_of C.outcome_of C.finish_of (P.participants_of provider.old) (P.directory_of provider.old) Dir.spelling Dir.matches_of c
         → life.old.round ≡ Some round → IsSeen inclusion.old beside.inclusion → EndsWith beside (λ i. OnOk result (IsSeen inclusion.new i)) (λ more. more ≡ [])
-        (λ now. Makes D.files D.image X.held (including.asks_for c round request logs (live_of beside fence life.old)) (ends_in
+        (λ now. Makes D.files D.image X.held (including.asks_logs c round request logs (live_of beside fence life.old)) (ends_in
         (live_of now fence life.new) result)
         devices.old devices.new out.old.entries out.new.entries) }
     ensures tells { IsTrue P.tells → (c : Fixed Dir) (round : Round) (beside : Beside Dir) (fence : Readiness) → IsOf terms.now c → ReadsPlanless c
         → IsRuledBy C.round_of C.deal_of C.dealing_of C.ack_of C.check_ack_of C.sign_log_of C.bears_ack_of C.share_public_of C.partial_public_of c.rules
         → IncludesBy C.check_log_of C.outcome_of C.finish_of (P.participants_of provider.old) (P.directory_of provider.old) Dir.spelling Dir.matches_of c
         → life.old.round ≡ Some round → IsSeen inclusion.old beside.inclusion → EndsWith beside (λ i. OnOk result (IsSeen inclusion.new i)) (λ more. more ≡ [])
-        (λ now. Tells (including.asks_for c round request logs (live_of beside fence life.old)) (ends_in
+        (λ now. Tells (including.asks_logs c round request logs (live_of beside fence life.old)) (ends_in
         (live_of now fence life.new) result) out.old.entries out.new.entries) }
     ensures moved { Moved D.tells D.made X.made D.faults X.faults devices.old devices.new }
     ensures causes { StopsOver D.faults X.faults devices.old devices.new result }

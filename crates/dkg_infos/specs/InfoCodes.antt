@@ -37,12 +37,12 @@ abbrev pub directory_of : {Dir : Type 0} → EpochInfo Dir → Dir
 directory_of i = i.directory
 
 -- the output of an info
-unfoldable pub held_at : (most version : ℕ) → List ℕ → Reading Output
-held_at = output_at
+unfoldable pub info_output_at : (most version : ℕ) → List ℕ → Reading Output
+info_output_at = output_at
 
 -- all of an info but the directory
 unfoldable pub parts_at : (most version : ℕ) → List ℕ → Reading InfoParts
-parts_at most version = beside_at outcome_at (beside_at (uint_at (2 ^ 64 - 1)) (beside_at (held_at most version) (beside_at (set_at most) (set_at most))))
+parts_at most version = beside_at outcome_at (beside_at (uint_at (2 ^ 64 - 1)) (beside_at (info_output_at most version) (beside_at (set_at most) (set_at most))))
 
 abbrev pub parts_spelling : InfoParts → List ℕ
 parts_spelling = both_spelled outcome_spelling (both_spelled uint (both_spelled output_bytes (both_spelled set_spelling set_spelling)))
@@ -74,8 +74,8 @@ respelled fits spelling new_spelling read law same = record {
   again = λ v rest fit. ap (λ (x : List ℕ). read (x ++ rest)) (sym (same v)) ∙ law.again v rest fit;
 }
 
-held_grammar : (most version : ℕ) → IsGrammar (OutputFits most version) output_bytes (held_at most version)
-unfolding held_at
+held_grammar : (most version : ℕ) → IsGrammar (OutputFits most version) output_bytes (info_output_at most version)
+unfolding info_output_at
 held_grammar = output_grammar
 
 parts_grammar : (most version : ℕ) → IsGrammar (PartsFit most version) parts_spelling (parts_at most version)
@@ -84,10 +84,10 @@ parts_grammar most version =
     let set = SetFits most in
     let keys = set_at most in
     let two = beside_grammar set set_spelling keys set set_spelling keys (set_grammar most) (set_grammar most) in
-    let three = beside_grammar (OutputFits most version) output_bytes (held_at most version) (BothFit set set) (both_spelled set_spelling set_spelling) (beside_at keys keys) (held_grammar most version) two in
-    let four = beside_grammar (λ n. n < 2 ^ 64) uint (uint_at (2 ^ 64 - 1)) (BothFit (OutputFits most version) (BothFit set set)) (both_spelled output_bytes (both_spelled set_spelling set_spelling)) (beside_at (held_at most version) (beside_at keys keys)) u64_grammar three in
+    let three = beside_grammar (OutputFits most version) output_bytes (info_output_at most version) (BothFit set set) (both_spelled set_spelling set_spelling) (beside_at keys keys) (held_grammar most version) two in
+    let four = beside_grammar (λ n. n < 2 ^ 64) uint (uint_at (2 ^ 64 - 1)) (BothFit (OutputFits most version) (BothFit set set)) (both_spelled output_bytes (both_spelled set_spelling set_spelling)) (beside_at (info_output_at most version) (beside_at keys keys)) u64_grammar three in
     beside_grammar (Always {A = EpochOutcome}) outcome_spelling outcome_at (BothFit (λ n. n < 2 ^ 64) (BothFit (OutputFits most version) (BothFit set set))) (both_spelled uint (both_spelled output_bytes (both_spelled set_spelling set_spelling)))
-    (beside_at (uint_at (2 ^ 64 - 1)) (beside_at (held_at most version) (beside_at keys keys))) outcome_grammar four
+    (beside_at (uint_at (2 ^ 64 - 1)) (beside_at (info_output_at most version) (beside_at keys keys))) outcome_grammar four
 
 regrouped : (a b c d e f : List ℕ) → (a ++ (b ++ (c ++ (d ++ e)))) ++ f ≡ ((((a ++ b) ++ c) ++ d) ++ e) ++ f
 regrouped a b c d e f = simp append_assoc

@@ -9,13 +9,13 @@ use Rattle.dkg_infos.specs.declared.participants.Participants.{Participants}
 abbrev pub participants_spelling : Participants → List ℕ
 participants_spelling p = set_spelling p.dealers ++ set_spelling p.players ++ set_spelling p.next_players
 
-abbrev pub Parts : Type 0
-Parts = List ℕ × (List ℕ × List ℕ)
+abbrev pub ParticipantsParts : Type 0
+ParticipantsParts = List ℕ × (List ℕ × List ℕ)
 
-abbrev pub participants_from : Parts → Participants
+abbrev pub participants_from : ParticipantsParts → Participants
 participants_from p = record { dealers = p.0; players = p.1.0; next_players = p.1.1 }
 
-abbrev pub participants_parts : Participants → Parts
+abbrev pub participants_parts : Participants → ParticipantsParts
 participants_parts p = (p.dealers, (p.players, p.next_players))
 
 abbrev pub participants_at : ℕ → List ℕ → Reading Participants

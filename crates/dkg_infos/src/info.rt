@@ -5,7 +5,7 @@ ghost use Rattle.dkg_values.specs.Rising.{set_of};
 ghost use Rattle.dkg_values.specs.Codec.{Reads, StandsInFront};
 ghost use Rattle.dkg_infos.specs.InfoBounds.{IsBound};
 ghost use Rattle.dkg_infos.specs.InfoLimits.{InfoWithin};
-ghost use Rattle.dkg_infos.specs.InfoCodes.{InfoFits, held_at, info_spelling, parts_at, parts_text, peers_of as peers_from};
+ghost use Rattle.dkg_infos.specs.InfoCodes.{InfoFits, info_output_at, info_spelling, parts_at, parts_text, peers_of as peers_from};
 
 use crate::directory::Directory;
 use crate::outcome::EpochOutcome;
@@ -108,13 +108,13 @@ fn put_parts<Dir>(info: &EpochInfo<Dir>, out: &mut BytesMut) -> Mem<()>
     Ok(())
 }
 
-#[tactic(auto, unfolding(crate::specs::InfoCodes::held_at))]
+#[tactic(auto, unfolding(crate::specs::InfoCodes::info_output_at))]
 fn read_output(
     alloc: Global,
     input: &mut Reader<'_>,
     limits: &(u32, ModeVersion),
 ) -> Result<Output, CodecError>
-    ensures { Reads (held_at limits.now.0 limits.now.1.0 input.old) result input.new }
+    ensures { Reads (info_output_at limits.now.0 limits.now.1.0 input.old) result input.new }
 {
     Output::read_cfg(alloc, input, limits)
 }

@@ -3,7 +3,7 @@ use Rattle.std.proofs.Common.{◌≡◌, ◌⊎◌, inl, inr, ⊎_elim, ℕ, zer
 use Rattle.std.proofs.lemmas.List.{take_more, drop_more}
 use Rattle.std.specs.FinMap.{get, insert, remove}
 use Rattle.dkg_journal.specs.Names.{Files}
-use Rattle.dkg_journal.specs.Disk.{Allowed, Did, Follows, Inside, IsUnchanged, Lands, after}
+use Rattle.dkg_journal.specs.Disk.{Allowed, Did, Follows, Inside, IsUnchanged, Lands, files_after}
 use Rattle.dkg_journal.specs.Wholes.{Amid, AreOfWhole, Becomes, IsOfWhole, after_all}
 use Rattle.dkg_journal.specs.declared.disk.Op.{Op}
 use Rattle.dkg_journal.specs.declared.disk.Op.TheVariants.{WriteAt, Sync, Barrier, Install, Remove}
@@ -11,13 +11,13 @@ use Rattle.dkg_journal.proofs.Steps.{get_here, weaken, compose}
 use Rattle.dkg_journal.proofs.AtOnce.{get_other, get_gone, gone_here}
 use Rattle.dkg_journal.proofs.SameFiles.{same_files}
 
-pub after_push : (ops : List Op) (op : Op) (f : Files) → after_all (ops ++ op ∷ []) f ≡ after op (after_all ops f)
+pub after_push : (ops : List Op) (op : Op) (f : Files) → after_all (ops ++ op ∷ []) f ≡ files_after op (after_all ops f)
 after_push [] op f = refl
-after_push (x ∷ ops) op f = after_push ops op (after x f)
+after_push (x ∷ ops) op f = after_push ops op (files_after x f)
 
 pub after_both : (xs ys : List Op) (f : Files) → after_all (xs ++ ys) f ≡ after_all ys (after_all xs f)
 after_both [] ys f = refl
-after_both (x ∷ xs) ys f = after_both xs ys (after x f)
+after_both (x ∷ xs) ys f = after_both xs ys (files_after x f)
 
 pub amid_none : (ops : List Op) (f : Files) → Amid ops f f
 amid_none [] f = refl
@@ -26,19 +26,19 @@ amid_none (op ∷ ops) f = inl refl
 -- after the first calls
 pub amid_front : (xs ys : List Op) (f c : Files) → c ≡ after_all xs f → Amid (xs ++ ys) f c
 amid_front [] ys f c is = subst (λ (d : Files). Amid ys f d) (sym is) (amid_none ys f)
-amid_front (x ∷ xs) ys f c is = inr (amid_front xs ys (after x f) c is)
+amid_front (x ∷ xs) ys f c is = inr (amid_front xs ys (files_after x f) c is)
 
 pub amid_all : (ops : List Op) (f c : Files) → c ≡ after_all ops f → Amid ops f c
 amid_all [] f c is = is
-amid_all (op ∷ ops) f c is = inr (amid_all ops (after op f) c is)
+amid_all (op ∷ ops) f c is = inr (amid_all ops (files_after op f) c is)
 
 -- .. and of the others behind them
 pub amid_split : (xs ys : List Op) (f c : Files) → Amid (xs ++ ys) f c → Amid xs f c ⊎ Amid ys (after_all xs f) c
 amid_split [] ys f c amid = inr amid
-amid_split (x ∷ xs) ys f c amid = ⊎_elim (λ (is : c ≡ f). inl (inl is)) (λ later. ⊎_elim (λ front. inl (inr front)) (λ back. inr back) (amid_split xs ys (after x f) c later)) amid
+amid_split (x ∷ xs) ys f c amid = ⊎_elim (λ (is : c ≡ f). inl (inl is)) (λ later. ⊎_elim (λ front. inl (inr front)) (λ back. inr back) (amid_split xs ys (files_after x f) c later)) amid
 
 -- what a crash inside a call of a whole file leaves: before or after
-pub before_or_after : (op : Op) (f c : Files) → IsOfWhole op → Inside op f c → (c ≡ f) ⊎ (c ≡ after op f)
+pub before_or_after : (op : Op) (f c : Files) → IsOfWhole op → Inside op f c → (c ≡ f) ⊎ (c ≡ files_after op f)
 before_or_after (Install name bytes) f c whole inside = ⊎_elim
     (λ (same : get c name ≡ get f name). inl (same_files name f c inside.0 same))
     (λ (new : get c name ≡ Some bytes). inr (same_files name (insert f name bytes) c (λ q ne. inside.0 q ne ∙ sym (get_other f name bytes q ne)) (new ∙ sym (get_here f name bytes))))
@@ -52,7 +52,7 @@ before_or_after (Sync name) f c whole inside = absurd whole
 before_or_after Barrier f c whole inside = absurd whole
 
 -- .. and once it has returned Ok: after
-pub surely_after : (op : Op) (old new f c : Files) (next : Files → Type 0) → IsOfWhole op → Inside op f c → Did op old new next → next c → c ≡ after op f
+pub surely_after : (op : Op) (old new f c : Files) (next : Files → Type 0) → IsOfWhole op → Inside op f c → Did op old new next → next c → c ≡ files_after op f
 surely_after (Install name bytes) old new f c next whole inside did now = same_files name (insert f name bytes) c (λ q ne. inside.0 q ne ∙ sym (get_other f name bytes q ne)) (did.durable c now ∙ sym (get_here f name bytes))
 surely_after (Remove name) old new f c next whole inside did now = same_files name (remove f name) c (λ q ne. inside.0 q ne ∙ sym (get_gone f name q ne)) (did.durable c now ∙ sym (gone_here f name))
 surely_after (WriteAt name place bytes) old new f c next whole inside did now = absurd whole
@@ -91,7 +91,7 @@ module _ (ops : List Op) (op : Op) (image mid next : Files → Type 0) (whole : 
   pub follows_amid : (rest : List Op) → Follows (Amid (ops ++ op ∷ rest)) image next
   follows_amid rest = compose (Becomes ops) (Inside op) (Amid (ops ++ op ∷ rest)) image mid next (λ x y z is inside. ⊎_elim
       (λ (same : z ≡ y). amid_front ops (op ∷ rest) x z (same ∙ is))
-      (λ (new : z ≡ after op y). subst (λ (l : List Op). Amid l x z) (split rest) (amid_front (ops ++ op ∷ []) rest x z (new ∙ ap (after op) is ∙ sym (after_push ops op x))))
+      (λ (new : z ≡ files_after op y). subst (λ (l : List Op). Amid l x z) (split rest) (amid_front (ops ++ op ∷ []) rest x z (new ∙ ap (files_after op) is ∙ sym (after_push ops op x))))
       (before_or_after op y z whole inside)) done step
     where
       split : (rest : List Op) → (ops ++ op ∷ []) ++ rest ≡ ops ++ op ∷ rest
@@ -102,7 +102,7 @@ module _ (ops : List Op) (op : Op) (image mid next : Files → Type 0) (whole : 
     each = λ c now.
         let y = step.each c now in
         let x = done.each y.0 y.1 in
-        (x.0, x.1, surely_after op old new y.0 c next whole y.2 did now ∙ ap (after op) x.2 ∙ sym (after_push ops op x.0));
+        (x.0, x.1, surely_after op old new y.0 c next whole y.2 did now ∙ ap (files_after op) x.2 ∙ sym (after_push ops op x.0));
   }
 
 pub becomes_none : (image : Files → Type 0) → Follows (Becomes []) image image

@@ -8,9 +8,9 @@ use Rattle.std.specs.Ordering.{eq_by_cmp, nat_cmp}
 use Rattle.std.proofs.lemmas.Bool.Decides.{nat_tests}
 use Rattle.dkg_journal.specs.Names.{Files, name_number}
 use Rattle.dkg_journal.specs.Disk.{Torn, written, SameElse, HasFile, Inside, Follows, Did}
-use Rattle.dkg_journal.specs.Places.{Places, joined, place_at}
-use Rattle.dkg_journal.specs.Records.{SectionEntry, entries, placed, IsShut, IsBody, Staged, spelled, behind}
-use Rattle.dkg_journal.specs.Steps.{Firm, IsNext, IsOpenAt, IsSegmentAt, SegmentAt, Into, KeepsBut, Adds, MayAdd, Grows, start}
+use Rattle.dkg_journal.specs.Places.{Places, flat_place, place_at}
+use Rattle.dkg_journal.specs.Records.{SectionEntry, entries, placed, IsShut, IsBody, Staged, spelled, behind_gate}
+use Rattle.dkg_journal.specs.Steps.{Firm, IsNextAppend, IsOpenAt, IsSegmentAt, SegmentAt, Into, KeepsBut, AddsEntry, MayAdd, Grows, place_or_start}
 use Rattle.dkg_values.specs.declared.name.Name.{Name}
 use Rattle.dkg_values.specs.declared.name.Name.TheVariants.{Plan, Flat, Segment}
 use Rattle.dkg_journal.specs.declared.disk.Op.TheVariants.{Install}
@@ -89,7 +89,7 @@ may_add_gate section bs body y place files image next staged firm parted step = 
           (torn_gate 0 bs body place y into.1.bytes staged into.1.so);
     }) step
 
-pub adds_gate : (section : ℕ) (bs : List (List ℕ)) (body y : List ℕ) (place : ℕ) (files last : Files) (image next : Files → Type 0) → Staged 0 bs body place y → Firm (Segment section) y files image → IsParted image → Firm (Segment section) (written place (1 ∷ []) y) last next → Follows (Into (Segment section) (Torn place 1 y)) image next → Follows (Adds (section, body)) image next
+pub adds_gate : (section : ℕ) (bs : List (List ℕ)) (body y : List ℕ) (place : ℕ) (files last : Files) (image next : Files → Type 0) → Staged 0 bs body place y → Firm (Segment section) y files image → IsParted image → Firm (Segment section) (written place (1 ∷ []) y) last next → Follows (Into (Segment section) (Torn place 1 y)) image next → Follows (AddsEntry (section, body)) image next
 adds_gate section bs body y place files last image next staged firm parted firm_last step = record {
   each = λ c now.
       let from = step.each c now in
@@ -121,8 +121,8 @@ then_may_add e a b c = compose (KeepsBut (Segment e.0)) (MayAdd e) (MayAdd e) a 
   either = ⊎_elim (λ s. inl (s ∙ p.same)) (λ s. inr (s ∙ ap (λ (l : List SectionEntry). placed l e) p.same)) q.either;
 })
 
-pub then_adds : (e : SectionEntry) (a b c : Files → Type 0) → Follows (KeepsBut (Segment e.0)) a b → Follows (Adds e) b c → Follows (Adds e) a c
-then_adds e a b c = compose (KeepsBut (Segment e.0)) (Adds e) (Adds e) a b c (λ x y z p q. record {
+pub then_adds : (e : SectionEntry) (a b c : Files → Type 0) → Follows (KeepsBut (Segment e.0)) a b → Follows (AddsEntry e) b c → Follows (AddsEntry e) a c
+then_adds e a b c = compose (KeepsBut (Segment e.0)) (AddsEntry e) (AddsEntry e) a b c (λ x y z p q. record {
   others = λ name ne. q.others name ne ∙ p.others name ne;
   added = q.added ∙ ap (λ (l : List SectionEntry). placed l e) p.same;
 })
@@ -143,7 +143,7 @@ made_segment section files last next did = record {
 }
 
 -- a section that has no file
-pub made_keeps : (section : ℕ) (files : Files) (image next : Files → Type 0) → IsNext section None files image → Follows (Inside (Install (Segment section) (0 ∷ []))) image next → Follows (KeepsBut (Segment section)) image next
+pub made_keeps : (section : ℕ) (files : Files) (image next : Files → Type 0) → IsNextAppend section None files image → Follows (Inside (Install (Segment section) (0 ∷ []))) image next → Follows (KeepsBut (Segment section)) image next
 made_keeps section files image next at step = weaken _ _ image next (λ d c now into. record {
   others = into.0;
   same = ⊎_elim
@@ -153,7 +153,7 @@ made_keeps section files image next at step = weaken _ _ image next (λ d c now 
 }) step
 
 -- .. and one that has one
-pub next_segment : (section place : ℕ) (files : Files) (image : Files → Type 0) → IsNext section (Some place) files image → SegmentAt section place files image
+pub next_segment : (section place : ℕ) (files : Files) (image : Files → Type 0) → IsNextAppend section (Some place) files image → SegmentAt section place files image
 next_segment section place files image at = record {
   bs = at.at.0;
   bytes = at.at.1;
@@ -161,7 +161,7 @@ next_segment section place files image at = record {
   shut = at.at.3;
 }
 
-pub open_next : (section : ℕ) (places : Places) (files : Files) (image : Files → Type 0) → IsOpenAt places files image → IsNext section (place_at places section) files image
+pub open_next : (section : ℕ) (places : Places) (files : Files) (image : Files → Type 0) → IsOpenAt places files image → IsNextAppend section (place_at places section) files image
 open_next section places files image at = record {
   no_flat = λ c now. at.only c now Flat (λ e. absurd (omega (arith, ap name_number e))) ∙ at.no_flat;
   at = at.each section;
@@ -172,28 +172,28 @@ module _ (place section : ℕ) (body : List ℕ) (short : length body < 2 ^ 32) 
   short_body : IsBody 0 body
   short_body = (omega arith, short)
 
-  pub is_staged : (bs : List (List ℕ)) (x : List ℕ) → IsShut 0 bs place x → Staged 0 bs body place (written (place + 1) (behind body) x)
+  pub is_staged : (bs : List (List ℕ)) (x : List ℕ) → IsShut 0 bs place x → Staged 0 bs body place (written (place + 1) (behind_gate body) x)
   is_staged bs x shut = written_behind 0 bs body place x shut short_body
 
   module _ (files1 files2 : Files) (image0 image1 image2 image3 : Files → Type 0) (at : SegmentAt section place files1 image1) (parted : IsParted image0) where
-    pub gate_images : Follows (KeepsBut (Segment section)) image0 image1 → Follows (Into (Segment section) (Torn (place + 1) (length (behind body)) at.bytes)) image1 image2 → Firm (Segment section) (written (place + 1) (behind body) at.bytes) files2 image2
-        → Follows (Into (Segment section) (Torn place 1 (written (place + 1) (behind body) at.bytes))) image2 image3 → Follows (MayAdd (section, body)) image0 image3
+    pub gate_images : Follows (KeepsBut (Segment section)) image0 image1 → Follows (Into (Segment section) (Torn (place + 1) (length (behind_gate body)) at.bytes)) image1 image2 → Firm (Segment section) (written (place + 1) (behind_gate body) at.bytes) files2 image2
+        → Follows (Into (Segment section) (Torn place 1 (written (place + 1) (behind_gate body) at.bytes))) image2 image3 → Follows (MayAdd (section, body)) image0 image3
     gate_images kept torn firm opened =
         let parted1 = keeps_parted section image0 image1 parted kept in
         let keeps = keeps_keeps _ _ _ _ kept (keeps_behind section place _ files1 image1 image2 at parted1 torn) in
         then_may_add (section, body) _ _ _ keeps (may_add_gate section at.bs body _ place files2 image2 image3 (is_staged at.bs at.bytes at.shut) firm (into_parted section _ image1 image2 parted1 torn) opened)
 
-    pub gate_adds : (last : Files) → Follows (KeepsBut (Segment section)) image0 image1 → Follows (Into (Segment section) (Torn (place + 1) (length (behind body)) at.bytes)) image1 image2 → Firm (Segment section) (written (place + 1) (behind body) at.bytes) files2 image2
-        → Firm (Segment section) (written place (1 ∷ []) (written (place + 1) (behind body) at.bytes)) last image3 → Follows (Into (Segment section) (Torn place 1 (written (place + 1) (behind body) at.bytes))) image2 image3 → Follows (Adds (section, body)) image0 image3
+    pub gate_adds : (last : Files) → Follows (KeepsBut (Segment section)) image0 image1 → Follows (Into (Segment section) (Torn (place + 1) (length (behind_gate body)) at.bytes)) image1 image2 → Firm (Segment section) (written (place + 1) (behind_gate body) at.bytes) files2 image2
+        → Firm (Segment section) (written place (1 ∷ []) (written (place + 1) (behind_gate body) at.bytes)) last image3 → Follows (Into (Segment section) (Torn place 1 (written (place + 1) (behind_gate body) at.bytes))) image2 image3 → Follows (AddsEntry (section, body)) image0 image3
     gate_adds last kept torn firm done opened =
         let parted1 = keeps_parted section image0 image1 parted kept in
         let keeps = keeps_keeps _ _ _ _ kept (keeps_behind section place _ files1 image1 image2 at parted1 torn) in
         then_adds (section, body) _ _ _ keeps (adds_gate section at.bs body _ place files2 last image2 image3 (is_staged at.bs at.bytes at.shut) firm (into_parted section _ image1 image2 parted1 torn) done opened)
 
-  pub gate_open : (files1 last : Files) (image1 image3 : Files → Type 0) (at : SegmentAt section place files1 image1) → Firm (Segment section) (written place (1 ∷ []) (written (place + 1) (behind body) at.bytes)) last image3 → SegmentAt section (place + 5 + length body) last image3
+  pub gate_open : (files1 last : Files) (image1 image3 : Files → Type 0) (at : SegmentAt section place files1 image1) → Firm (Segment section) (written place (1 ∷ []) (written (place + 1) (behind_gate body) at.bytes)) last image3 → SegmentAt section (place + 5 + length body) last image3
   gate_open files1 last image1 image3 at done = record {
     bs = at.bs ++ body ∷ [];
-    bytes = written place (1 ∷ []) (written (place + 1) (behind body) at.bytes);
+    bytes = written place (1 ∷ []) (written (place + 1) (behind_gate body) at.bytes);
     firm = done;
     shut = written_gate 0 at.bs body place _ (is_staged at.bs at.bytes at.shut);
   }
@@ -206,12 +206,12 @@ open_same places places' files image same at = record {
   only = at.only;
 }
 
-pub start_is : (o : Option ℕ) (n : ℕ) → n ≡ unwrap_or o 0 → n ≡ start o
+pub start_is : (o : Option ℕ) (n : ℕ) → n ≡ unwrap_or o 0 → n ≡ place_or_start o
 start_is None n is = is
 start_is (Some p) n is = is
 
 -- one file has grown
-pub opened_more : (places places' : Places) (section end n : ℕ) (body : List ℕ) (old new : Files) (image next : Files → Type 0) → IsOpenAt places old image → SegmentAt section end new next → Follows (Adds (section, body)) image next → next new → n ≡ end → places' ≡ insert places section (Some n) → IsOpenAt places' new next
+pub opened_more : (places places' : Places) (section end n : ℕ) (body : List ℕ) (old new : Files) (image next : Files → Type 0) → IsOpenAt places old image → SegmentAt section end new next → Follows (AddsEntry (section, body)) image next → next new → n ≡ end → places' ≡ insert places section (Some n) → IsOpenAt places' new next
 opened_more places places' section end n body old new image next at segment step now count put =
     let back = step.each new now in
     let others : SameElse (Segment section) back.0 new = back.2.others in
@@ -219,10 +219,10 @@ opened_more places places' section end n body old new image next at segment step
     record {
       no_flat = rest Flat flat_plan (flat_apart section) ∙ at.no_flat;
       each = λ s.
-          let there : place_at places' s ≡ joined (cond (eq_by_cmp nat_cmp s section) (Some (Some end)) (get places s)) = ap (λ (m : Places). joined (get m s)) put ∙ ap joined (get-insert nat_cmp_total places section (Some n) s) ∙ ap (λ (k : ℕ). joined (cond (eq_by_cmp nat_cmp s section) (Some (Some k)) (get places s))) count in
+          let there : place_at places' s ≡ flat_place (cond (eq_by_cmp nat_cmp s section) (Some (Some end)) (get places s)) = ap (λ (m : Places). flat_place (get m s)) put ∙ ap flat_place (get-insert nat_cmp_total places section (Some n) s) ∙ ap (λ (k : ℕ). flat_place (cond (eq_by_cmp nat_cmp s section) (Some (Some k)) (get places s))) count in
           subst (λ (o : Option ℕ). IsSegmentAt o (get new (Segment s))) (sym there) (elim (cases_eq s section) [
-            | inl is ↦ subst (λ (b : Bool). IsSegmentAt (joined (cond b (Some (Some end)) (get places s))) (get new (Segment s))) (sym (same_number s section is)) (segment.bs, segment.bytes, ap (λ (k : ℕ). get new (Segment k)) is ∙ segment.firm.there, segment.shut)
-            | inr ne ↦ subst (λ (b : Bool). IsSegmentAt (joined (cond b (Some (Some end)) (get places s))) (get new (Segment s))) (sym (other_number s section ne)) (subst (λ (o : Option (List ℕ)). IsSegmentAt (place_at places s) o) (sym (rest (Segment s) (segment_plan s) (segments_apart s section ne))) (at.each s))
+            | inl is ↦ subst (λ (b : Bool). IsSegmentAt (flat_place (cond b (Some (Some end)) (get places s))) (get new (Segment s))) (sym (same_number s section is)) (segment.bs, segment.bytes, ap (λ (k : ℕ). get new (Segment k)) is ∙ segment.firm.there, segment.shut)
+            | inr ne ↦ subst (λ (b : Bool). IsSegmentAt (flat_place (cond b (Some (Some end)) (get places s))) (get new (Segment s))) (sym (other_number s section ne)) (subst (λ (o : Option (List ℕ)). IsSegmentAt (place_at places s) o) (sym (rest (Segment s) (segment_plan s) (segments_apart s section ne))) (at.each s))
           ]);
       only = λ c here q no_plan.
           let from = step.each c here in
@@ -239,8 +239,8 @@ opened_more places places' section end n body old new image next at segment step
     other_number a b ne = grind (arith, nat_tests)
 
 -- an append that came to its end, and one that did not
-pub grows_ok : {T E : Type 0} (e : SectionEntry) (x : T) (a b : Files → Type 0) → Follows (MayAdd e) a b → Follows (Adds e) a b → Grows {E = E} e (Ok x) a b
+pub grows_ok : {T E : Type 0} (e : SectionEntry) (x : T) (a b : Files → Type 0) → Follows (MayAdd e) a b → Follows (AddsEntry e) a b → Grows {E = E} e (Ok x) a b
 grows_ok e x a b may added = record { may = may; added = added }
 
 pub grows_err : {T E : Type 0} (e : SectionEntry) (r : Result T E) (x : E) (a b : Files → Type 0) → r ≡ Err x → Follows (MayAdd e) a b → Grows e r a b
-grows_err {T = T} {E = E} e r x a b is may = record { may = may; added = subst (λ (q : Result T E). OnOk q (Follows (Adds e) a b)) (sym is) tt }
+grows_err {T = T} {E = E} e r x a b is may = record { may = may; added = subst (λ (q : Result T E). OnOk q (Follows (AddsEntry e) a b)) (sym is) tt }

@@ -14,8 +14,8 @@ use Rattle.dkg_journal.specs.Names.{Files, name_cmp, name_number}
 use Rattle.dkg_journal.specs.Disk.{IsUnchanged}
 use Rattle.dkg_journal.specs.Records.{Whole, broken_at}
 use Rattle.dkg_journal.specs.Gated.{gated, gated_from}
-use Rattle.dkg_journal.specs.Places.{Places, place_at, joined}
-use Rattle.dkg_journal.specs.Found.{EndsAt, FindsSegments, IsWholeFlat, Takes, gated_row}
+use Rattle.dkg_journal.specs.Places.{Places, place_at, flat_place}
+use Rattle.dkg_journal.specs.Found.{EndsAtPlace, FindsSegments, IsWholeFlat, Takes, gated_row}
 use Rattle.dkg_journal.specs.Opening.{broken, broken_rows, broken_with, first_place, mend_at, mend_of, mends, open_calls_with, removes, is_unnamed}
 use Rattle.dkg_journal.specs.Segments.{Segments, parted, segment_rows, segments, segments_with}
 use Rattle.dkg_journal.specs.declared.call.JournalError.{JournalError}
@@ -71,7 +71,7 @@ broken_found (r ∷ done) section bytes place rest none is = by_first (broken_at
 pub takes_none : (before : List Op) (waiting : List JournalEntry) (places : Places) (mending : List Op) → waiting ≡ [] → places ≡ empty → mending ≡ before → Takes before [] waiting places mending
 takes_none before waiting places mending no_entry no_place none = record {
   listed = ap (map gated) no_entry;
-  ends = λ s. subst (λ (o : Option ℕ). EndsAt o None) (sym (ap (λ (m : Places). joined (get m s)) no_place ∙ ap joined (get-empty nat_cmp s))) refl;
+  ends = λ s. subst (λ (o : Option ℕ). EndsAtPlace o None) (sym (ap (λ (m : Places). flat_place (get m s)) no_place ∙ ap flat_place (get-empty nat_cmp s))) refl;
   mended = none ∙ sym (append-nil before);
   unbroken = refl;
 }
@@ -84,13 +84,13 @@ takes_more before rows section bytes bs place waiting waiting' places places' me
   listed = listed ∙ (λ i. takes.listed i ++ gated_from section 0 (sym (whole_bodies 0 bs place bytes whole) i)) ∙ sym (flat_push gated_row rows (section, bytes));
   ends = λ s.
       let at : find nat_cmp s (rows ++ (section, bytes) ∷ []) ≡ cond (eq_by_cmp nat_cmp s section) (Some bytes) (find nat_cmp s rows) = find-append nat_cmp nat_cmp_total rows section bytes s none in
-      let new : place_at places' s ≡ joined (cond (eq_by_cmp nat_cmp s section) (Some (Some place)) (get places s)) = ap (λ (m : Places). joined (get m s)) put ∙ ap joined (get-insert nat_cmp_total places section (Some place) s) in
-      subst (λ (o : Option ℕ). EndsAt o (find nat_cmp s (rows ++ (section, bytes) ∷ []))) (sym new) (subst (λ (o : Option (List ℕ)). EndsAt (joined (cond (eq_by_cmp nat_cmp s section) (Some (Some place)) (get places s))) o) (sym at) (by_test s (eq_by_cmp nat_cmp s section)));
+      let new : place_at places' s ≡ flat_place (cond (eq_by_cmp nat_cmp s section) (Some (Some place)) (get places s)) = ap (λ (m : Places). flat_place (get m s)) put ∙ ap flat_place (get-insert nat_cmp_total places section (Some place) s) in
+      subst (λ (o : Option ℕ). EndsAtPlace o (find nat_cmp s (rows ++ (section, bytes) ∷ []))) (sym new) (subst (λ (o : Option (List ℕ)). EndsAtPlace (flat_place (cond (eq_by_cmp nat_cmp s section) (Some (Some place)) (get places s))) o) (sym at) (by_test s (eq_by_cmp nat_cmp s section)));
   mended = mended ∙ ap (λ (l : List Op). l ++ mend_of (section, bytes)) takes.mended ∙ append_assoc before (mends rows) (mend_of (section, bytes)) ∙ ap (λ (l : List Op). before ++ l) (sym (flat_push mend_of rows (section, bytes)));
   unbroken = broken_push rows section bytes takes.unbroken (whole_unbroken 0 bs place bytes whole);
 }
   where
-    by_test : (s : ℕ) (b : Bool) → EndsAt (joined (cond b (Some (Some place)) (get places s))) (cond b (Some bytes) (find nat_cmp s rows))
+    by_test : (s : ℕ) (b : Bool) → EndsAtPlace (flat_place (cond b (Some (Some place)) (get places s))) (cond b (Some bytes) (find nat_cmp s rows))
     by_test s true = (bs, bytes, refl, whole)
     by_test s false = takes.ends s
 
@@ -228,7 +228,7 @@ module _ (f : Files) (none : get f Flat ≡ None) (waiting : List JournalEntry) 
   pub finds_segments : FindsSegments f waiting places mending
   finds_segments = record {
     listed = takes.listed ∙ ap (flat_map gated_row) (sym these_rows);
-    ends = λ s. subst (λ (o : Option (List ℕ)). EndsAt (place_at places s) o) (sym (ap (λ (m : Segments). get m s) these ∙ get-from_entries nat_cmp_total (segment_rows (map_of.entries f)) s)) (takes.ends s);
+    ends = λ s. subst (λ (o : Option (List ℕ)). EndsAtPlace (place_at places s) o) (sym (ap (λ (m : Segments). get m s) these ∙ get-from_entries nat_cmp_total (segment_rows (map_of.entries f)) s)) (takes.ends s);
     made = takes.mended ∙ ap mends (sym these_rows) ∙ sym (ap (λ (o : Option (List ℕ)). open_calls_with o f) none);
     unbroken = ap (λ (o : Option (List ℕ)). broken_with o f) none ∙ takes.unbroken;
     flat = subst IsWholeFlat (sym none) tt;
@@ -242,7 +242,7 @@ module _ (f : Files) (file : List ℕ) (there : get f Flat ≡ Some file) (bs : 
   pub finds_parted : (names : List Name) (waiting : List JournalEntry) (places : Places) (mending mending' : List Op) → names ≡ keys f → Takes (removes (filter (is_unnamed (parted bs)) names)) (map_of.entries (parted bs)) waiting places mending → mending' ≡ mending ++ Remove Flat ∷ [] → FindsSegments f waiting places mending'
   finds_parted names waiting places mending mending' are takes pushed = record {
     listed = takes.listed ∙ ap (λ (m : Segments). flat_map gated_row (map_of.entries m)) (sym are_parted);
-    ends = λ s. subst (λ (o : Option (List ℕ)). EndsAt (place_at places s) o) (sym (get-entries (parted bs) s) ∙ ap (λ (m : Segments). get m s) (sym are_parted)) (takes.ends s);
+    ends = λ s. subst (λ (o : Option (List ℕ)). EndsAtPlace (place_at places s) o) (sym (get-entries (parted bs) s) ∙ ap (λ (m : Segments). get m s) (sym are_parted)) (takes.ends s);
     made = pushed ∙ ap (λ (l : List Op). l ++ Remove Flat ∷ []) takes.mended ∙ append_assoc (removes (filter (is_unnamed (parted bs)) names)) (mends (map_of.entries (parted bs))) (Remove Flat ∷ [])
         ∙ (λ i. removes (filter (is_unnamed (sym are_parted i)) (are i)) ++ (mends (map_of.entries (sym are_parted i)) ++ Remove Flat ∷ []))
         ∙ sym (ap (λ (o : Option (List ℕ)). open_calls_with o f) there);

@@ -12,9 +12,9 @@ use Rattle.dkg_journal.specs.Gated.{OpensAlike}
 use Rattle.dkg_journal.specs.Opening.{broken}
 use Rattle.dkg_journal.specs.Journals.{IsOpen, append_calls, has_file}
 use Rattle.dkg_journal.specs.Places.{place_at}
-use Rattle.dkg_journal.specs.Pruning.{Leaves, is_below}
+use Rattle.dkg_journal.specs.Pruning.{LeavesAbove, is_below}
 use Rattle.dkg_journal.specs.Records.{SectionEntry, entries, placed}
-use Rattle.dkg_journal.specs.Steps.{Adds, append_calls_at}
+use Rattle.dkg_journal.specs.Steps.{AddsEntry, append_calls_at}
 use Rattle.dkg_journal.specs.declared.journal.Journal.{Journal}
 use Rattle.dkg_journal.proofs.Append.{flat_plan}
 use Rattle.dkg_journal.proofs.Order.{of_section}
@@ -52,7 +52,7 @@ any_of section [] = refl
 any_of section (e ∷ es) = elim (e.0 == section) as (λ (b : Bool). (b || list_any (λ (y : SectionEntry). y.0 == section) es) ≡ nonempty (cond b (e ∷ of_section section es) (of_section section es))) [ true ↦ refl | false ↦ any_of section es ]
 
 -- the file of an entry that was added is there
-pub added_there : (journal : Journal) (files : Files) (e : SectionEntry) (image next : Files → Type 0) → IsOpen journal files next → Follows (Adds e) image next → (c : Files) → next c → is_some (get c (Segment e.0)) ≡ true
+pub added_there : (journal : Journal) (files : Files) (e : SectionEntry) (image next : Files → Type 0) → IsOpen journal files next → Follows (AddsEntry e) image next → (c : Files) → next c → is_some (get c (Segment e.0)) ≡ true
 added_there journal files e image next at adds c here =
     let from = adds.each c here in
     let no_flat : get c Flat ≡ None = at.only c here Flat flat_plan ∙ at.no_flat in
@@ -63,7 +63,7 @@ added_there journal files e image next at adds c here =
     by_file None is same some = absurd (let h : ◌≡◌ {A = Bool} true false = sym some ∙ same ∙ ap (λ (o : Option (List ℕ)). nonempty (with_section e.0 (bodies_at o))) is in cc)
 
 -- the names behind a prune
-pub leaves_names : (least : ℕ) (old c : Files) → Leaves least old c → keys c ≡ filter (λ n. not (is_below least n)) (keys old)
+pub leaves_names : (least : ℕ) (old c : Files) → LeavesAbove least old c → keys c ≡ filter (λ n. not (is_below least n)) (keys old)
 leaves_names least old c left = some_keys (λ n. not (is_below least n)) c old (λ q. by_below q (is_below least q) refl)
   where
     by_name : (q : Name) → is_below least q ≡ true → get c q ≡ None

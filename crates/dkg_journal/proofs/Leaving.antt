@@ -18,9 +18,9 @@ use Rattle.dkg_journal.specs.Names.{Files}
 use Rattle.dkg_journal.specs.Disk.{Follows, Lands}
 use Rattle.dkg_journal.specs.Fuse.{Ran, RanAll}
 use Rattle.dkg_journal.specs.Opening.{AreUnbroken, removes}
-use Rattle.dkg_journal.specs.Operations.{Prunes, Tried, Finished, after_operation, calls_of, journaled}
-use Rattle.dkg_journal.specs.Places.{Places, joined, place_at, remove_of, removes_below}
-use Rattle.dkg_journal.specs.Pruning.{Leaves, MayLeave, Thins, is_below, prune_calls}
+use Rattle.dkg_journal.specs.Operations.{Prunes, Tried, Finished, after_operation, changing_calls, journaled}
+use Rattle.dkg_journal.specs.Places.{Places, flat_place, place_at, remove_of, removes_below}
+use Rattle.dkg_journal.specs.Pruning.{LeavesAbove, MayLeave, Thins, is_below, prune_calls}
 use Rattle.dkg_journal.specs.Segments.{segment_rows}
 use Rattle.dkg_journal.specs.Steps.{IsOpenAt, IsSegmentAt}
 use Rattle.dkg_journal.specs.Wholes.{Amid, AreOfWhole, Becomes, after_all}
@@ -168,9 +168,9 @@ itself n = grind (arith, nat_tests)
 differ : (a b : ℕ) → a ≢ b → is_eq (nat_cmp a b) ≡ false
 differ a b ne = grind (arith, nat_tests)
 
-there_find : (t : ℕ) (rows : List (ℕ × Option ℕ)) → T (is_sorted nat_cmp rows) → is_some (find nat_cmp t (there_of rows)) ≡ is_some (joined (find nat_cmp t rows))
+there_find : (t : ℕ) (rows : List (ℕ × Option ℕ)) → T (is_sorted nat_cmp rows) → is_some (find nat_cmp t (there_of rows)) ≡ is_some (flat_place (find nat_cmp t rows))
 there_find t [] sorted = refl
-there_find t ((s, Some p) ∷ rows) sorted = elim (eq_by_cmp nat_cmp t s) as (λ (b : Bool). is_some (cond b (Some p) (find nat_cmp t (there_of rows))) ≡ is_some (joined (cond b (Some (Some p)) (find nat_cmp t rows)))) [
+there_find t ((s, Some p) ∷ rows) sorted = elim (eq_by_cmp nat_cmp t s) as (λ (b : Bool). is_some (cond b (Some p) (find nat_cmp t (there_of rows))) ≡ is_some (flat_place (cond b (Some (Some p)) (find nat_cmp t rows)))) [
   | true ↦ refl
   | false ↦ there_find t rows (both_true (below_all nat_cmp s rows) (is_sorted nat_cmp rows) sorted).1
 ]
@@ -179,8 +179,8 @@ there_find t ((s, None) ∷ rows) sorted =
     elim (cases_eq t s) [
       | inl is ↦
           let out : is_some (find nat_cmp t (there_of rows)) ≡ false = sym (firsts_in t (there_of rows)) ∙ not_in t (suc s) (firsts (there_of rows)) (omega (arith, is)) (firsts_rise (suc s) (there_of rows) (there_sorted rows parts.1) (from_below s (there_of rows) (there_below s rows parts.0))) in
-          out ∙ sym (ap (λ (b : Bool). is_some (joined (cond b (Some None) (find nat_cmp t rows)))) (ap (λ (n : ℕ). is_eq (nat_cmp t n)) (sym is) ∙ itself t))
-      | inr ne ↦ there_find t rows parts.1 ∙ sym (ap (λ (b : Bool). is_some (joined (cond b (Some None) (find nat_cmp t rows)))) (differ t s ne))
+          out ∙ sym (ap (λ (b : Bool). is_some (flat_place (cond b (Some None) (find nat_cmp t rows)))) (ap (λ (n : ℕ). is_eq (nat_cmp t n)) (sym is) ∙ itself t))
+      | inr ne ↦ there_find t rows parts.1 ∙ sym (ap (λ (b : Bool). is_some (flat_place (cond b (Some None) (find nat_cmp t rows)))) (differ t s ne))
     ]
 
 places_calls : (min : ℕ) (rows : List (ℕ × Option ℕ)) → flat_map remove_of (filter (λ e. nat_lt e.0 min) rows) ≡ rm (filter (λ k. nat_lt k min) (firsts (there_of rows)))
@@ -214,7 +214,7 @@ pub place_calls : (min : ℕ) (places : Places) (f : Files) (image : Files → T
 place_calls min places f image at =
     let rows = map_of.entries places in
     places_calls min rows ∙ counted_all min (firsts (there_of rows)) (firsts_rise 0 (there_of rows) (there_sorted rows (entries_sorted places)) (from_zero (there_of rows)))
-    ∙ same_calls min 0 _ _ (λ t low. firsts_in t (there_of rows) ∙ there_find t rows (entries_sorted places) ∙ ap (λ (o : Option (Option ℕ)). is_some (joined o)) (sym (get-entries places t)) ∙ sym (at_some (place_at places t) (get f (Segment t)) (at.each t)))
+    ∙ same_calls min 0 _ _ (λ t low. firsts_in t (there_of rows) ∙ there_find t rows (entries_sorted places) ∙ ap (λ (o : Option (Option ℕ)). is_some (flat_place o)) (sym (get-entries places t)) ∙ sym (at_some (place_at places t) (get f (Segment t)) (at.each t)))
     ∙ sym (file_calls min f)
 
 -- WHAT THEY LEAVE
@@ -279,7 +279,7 @@ all_gone (suc n) lo old d test are g = by_test (test lo) refl (λ f more. subst 
 gone_start : (old : Files) → Gone 0 old old
 gone_start old = record { others = λ q is. refl; gone = λ s low. absurd (omega (arith, low)) }
 
-gone_leaves : (least : ℕ) (old c : Files) → get old Flat ≡ None → Gone least old c → Leaves least old c
+gone_leaves : (least : ℕ) (old c : Files) → get old Flat ≡ None → Gone least old c → LeavesAbove least old c
 gone_leaves least old c no_flat g = record {
   others = g.others;
   gone = g.gone;
@@ -310,7 +310,7 @@ module _ (min : ℕ) (places : Places) (files : Files) (image : Files → Type 0
   zero_and : 0 + min ≡ min
   zero_and = omega arith
 
-  does : (d c : Files) → image d → c ≡ after_all (prune_calls min (keys files)) d → Leaves min d c
+  does : (d c : Files) → image d → c ≡ after_all (prune_calls min (keys files)) d → LeavesAbove min d c
   does d c now is =
       let g = subst (λ (m : ℕ). Gone m d (after_all (removes_from 0 min (λ t. is_some (get files (Segment t)))) d)) zero_and (all_gone min 0 d d (λ t. is_some (get files (Segment t))) (same_test d now) (gone_start d)) in
       gone_leaves min d c (no_flat d now) (subst (λ (f : Files). Gone min d f) (sym (is ∙ ap (λ (l : List Op). after_all l d) (file_calls min files))) g)
@@ -319,7 +319,7 @@ module _ (min : ℕ) (places : Places) (files : Files) (image : Files → Type 0
     pub prune_may : Follows (Amid (prune_calls min (keys files))) image next → Follows (MayLeave min) image next
     prune_may step = record { each = λ c now. let from = step.each c now in (from.0, from.1, may from.0 c from.1 from.2) }
 
-    pub prune_leaves : Follows (Becomes (prune_calls min (keys files))) image next → Follows (Leaves min) image next
+    pub prune_leaves : Follows (Becomes (prune_calls min (keys files))) image next → Follows (LeavesAbove min) image next
     prune_leaves step = record { each = λ c now. let from = step.each c now in (from.0, from.1, does from.0 c from.1 from.2) }
 
     pub prune_unbroken : Follows (Amid (prune_calls min (keys files))) image next → AreUnbroken next
@@ -343,10 +343,10 @@ module _ (min : ℕ) (places : Places) (files : Files) (image : Files → Type 0
         record {
           no_flat = left.others Flat refl ∙ no_flat back.0 back.1;
           each = λ s.
-              let there : place_at places' s ≡ joined (cond (nat_le min s) (get places s) None) = ap (λ (m : Places). joined (get m s)) pruned ∙ ap joined (get-retain_keys places (nat_le min) s (λ x tied. ap (nat_le min) (sym (nat_cmp-IsAntisymmetric s x tied)))) in
+              let there : place_at places' s ≡ flat_place (cond (nat_le min s) (get places s) None) = ap (λ (m : Places). flat_place (get m s)) pruned ∙ ap flat_place (get-retain_keys places (nat_le min) s (λ x tied. ap (nat_le min) (sym (nat_cmp-IsAntisymmetric s x tied)))) in
               subst (λ (o : Option ℕ). IsSegmentAt o (get new (Segment s))) (sym there) (elim (cases_lt s min) [
-                | inl low ↦ subst (λ (b : Bool). IsSegmentAt (joined (cond b (get places s) None)) (get new (Segment s))) (sym (is_low s low)) (left.gone s low)
-                | inr high ↦ subst (λ (b : Bool). IsSegmentAt (joined (cond b (get places s) None)) (get new (Segment s))) (sym (is_high s high)) (subst (λ (o : Option (List ℕ)). IsSegmentAt (place_at places s) o) (sym (rest (Segment s) (segment_plan s) (not_less s min high))) (at.each s))
+                | inl low ↦ subst (λ (b : Bool). IsSegmentAt (flat_place (cond b (get places s) None)) (get new (Segment s))) (sym (is_low s low)) (left.gone s low)
+                | inr high ↦ subst (λ (b : Bool). IsSegmentAt (flat_place (cond b (get places s) None)) (get new (Segment s))) (sym (is_high s high)) (subst (λ (o : Option (List ℕ)). IsSegmentAt (place_at places s) o) (sym (rest (Segment s) (segment_plan s) (not_less s min high))) (at.each s))
               ]);
           only = λ c here q ne.
               let from = step.each c here in
@@ -374,10 +374,10 @@ module _ (min : ℕ) (places : Places) (files : Files) (image : Files → Type 0
 
     module _ (lands : Lands files image) where
       -- what the files stand for then
-      standing : (least : ℕ) (c : Files) → Leaves least files c → journaled c ≡ after_operation (Prunes least) (journaled files)
+      standing : (least : ℕ) (c : Files) → LeavesAbove least files c → journaled c ≡ after_operation (Prunes least) (journaled files)
       standing least c left = stands_for c (after_operation (Prunes least) (journaled files)) left.left (left.others Plan refl) (leaves_names least files c left)
 
-      size : length (prune_calls min (keys files)) ≡ calls_of (Prunes min) (journaled files)
+      size : length (prune_calls min (keys files)) ≡ changing_calls (Prunes min) (journaled files)
       size = length-map (filter (is_below min) (keys files)) (λ name. Remove name)
 
       pub prune_tried : {D : Type 0} (made : D → D → List (DeviceCall Op) → Type 0) (a b : D) (f h : Burn) → Follows (Amid (prune_calls min (keys files))) image next → Ran made a b f h (prune_calls min (keys files)) → Tried (Prunes min) files next f h
@@ -386,19 +386,19 @@ module _ (min : ℕ) (places : Places) (files : Files) (image : Files → Type 0
             let from = step.each c now in
             let left : MayLeave min files c = subst (λ (d : Files). MayLeave min d c) (lands.only from.0 from.1) (may from.0 c from.1 from.2) in
             inr (inr (left.least, left.low, standing left.least c left.leaves));
-        spent = ran_spent made a b f h (prune_calls min (keys files)) (calls_of (Prunes min) (journaled files)) size ran;
+        spent = ran_spent made a b f h (prune_calls min (keys files)) (changing_calls (Prunes min) (journaled files)) size ran;
       }
 
       pub prune_finished : {D : Type 0} (made : D → D → List (DeviceCall Op) → Type 0) (a b : D) (f h : Burn) (new : Files) → image files → Follows (Becomes (prune_calls min (keys files))) image next → new ≡ after_all (prune_calls min (keys files)) files → RanAll made a b f h (prune_calls min (keys files)) → Finished (Prunes min) files new next f h
       prune_finished made a b f h new here step is all = record {
         after = standing min new (does files new here is);
         settled = becomes_lands (prune_calls min (keys files)) files new image next lands step is;
-        spent = all_burnt made a b f h (prune_calls min (keys files)) (calls_of (Prunes min) (journaled files)) size all;
+        spent = all_burnt made a b f h (prune_calls min (keys files)) (changing_calls (Prunes min) (journaled files)) size all;
       }
 
 -- a prune that came to its end, and one that did not
-pub thins_ok : {T E : Type 0} (min : ℕ) (x : T) (a b : Files → Type 0) → Follows (MayLeave min) a b → Follows (Leaves min) a b → Thins {E = E} min (Ok x) a b
+pub thins_ok : {T E : Type 0} (min : ℕ) (x : T) (a b : Files → Type 0) → Follows (MayLeave min) a b → Follows (LeavesAbove min) a b → Thins {E = E} min (Ok x) a b
 thins_ok min x a b may left = record { may = may; left = left }
 
 pub thins_err : {T E : Type 0} (min : ℕ) (r : Result T E) (x : E) (a b : Files → Type 0) → r ≡ Err x → Follows (MayLeave min) a b → Thins min r a b
-thins_err {T = T} {E = E} min r x a b is may = record { may = may; left = subst (λ (q : Result T E). OnOk q (Follows (Leaves min) a b)) (sym is) tt }
+thins_err {T = T} {E = E} min r x a b is may = record { may = may; left = subst (λ (q : Result T E). OnOk q (Follows (LeavesAbove min) a b)) (sym is) tt }

@@ -5,7 +5,7 @@ use Rattle.std.proofs.lemmas.Bool.{cases_lt, cases_eq}
 use Rattle.std.proofs.lemmas.List.{drop-drop, take-take}
 use Rattle.dkg_journal.proofs.AtOnce.{torn_written, torn_same}
 use Rattle.dkg_journal.specs.Disk.{written, Torn}
-use Rattle.dkg_journal.specs.Kept.{KeptBytes, Undone, restored, rolled, AreWithin, IsOutside, FileImage}
+use Rattle.dkg_journal.specs.Kept.{KeptBytes, Undone, restored, rolled, AreWithin, IsUntouched, FileImage}
 
 pub rolled-push : (from : ℕ) (us : List Undone) (u : Undone) (bytes : List ℕ) → rolled from (us ++ u ∷ []) bytes ≡ rolled from us (restored from u bytes)
 rolled-push from [] u bytes = refl
@@ -42,7 +42,7 @@ length-rolled from (u ∷ us) bytes h =
     length-restored from u (rolled from us bytes) (omega (arith, rest, h.0)) ∙ rest
 
 -- what was not written stays
-pub get_or-rolled : (from : ℕ) (us : List Undone) (bytes : List ℕ) (i : ℕ) → AreWithin us (length bytes) → IsOutside us i → get_or (rolled from us bytes) i 0 ≡ get_or bytes i 0
+pub get_or-rolled : (from : ℕ) (us : List Undone) (bytes : List ℕ) (i : ℕ) → AreWithin us (length bytes) → IsUntouched us i → get_or (rolled from us bytes) i 0 ≡ get_or bytes i 0
 get_or-rolled from [] bytes i h out = refl
 get_or-rolled from (u ∷ us) bytes i h out =
     let rest = length-rolled from us bytes h.1 in
@@ -85,7 +85,7 @@ drop_past m place new old fits le =
     let torn = torn_written place new old (omega (arith, fits)) in
     ap (λ (n : ℕ). drop n (written place new old)) (sym is) ∙ sym (drop-drop k (place + length new) (written place new old)) ∙ ap (drop k) (torn.after fits) ∙ drop-drop k (place + length new) old ∙ ap (λ (n : ℕ). drop n old) is
 
-outside-push : (us : List Undone) (u : Undone) (i : ℕ) → IsOutside us i → (i < u.0) ⊎ (u.0 + length u.1 ≤ i) → IsOutside (us ++ u ∷ []) i
+outside-push : (us : List Undone) (u : Undone) (i : ℕ) → IsUntouched us i → (i < u.0) ⊎ (u.0 + length u.1 ≤ i) → IsUntouched (us ++ u ∷ []) i
 outside-push [] u i out here = (here, tt)
 outside-push (v ∷ us) u i out here = (out.0, outside-push us u i out.1 here)
 
@@ -107,9 +107,9 @@ module _ (file next : KeptBytes) (place : ℕ) (bytes : List ℕ) (u : Undone) (
   length-old = ap length old ∙ omega (arith, length-take (length bytes) (drop place file.bytes), length-drop place file.bytes)
 
   -- outside the range the image agrees with the file before
-  outside : (c : List ℕ) → FileImage next c → (i : ℕ) → i < file.synced → IsOutside file.undo i → (i < place) ⊎ (place + length u.1 ≤ i) → get_or c i 0 ≡ get_or file.bytes i 0
+  outside : (c : List ℕ) → FileImage next c → (i : ℕ) → i < file.synced → IsUntouched file.undo i → (i < place) ⊎ (place + length u.1 ≤ i) → get_or c i 0 ≡ get_or file.bytes i 0
   outside c image i low out side =
-      image.agrees i (omega (arith, is_synced, low)) (subst (λ (l : List Undone). IsOutside l i) (sym is_undo) (outside-push file.undo u i out (⊎_elim (λ l. inl (omega (arith, l, at))) (λ h. inr (omega (arith, h, at))) side)))
+      image.agrees i (omega (arith, is_synced, low)) (subst (λ (l : List Undone). IsUntouched l i) (sym is_undo) (outside-push file.undo u i out (⊎_elim (λ l. inl (omega (arith, l, at))) (λ h. inr (omega (arith, h, at))) side)))
       ∙ ap (λ (l : List ℕ). get_or l i 0) is_bytes
       ∙ ⊎_elim (λ (l : i < place). get_or-written_low place bytes file.bytes i fits l)
       (λ (h : place + length u.1 ≤ i). get_or-written place bytes file.bytes i (omega (arith, h, low, synced, length-old)) (inr (omega (arith, h, low, synced, length-old)))) side
@@ -133,7 +133,7 @@ module _ (file next : KeptBytes) (place : ℕ) (bytes : List ℕ) (u : Undone) (
     parts = before_write file.bytes place (length bytes) c fits low
 
     -- the old bytes stand in the range
-    agrees : (i : ℕ) → i < file.synced → IsOutside file.undo i → get_or (written place k c) i 0 ≡ get_or file.bytes i 0
+    agrees : (i : ℕ) → i < file.synced → IsUntouched file.undo i → get_or (written place k c) i 0 ≡ get_or file.bytes i 0
     agrees i below out =
         let long = long_enough c image in
         elim (cases_lt i place) [

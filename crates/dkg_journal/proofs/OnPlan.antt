@@ -15,7 +15,7 @@ use Rattle.dkg_journal.specs.Names.{Files, name_cmp, name_number}
 use Rattle.dkg_journal.specs.Disk.{SameElse, Follows, Inside, Did, Lands}
 use Rattle.dkg_journal.specs.Fuse.{RanAll}
 use Rattle.dkg_journal.specs.Records.{SectionEntry, entries, entries_with, segment_entries}
-use Rattle.dkg_journal.specs.Operations.{journaled, PutsPlan, ClearsPlan, after_operation, calls_of, Tried, Finished}
+use Rattle.dkg_journal.specs.Operations.{journaled, PutsPlan, ClearsPlan, after_operation, changing_calls, Tried, Finished}
 use Rattle.dkg_journal.specs.declared.disk.Op.{Op}
 use Rattle.dkg_journal.specs.declared.disk.Op.TheVariants.{Install, Remove}
 use Rattle.dkg_journal.proofs.Steps.{names_total, exact_names, get_here, weaken, ran_all}
@@ -86,7 +86,7 @@ tried_put made a b f g bytes old image next lands step all = record {
       (λ (same : get c Plan ≡ get old Plan). inl (ap journaled (same_files Plan old c inside.0 same)))
       (λ (new : get c Plan ≡ Some bytes). inr (inl (put_standing bytes old c inside.0 new)))
       inside.1;
-  spent = ran_spent made a b f g (Install Plan bytes ∷ []) (calls_of (PutsPlan bytes) (journaled old)) refl (ran_all made a b f g (Install Plan bytes ∷ []) all);
+  spent = ran_spent made a b f g (Install Plan bytes ∷ []) (changing_calls (PutsPlan bytes) (journaled old)) refl (ran_all made a b f g (Install Plan bytes ∷ []) all);
 }
 
 pub tried_clear : {D : Type 0} (made : D → D → List (DeviceCall Op) → Type 0) (a b : D) (f g : Burn) (old : Files) (image next : Files → Type 0) → Lands old image → Follows (Inside (Remove Plan)) image next → RanAll made a b f g (Remove Plan ∷ []) → Tried ClearsPlan old next f g
@@ -99,7 +99,7 @@ tried_clear made a b f g old image next lands step all = record {
       (λ (same : get c Plan ≡ get old Plan). inl (ap journaled (same_files Plan old c inside.0 same)))
       (λ (new : get c Plan ≡ None). inr (inl (cleared_standing old c inside.0 new)))
       inside.1;
-  spent = ran_spent made a b f g (Remove Plan ∷ []) (calls_of ClearsPlan (journaled old)) refl (ran_all made a b f g (Remove Plan ∷ []) all);
+  spent = ran_spent made a b f g (Remove Plan ∷ []) (changing_calls ClearsPlan (journaled old)) refl (ran_all made a b f g (Remove Plan ∷ []) all);
 }
 
 pub put_others : (bytes : List ℕ) (a b : Files → Type 0) → Follows (Inside (Install Plan bytes)) a b → Follows (SameElse Plan) a b
@@ -136,7 +136,7 @@ finished_put made a b f g bytes old new image next lands step did now all =
     record {
       after = put_standing bytes old new rest here;
       settled = one_file_lands Plan old new image next lands (put_others bytes image next step) now (λ c is. did.durable c is ∙ sym here);
-      spent = all_burnt made a b f g (Install Plan bytes ∷ []) (calls_of (PutsPlan bytes) (journaled old)) refl all;
+      spent = all_burnt made a b f g (Install Plan bytes ∷ []) (changing_calls (PutsPlan bytes) (journaled old)) refl all;
     }
 
 pub finished_clear : {D : Type 0} (made : D → D → List (DeviceCall Op) → Type 0) (a b : D) (f g : Burn) (old new : Files) (image next : Files → Type 0) → Lands old image → Follows (Inside (Remove Plan)) image next → Did (Remove Plan) old new next → next new → RanAll made a b f g (Remove Plan ∷ []) → Finished ClearsPlan old new next f g
@@ -147,5 +147,5 @@ finished_clear made a b f g old new image next lands step did now all =
     record {
       after = cleared_standing old new rest here;
       settled = one_file_lands Plan old new image next lands (clear_others image next step) now (λ c is. did.durable c is ∙ sym here);
-      spent = all_burnt made a b f g (Remove Plan ∷ []) (calls_of ClearsPlan (journaled old)) refl all;
+      spent = all_burnt made a b f g (Remove Plan ∷ []) (changing_calls ClearsPlan (journaled old)) refl all;
     }

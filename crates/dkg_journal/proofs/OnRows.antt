@@ -12,7 +12,7 @@ use Rattle.dkg_values.specs.declared.name.Name.{Name}
 use Rattle.dkg_journal.specs.Names.{Files, name_cmp, name_number, name_at, name_at-name_number}
 use Rattle.dkg_journal.specs.Disk.{Inside, Follows, Did, HasFile, Torn, Lands as Left, after_write}
 use Rattle.dkg_journal.specs.Kept.{KeptBytes, FileImage, settled, wrote}
-use Rattle.dkg_journal.specs.Table.{Rows, file_at, IsUpdate, made_sure, Lands, row_bytes, contents, bytes_of, get_contents, matches, MatchFile, RowsImage, reads_image}
+use Rattle.dkg_journal.specs.Table.{Rows, file_at, IsUpdate, made_sure, FileLands, row_bytes, contents, file_bytes, get_contents, matches, MatchFile, RowsImage, reads_image}
 use Rattle.dkg_journal.specs.Fuse.{counted}
 use Rattle.dkg_journal.specs.DeviceCall.{Makes}
 use Rattle.dkg_journal.specs.Made.{Made, made_one, made_nothing}
@@ -45,7 +45,7 @@ pub update_other : (name q : Name) (o : Option KeptBytes) (old new : Rows) → I
 update_other name q o old new update ne = update q ∙ apart q name o (file_at q old) ne
 
 -- what is left of a file of which nothing is loose
-sure_only : (o : Option KeptBytes) (c : Option (List ℕ)) → MatchFile (made_sure o) c → c ≡ bytes_of o
+sure_only : (o : Option KeptBytes) (c : Option (List ℕ)) → MatchFile (made_sure o) c → c ≡ file_bytes o
 sure_only None None image = refl
 sure_only None (Some c) image = absurd image
 sure_only (Some f) None image = absurd image
@@ -55,7 +55,7 @@ sure_only (Some f) (Some c) image = ap (λ (x : List ℕ). Some x) (settled_only
 sure_narrows : (o : Option KeptBytes) (c : Option (List ℕ)) → MatchFile (made_sure o) c → MatchFile o c
 sure_narrows o c image = subst (MatchFile o) (sym (sure_only o c image)) (matches o)
 
-lands_only : (o p : Option KeptBytes) (c : Option (List ℕ)) → Lands o p → MatchFile p c → c ≡ bytes_of p
+lands_only : (o p : Option KeptBytes) (c : Option (List ℕ)) → FileLands o p → MatchFile p c → c ≡ file_bytes p
 lands_only None None None lands image = refl
 lands_only None None (Some c) lands image = absurd image
 lands_only None (Some g) c lands image = absurd lands
@@ -63,20 +63,20 @@ lands_only (Some f) None c lands image = absurd lands
 lands_only (Some f) (Some g) None lands image = absurd image
 lands_only (Some f) (Some g) (Some c) lands image = ap (λ (x : List ℕ). Some x) (settled_only g.bytes c (subst (λ (k : KeptBytes). FileImage k c) lands.1 image))
 
-lands_image : (o p : Option KeptBytes) → Lands o p → MatchFile o (bytes_of p)
+lands_image : (o p : Option KeptBytes) → FileLands o p → MatchFile o (file_bytes p)
 lands_image None None lands = tt
 lands_image (Some f) (Some g) lands = lands.0
 lands_image None (Some g) lands = absurd lands
 lands_image (Some f) None lands = absurd lands
 
-same_contents : (rows : Rows) (c : Files) → ((q : Name) → get c q ≡ bytes_of (file_at q rows)) → c ≡ contents rows
+same_contents : (rows : Rows) (c : Files) → ((q : Name) → get c q ≡ file_bytes (file_at q rows)) → c ≡ contents rows
 same_contents rows c all = same_map names_total exact_names c (contents rows) (λ q. all q ∙ sym (get_contents rows q))
 
 -- after a crash a disk is left as it reads, and that was one of its images
-pub landed_only : (old new : Rows) → ((q : Name) → Lands (file_at q old) (file_at q new)) → (c : Files) → RowsImage new c → c ≡ contents new
+pub landed_only : (old new : Rows) → ((q : Name) → FileLands (file_at q old) (file_at q new)) → (c : Files) → RowsImage new c → c ≡ contents new
 landed_only old new lands c image = same_contents new c (λ q. lands_only (file_at q old) (file_at q new) (get c q) (lands q) (image.each q))
 
-pub landed_image : (old new : Rows) → ((q : Name) → Lands (file_at q old) (file_at q new)) → (c : Files) → RowsImage new c → RowsImage old c
+pub landed_image : (old new : Rows) → ((q : Name) → FileLands (file_at q old) (file_at q new)) → (c : Files) → RowsImage new c → RowsImage old c
 landed_image old new lands c image = record {
   each = λ q. subst (MatchFile (file_at q old)) (sym (lands_only (file_at q old) (file_at q new) (get c q) (lands q) (image.each q))) (lands_image (file_at q old) (file_at q new) (lands q));
 }
@@ -94,19 +94,19 @@ sync_image name old new update c image =
       sure_only (file_at name old) (get c name) here ∙ sym (get_contents old name),
     )
 
-sure_bytes : (o : Option KeptBytes) → bytes_of (made_sure o) ≡ bytes_of o
+sure_bytes : (o : Option KeptBytes) → file_bytes (made_sure o) ≡ file_bytes o
 sure_bytes None = refl
 sure_bytes (Some f) = refl
 
 pub sync_contents : (name : Name) (old new : Rows) → IsUpdate name (made_sure (file_at name old)) old new → contents new ≡ contents old
 sync_contents name old new update = same_contents old (contents new) (λ q. get_contents new q ∙ ⊎_elim
-    (λ (at : q ≡ name). subst (λ (n : Name). bytes_of (file_at n new) ≡ bytes_of (file_at n old)) (sym at) (ap bytes_of (update_here name _ old new update) ∙ sure_bytes (file_at name old)))
-    (λ (ne : q ≢ name). ap bytes_of (update_other name q _ old new update ne))
+    (λ (at : q ≡ name). subst (λ (n : Name). file_bytes (file_at n new) ≡ file_bytes (file_at n old)) (sym at) (ap file_bytes (update_here name _ old new update) ∙ sure_bytes (file_at name old)))
+    (λ (ne : q ≢ name). ap file_bytes (update_other name q _ old new update ne))
     (by_name q name))
 
 -- making sure of all
 pub barrier_contents : (old new : Rows) → ((q : Name) → file_at q new ≡ made_sure (file_at q old)) → contents new ≡ contents old
-barrier_contents old new sure = same_contents old (contents new) (λ q. get_contents new q ∙ ap bytes_of (sure q) ∙ sure_bytes (file_at q old))
+barrier_contents old new sure = same_contents old (contents new) (λ q. get_contents new q ∙ ap file_bytes (sure q) ∙ sure_bytes (file_at q old))
 
 pub barrier_only : (old new : Rows) → ((q : Name) → file_at q new ≡ made_sure (file_at q old)) → (c : Files) → RowsImage new c → c ≡ contents old
 barrier_only old new sure c image = same_contents old c (λ q. sure_only (file_at q old) (get c q) (subst (λ (o : Option KeptBytes). MatchFile o (get c q)) (sure q) (image.each q)))
@@ -124,39 +124,39 @@ back_other : (name q : Name) (o : Option (List ℕ)) (c : Files) → q ≢ name 
 back_other name q None c ne = get_gone c name q ne
 back_other name q (Some b) c ne = get_other c name b q ne
 
-pub update_contents : (name : Name) (o : Option KeptBytes) (old new : Rows) → IsUpdate name o old new → contents new ≡ put_back name (bytes_of o) (contents old)
-update_contents name o old new update = sym (same_contents new (put_back name (bytes_of o) (contents old)) (λ q. ⊎_elim
-    (λ (at : q ≡ name). subst (λ (n : Name). get (put_back name (bytes_of o) (contents old)) n ≡ bytes_of (file_at n new)) (sym at) (back_here name (bytes_of o) (contents old) ∙ sym (ap bytes_of (update_here name o old new update))))
-    (λ (ne : q ≢ name). back_other name q (bytes_of o) (contents old) ne ∙ get_contents old q ∙ sym (ap bytes_of (update_other name q o old new update ne)))
+pub update_contents : (name : Name) (o : Option KeptBytes) (old new : Rows) → IsUpdate name o old new → contents new ≡ put_back name (file_bytes o) (contents old)
+update_contents name o old new update = sym (same_contents new (put_back name (file_bytes o) (contents old)) (λ q. ⊎_elim
+    (λ (at : q ≡ name). subst (λ (n : Name). get (put_back name (file_bytes o) (contents old)) n ≡ file_bytes (file_at n new)) (sym at) (back_here name (file_bytes o) (contents old) ∙ sym (ap file_bytes (update_here name o old new update))))
+    (λ (ne : q ≢ name). back_other name q (file_bytes o) (contents old) ne ∙ get_contents old q ∙ sym (ap file_bytes (update_other name q o old new update ne)))
     (by_name q name)))
 
 -- an image from before such a change, of one from after it
-pub replaced_image : (name : Name) (o : Option KeptBytes) (old new : Rows) → IsUpdate name o old new → (c : Files) → RowsImage new c → RowsImage old (put_back name (bytes_of (file_at name old)) c)
+pub replaced_image : (name : Name) (o : Option KeptBytes) (old new : Rows) → IsUpdate name o old new → (c : Files) → RowsImage new c → RowsImage old (put_back name (file_bytes (file_at name old)) c)
 replaced_image name o old new update c image = record {
   each = λ q. ⊎_elim
-      (λ (at : q ≡ name). subst (λ (n : Name). MatchFile (file_at n old) (get (put_back name (bytes_of (file_at name old)) c) n)) (sym at) (subst (MatchFile (file_at name old)) (sym (back_here name (bytes_of (file_at name old)) c)) (matches (file_at name old))))
-      (λ (ne : q ≢ name). subst (MatchFile (file_at q old)) (sym (back_other name q (bytes_of (file_at name old)) c ne)) (subst (λ (p : Option KeptBytes). MatchFile p (get c q)) (update_other name q o old new update ne) (image.each q)))
+      (λ (at : q ≡ name). subst (λ (n : Name). MatchFile (file_at n old) (get (put_back name (file_bytes (file_at name old)) c) n)) (sym at) (subst (MatchFile (file_at name old)) (sym (back_here name (file_bytes (file_at name old)) c)) (matches (file_at name old))))
+      (λ (ne : q ≢ name). subst (MatchFile (file_at q old)) (sym (back_other name q (file_bytes (file_at name old)) c ne)) (subst (λ (p : Option KeptBytes). MatchFile p (get c q)) (update_other name q o old new update ne) (image.each q)))
       (by_name q name);
 }
 
-pub update_only : (name : Name) (o : Option KeptBytes) (old new : Rows) → IsUpdate name (made_sure o) old new → (c : Files) → RowsImage new c → get c name ≡ bytes_of o
+pub update_only : (name : Name) (o : Option KeptBytes) (old new : Rows) → IsUpdate name (made_sure o) old new → (c : Files) → RowsImage new c → get c name ≡ file_bytes o
 update_only name o old new update c image = sure_only o (get c name) (subst (λ (p : Option KeptBytes). MatchFile p (get c name)) (update_here name (made_sure o) old new update) (image.each name))
 
 pub install_inside : (name : Name) (bytes : List ℕ) (old new : Rows) → IsUpdate name (Some (settled bytes)) old new → Follows (Inside (Install name bytes)) (RowsImage old) (RowsImage new)
 install_inside name bytes old new update = record {
   each = λ c image. (
-    put_back name (bytes_of (file_at name old)) c,
+    put_back name (file_bytes (file_at name old)) c,
     replaced_image name _ old new update c image,
-    (λ q ne. sym (back_other name q (bytes_of (file_at name old)) c ne), inr (update_only name (Some (settled bytes)) old new update c image)),
+    (λ q ne. sym (back_other name q (file_bytes (file_at name old)) c ne), inr (update_only name (Some (settled bytes)) old new update c image)),
   );
 }
 
 pub remove_inside : (name : Name) (old new : Rows) → IsUpdate name None old new → Follows (Inside (Remove name)) (RowsImage old) (RowsImage new)
 remove_inside name old new update = record {
   each = λ c image. (
-    put_back name (bytes_of (file_at name old)) c,
+    put_back name (file_bytes (file_at name old)) c,
     replaced_image name _ old new update c image,
-    (λ q ne. sym (back_other name q (bytes_of (file_at name old)) c ne), inr (update_only name None old new update c image)),
+    (λ q ne. sym (back_other name q (file_bytes (file_at name old)) c ne), inr (update_only name None old new update c image)),
   );
 }
 
@@ -191,13 +191,13 @@ pub there_rows : (rows : Rows) (name : Name) (place : ℕ) → HasFile (contents
 there_rows rows name place has = by_file (file_at name rows) refl
   where
     by_file : (o : Option KeptBytes) → file_at name rows ≡ o → (f : KeptBytes) × (file_at name rows ≡ Some f) × (place ≤ length f.bytes)
-    by_file None is = absurd (none-some has.bytes (sym (get_contents rows name ∙ ap bytes_of is) ∙ has.there))
-    by_file (Some f) is = (f, is, subst (λ (x : List ℕ). place ≤ length x) (sym (same_Some f.bytes has.bytes (sym (get_contents rows name ∙ ap bytes_of is) ∙ has.there))) has.so)
+    by_file None is = absurd (none-some has.bytes (sym (get_contents rows name ∙ ap file_bytes is) ∙ has.there))
+    by_file (Some f) is = (f, is, subst (λ (x : List ℕ). place ≤ length x) (sym (same_Some f.bytes has.bytes (sym (get_contents rows name ∙ ap file_bytes is) ∙ has.there))) has.so)
 
 -- the records of what the calls have done
 pub did_write : (name : Name) (place : ℕ) (bytes : List ℕ) (f : KeptBytes) (old new : Rows) → file_at name old ≡ Some f → IsUpdate name (Some (wrote place bytes f)) old new → Did (WriteAt name place bytes) (contents old) (contents new) (RowsImage new)
 did_write name place bytes f old new was update = record {
-  reads = update_contents name _ old new update ∙ sym (ap (λ (o : Option (List ℕ)). after_write o name place bytes (contents old)) (get_contents old name ∙ ap bytes_of was));
+  reads = update_contents name _ old new update ∙ sym (ap (λ (o : Option (List ℕ)). after_write o name place bytes (contents old)) (get_contents old name ∙ ap file_bytes was));
   durable = λ c image. tt;
 }
 
@@ -227,11 +227,11 @@ did_remove name old new update = record {
   durable = λ c image. update_only name None old new update c image;
 }
 
-pub landed : (old new : Rows) → ((q : Name) → Lands (file_at q old) (file_at q new)) → Left (contents new) (RowsImage new)
+pub landed : (old new : Rows) → ((q : Name) → FileLands (file_at q old) (file_at q new)) → Left (contents new) (RowsImage new)
 landed old new lands = record { only = λ c image. landed_only old new lands c image }
 
 -- a call that was begun, and then the crash
-pub cut_inside : (op : Op) (old mid new : Rows) → Follows (Inside op) (RowsImage old) (RowsImage mid) → ((q : Name) → Lands (file_at q mid) (file_at q new)) → Follows (Inside op) (RowsImage old) (RowsImage new)
+pub cut_inside : (op : Op) (old mid new : Rows) → Follows (Inside op) (RowsImage old) (RowsImage mid) → ((q : Name) → FileLands (file_at q mid) (file_at q new)) → Follows (Inside op) (RowsImage old) (RowsImage new)
 cut_inside op old mid new begun lands = record { each = λ c image. begun.each c (landed_image mid new lands c image) }
 
 -- nothing was done
@@ -278,7 +278,7 @@ bare_lands rows bare = record {
   only = λ c image. same_contents rows c (λ q. none_there (file_at q rows) (get c q) (ap (file_at q) bare) (image.each q));
 }
   where
-    none_there : (o : Option KeptBytes) (c : Option (List ℕ)) → o ≡ None → MatchFile o c → c ≡ bytes_of o
+    none_there : (o : Option KeptBytes) (c : Option (List ℕ)) → o ≡ None → MatchFile o c → c ≡ file_bytes o
     none_there None None is image = refl
     none_there None (Some c) is image = absurd image
     none_there (Some f) c is image = absurd (none-some f (sym is))

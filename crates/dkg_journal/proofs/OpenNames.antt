@@ -8,7 +8,7 @@ use Rattle.std.specs.declared.cmp.Ordering.TheVariants.{Equal}
 use Rattle.dkg_values.specs.declared.name.Name.{Name}
 use Rattle.dkg_values.specs.declared.name.Name.TheVariants.{Plan, Flat, Segment}
 use Rattle.dkg_journal.specs.Names.{Files, name_cmp, name_number}
-use Rattle.dkg_journal.specs.Found.{EndsAt, FindsSegments, IsWholeFlat}
+use Rattle.dkg_journal.specs.Found.{EndsAtPlace, FindsSegments, IsWholeFlat}
 use Rattle.dkg_journal.specs.Operations.{is_plan, opened_names, with_segments}
 use Rattle.dkg_journal.specs.Places.{Places, place_at}
 use Rattle.dkg_journal.specs.Records.{SectionEntry, entries}
@@ -30,7 +30,7 @@ use Rattle.dkg_journal.proofs.Sections.{with_section}
 use Rattle.dkg_journal.proofs.Steps.{exact_names, get_here}
 
 -- what is there has a place
-ends_some : (place : Option ℕ) (file : Option (List ℕ)) → EndsAt place file → is_some file ≡ is_some place
+ends_some : (place : Option ℕ) (file : Option (List ℕ)) → EndsAtPlace place file → is_some file ≡ is_some place
 ends_some None file ends = ap is_some ends
 ends_some (Some p) file ends = ap is_some ends.2
 

@@ -14,15 +14,15 @@ use Rattle.std.proofs.lemmas.Option.{same_Some, none-some}
 use Rattle.dkg_values.specs.declared.name.Name.{Name}
 use Rattle.dkg_values.specs.declared.name.Name.TheVariants.{Plan, Flat, Segment}
 use Rattle.dkg_journal.specs.Names.{Files, name_cmp, name_number}
-use Rattle.dkg_journal.specs.Disk.{Follows, IsUnchanged, Lands, after}
+use Rattle.dkg_journal.specs.Disk.{Follows, IsUnchanged, Lands, files_after}
 use Rattle.dkg_journal.specs.Records.{Whole, IsShut, broken_at, left_over, entries, entries_with, in_sections}
 use Rattle.dkg_journal.specs.Places.{Places, place_at}
-use Rattle.dkg_journal.specs.Found.{EndsAt, FindsSegments, IsWholeFlat}
+use Rattle.dkg_journal.specs.Found.{EndsAtPlace, FindsSegments, IsWholeFlat}
 use Rattle.dkg_journal.specs.Opening.{AreUnbroken, broken, broken_with, mend_at, mend_of, mends, open_calls, open_calls_with, removes, is_unnamed}
 use Rattle.dkg_journal.specs.Segments.{Segments, parted, segment_rows, segments, segments_with}
 use Rattle.dkg_journal.specs.Steps.{IsOpenAt, IsSegmentAt, Keeps}
 use Rattle.dkg_journal.specs.Gated.{OpensAlike}
-use Rattle.dkg_journal.specs.Operations.{Opens, Tries, after_operation, journaled, opened_names}
+use Rattle.dkg_journal.specs.Operations.{Opens, TriesOperation, after_operation, journaled, opened_names}
 use Rattle.dkg_journal.specs.Wholes.{Amid, AreOfWhole, after_all}
 use Rattle.dkg_journal.specs.declared.opening.JournalEntry.{JournalEntry}
 use Rattle.dkg_journal.specs.declared.disk.Op.{Op}
@@ -53,7 +53,7 @@ abbrev AreElsewhere : Name → List Op → Type 0
 AreElsewhere q [] = Unit {0}
 AreElsewhere q (op ∷ ops) = IsElsewhere q op × AreElsewhere q ops
 
-one_else : (q : Name) (op : Op) (f : Files) → IsElsewhere q op → get (after op f) q ≡ get f q
+one_else : (q : Name) (op : Op) (f : Files) → IsElsewhere q op → get (files_after op f) q ≡ get f q
 one_else q (Install name bytes) f ne = get_other f name bytes q ne
 one_else q (Remove name) f ne = get_gone f name q ne
 one_else q (WriteAt name place bytes) f ne = absurd ne
@@ -62,13 +62,13 @@ one_else q Barrier f ne = absurd ne
 
 all_else : (q : Name) (ops : List Op) (f : Files) → AreElsewhere q ops → get (after_all ops f) q ≡ get f q
 all_else q [] f ne = refl
-all_else q (op ∷ ops) f ne = all_else q ops (after op f) ne.1 ∙ one_else q op f ne.0
+all_else q (op ∷ ops) f ne = all_else q ops (files_after op f) ne.1 ∙ one_else q op f ne.0
 
 amid_else : (q : Name) (ops : List Op) (f c : Files) → AreElsewhere q ops → Amid ops f c → get c q ≡ get f q
 amid_else q [] f c ne is = ap (λ (d : Files). get d q) is
 amid_else q (op ∷ ops) f c ne amid = ⊎_elim
     (λ (is : c ≡ f). ap (λ (d : Files). get d q) is)
-    (λ later. amid_else q ops (after op f) c ne.1 later ∙ one_else q op f ne.0)
+    (λ later. amid_else q ops (files_after op f) c ne.1 later ∙ one_else q op f ne.0)
     amid
 
 else_both : (q : Name) (xs ys : List Op) → AreElsewhere q xs → AreElsewhere q ys → AreElsewhere q (xs ++ ys)
@@ -213,9 +213,9 @@ module _ (f : Files) (none : get f Flat ≡ None) where
   pub these : (s : ℕ) → get (segments f) s ≡ get f (Segment s)
   these s = ap (λ (m : Segments). get m s) (ap (λ (o : Option (List ℕ)). segments_with o f) none) ∙ get-from_entries nat_cmp_total (segment_rows (map_of.entries f)) s ∙ rows_find s (map_of.entries f) ∙ sym (get-entries f (Segment s))
 
-  module _ (places : Places) (ends : (s : ℕ) → EndsAt (place_at places s) (get (segments f) s)) where
+  module _ (places : Places) (ends : (s : ℕ) → EndsAtPlace (place_at places s) (get (segments f) s)) where
     -- each segment, before or after
-    seg_shut : (s : ℕ) (file : Option (List ℕ)) (place : Option ℕ) → EndsAt place file → (old : Option (List ℕ)) → old ≡ file → IsSegmentAt place (mended_over file old)
+    seg_shut : (s : ℕ) (file : Option (List ℕ)) (place : Option ℕ) → EndsAtPlace place file → (old : Option (List ℕ)) → old ≡ file → IsSegmentAt place (mended_over file old)
     seg_shut s file None ends old same = subst (λ (o : Option (List ℕ)). mended_over o old ≡ None) (sym ends) (same ∙ ends)
     seg_shut s file (Some p) ends old same = subst (λ (o : Option (List ℕ)). IsSegmentAt (Some p) (mended_over o old)) (sym ends.2) (mended_shut_at ends.0 p ends.1 ends.3 old (λ low. same ∙ ends.2))
 
@@ -238,7 +238,7 @@ module _ (f : Files) (none : get f Flat ≡ None) where
       plan_still : get c Plan ≡ get f Plan
       plan_still = amid_else Plan (mends (map_of.entries (segments f))) f c (mend_else Plan plan_no_segment (map_of.entries (segments f))) amid_none
 
-      seg_case : (s : ℕ) (place : Option ℕ) (file : Option (List ℕ)) → EndsAt place file → file ≡ get f (Segment s) → (get c (Segment s) ≡ get f (Segment s)) ⊎ (get c (Segment s) ≡ mended_over file (get f (Segment s)))
+      seg_case : (s : ℕ) (place : Option ℕ) (file : Option (List ℕ)) → EndsAtPlace place file → file ≡ get f (Segment s) → (get c (Segment s) ≡ get f (Segment s)) ⊎ (get c (Segment s) ≡ mended_over file (get f (Segment s)))
           → (bodies_at (get c (Segment s)) ≡ bodies_at (get f (Segment s))) × ((x : List ℕ) → get c (Segment s) ≡ Some x → broken_at 0 x ≡ None)
       seg_case s None file ends same may =
           let gone : get c (Segment s) ≡ None = ⊎_elim (λ (e : get c (Segment s) ≡ get f (Segment s)). e ∙ sym same ∙ ends) (λ (e : get c (Segment s) ≡ mended_over file (get f (Segment s))). e ∙ ap (λ (o : Option (List ℕ)). mended_over o (get f (Segment s))) ends ∙ sym same ∙ ends) may in
@@ -362,13 +362,13 @@ module _ (f : Files) (file : List ℕ) (there : get f Flat ≡ Some file) (flat_
       by_there None is passing = none_stays (Segment s) (filter (is_unnamed (segments f)) (keys f)) f is
       by_there (Some x) is passing = removed (is_unnamed (segments f)) (Segment s) passing (keys f) f (sym (contains_key-keys f (Segment s)) ∙ ap is_some is)
 
-  pub seg_last : (s : ℕ) (place : Option ℕ) (o : Option (List ℕ)) → get (segments f) s ≡ o → EndsAt place o → IsSegmentAt place (get last (Segment s)) × (bodies_at (get last (Segment s)) ≡ of_one s bs)
+  pub seg_last : (s : ℕ) (place : Option ℕ) (o : Option (List ℕ)) → get (segments f) s ≡ o → EndsAtPlace place o → IsSegmentAt place (get last (Segment s)) × (bodies_at (get last (Segment s)) ≡ of_one s bs)
   seg_last s place None is ends =
       let gone : get last (Segment s) ≡ None = last_segment s ∙ mid_segment s ∙ ap (λ (o : Option (List ℕ)). mended_over o (get (after_all first f) (Segment s))) is ∙ unnamed_gone s is in
       let part : of_one s bs ≡ [] = subst (λ (o : Option (List ℕ)). IsPart (of_one s bs) o) (sym (ap (λ (m : Segments). get m s) are) ∙ is) (parted_at s bs) in
       (by_place place ends gone, ap bodies_at gone ∙ sym part)
     where
-      by_place : (place : Option ℕ) → EndsAt place None → get last (Segment s) ≡ None → IsSegmentAt place (get last (Segment s))
+      by_place : (place : Option ℕ) → EndsAtPlace place None → get last (Segment s) ≡ None → IsSegmentAt place (get last (Segment s))
       by_place None ends gone = gone
       by_place (Some p) ends gone = absurd (none-some ends.1 ends.2)
   seg_last s place (Some x) is ends =
@@ -380,7 +380,7 @@ module _ (f : Files) (file : List ℕ) (there : get f Flat ≡ Some file) (flat_
       let now : get last (Segment s) ≡ Some (x ++ 0 ∷ []) = last_segment s ∙ mid_segment s ∙ ap (λ (o : Option (List ℕ)). mended_over o (get (after_all first f) (Segment s))) is ∙ over in
       (by_place place ends now shut, bodies_shut (of_one s bs) (length x) (x ++ 0 ∷ []) _ now shut)
     where
-      by_place : (place : Option ℕ) → EndsAt place (Some x) → get last (Segment s) ≡ Some (x ++ 0 ∷ []) → IsShut 0 (of_one s bs) (length x) (x ++ 0 ∷ []) → IsSegmentAt place (get last (Segment s))
+      by_place : (place : Option ℕ) → EndsAtPlace place (Some x) → get last (Segment s) ≡ Some (x ++ 0 ∷ []) → IsShut 0 (of_one s bs) (length x) (x ++ 0 ∷ []) → IsSegmentAt place (get last (Segment s))
       by_place None ends now shut = absurd (none-some x (sym ends))
       by_place (Some p) ends now shut =
           let same : x ≡ ends.1 = same_Some x ends.1 ends.2 in
@@ -435,7 +435,7 @@ module _ (f : Files) (file : List ℕ) (there : get f Flat ≡ Some file) (flat_
         (amid_split second (Remove Flat ∷ []) (after_all first f) c later))
         (amid_split first (second ++ Remove Flat ∷ []) f c (subst (λ (l : List Op). Amid l f c) calls_some amid))
 
-  module _ (places : Places) (ends : (s : ℕ) → EndsAt (place_at places s) (get (segments f) s)) where
+  module _ (places : Places) (ends : (s : ℕ) → EndsAtPlace (place_at places s) (get (segments f) s)) where
     pub opened_some : (s : ℕ) → IsSegmentAt (place_at places s) (get (after_all (open_calls f) f) (Segment s))
     opened_some s = subst (λ (d : Files). IsSegmentAt (place_at places s) (get d (Segment s))) (sym is_last) (seg_last s (place_at places s) (get (segments f) s) refl (ends s)).0
 
@@ -494,7 +494,7 @@ module _ (f : Files) (waiting : List JournalEntry) (places : Places) (calls : Li
     pub follows_unbroken : Follows (Amid calls) image next → AreUnbroken next
     follows_unbroken step = record { each = λ c now. (finds_keeps c (amid_here step c now)).1 }
 
-    pub follows_tries : (n : ℕ) → Follows (Amid calls) image next → (c : Files) → next c → Tries (Opens n) f c
+    pub follows_tries : (n : ℕ) → Follows (Amid calls) image next → (c : Files) → next c → TriesOperation (Opens n) f c
     follows_tries n step c now = let keeps = (finds_keeps c (amid_here step c now)).0 in inr (inr (keeps.same, keeps.plan))
 
   pub finds_alike : (g : Files) → g ≡ after_all calls f → OpensAlike f g

@@ -6,7 +6,7 @@ use Rattle.std.specs.FinMap.{get, insert, get-insert, get-empty, empty}
 use Rattle.std.proofs.lemmas.Bool.Decides.{nat_tests}
 use Rattle.std.proofs.lemmas.List.{append-nil, length-drop}
 use Rattle.std.proofs.lemmas.List.Sums.{fold_push}
-use Rattle.dkg_journal.specs.Records.{Whole, AreBodies, entry_of, in_sections, read64, record_of, spelled}
+use Rattle.dkg_journal.specs.Records.{Whole, AreBodies, entry_in_body, in_sections, read64, record_of, spelled}
 use Rattle.dkg_journal.specs.Segments.{Segments, piece, parted, with_record}
 use Rattle.dkg_journal.proofs.Bytes.{spelled-push}
 use Rattle.dkg_journal.proofs.Order.{of_section, fold_section, fold_above, Above}
@@ -82,15 +82,15 @@ module _ (section : ℕ) where
       }
 
   -- the entries of one section of a flat file
-  section_bodies : (bs : List (List ℕ)) → of_section section (map entry_of bs) ≡ with_section section (of_one section bs)
+  section_bodies : (bs : List (List ℕ)) → of_section section (map entry_in_body bs) ≡ with_section section (of_one section bs)
   section_bodies [] = refl
-  section_bodies (b ∷ bs) = elim (read64 b == section) as (λ (t : Bool). (read64 b == section) ≡ t → cond t (entry_of b ∷ of_section section (map entry_of bs)) (of_section section (map entry_of bs)) ≡ with_section section (cond t (drop 8 b ∷ of_one section bs) (of_one section bs))) [
+  section_bodies (b ∷ bs) = elim (read64 b == section) as (λ (t : Bool). (read64 b == section) ≡ t → cond t (entry_in_body b ∷ of_section section (map entry_in_body bs)) (of_section section (map entry_in_body bs)) ≡ with_section section (cond t (drop 8 b ∷ of_one section bs) (of_one section bs))) [
     | true ↦ λ same. λ i. (equal_test (read64 b) section same i, drop 8 b) ∷ section_bodies bs i
     | false ↦ λ same. section_bodies bs
   ] refl
 
   pub flat_section : (bs : List (List ℕ)) → of_section section (in_sections bs) ≡ with_section section (of_one section bs)
-  flat_section bs = fold_section section (map entry_of bs) [] tt ∙ section_bodies bs
+  flat_section bs = fold_section section (map entry_in_body bs) [] tt ∙ section_bodies bs
 
 pub flat_above : (bs : List (List ℕ)) → Above 0 (in_sections bs)
-flat_above bs = fold_above (map entry_of bs) [] tt
+flat_above bs = fold_above (map entry_in_body bs) [] tt

@@ -5,7 +5,7 @@ use Rattle.std.proofs.lemmas.List.{get_or_past, length-take-le, get_or-take, app
 use Rattle.std.proofs.lemmas.Nat.{be_bytes_4}
 use Rattle.std.proofs.lemmas.Bool.{cases_lt}
 use Rattle.std.proofs.lemmas.Bool.Decides.{nat_tests}
-use Rattle.dkg_journal.specs.Records.{SectionEntry, number32, read32, record_of, spelled, IsBody, Ends, Stops, Front, Whole, bodies, left_over, open_gate, broken_at, IsShut}
+use Rattle.dkg_journal.specs.Records.{SectionEntry, number32, read32, record_of, spelled, IsBody, Ends, Stops, RecordsFront, Whole, bodies, left_over, open_gate, broken_at, IsShut}
 use Rattle.dkg_journal.specs.Gated.{gated, gated_from, FrontGated}
 use Rattle.dkg_journal.specs.declared.opening.JournalEntry.{JournalEntry}
 use Rattle.dkg_journal.proofs.Bytes.{spelled-push, short-push, read_spelled, shut_stops, length-number32, read32-number32}
@@ -30,7 +30,7 @@ pub record_size : (body : List ℕ) → length (record_of body) ≡ 5 + length b
 record_size body = omega (arith, length-append (number32 (length body)) body, length-number32 (length body))
 
 -- one record more
-pub front_more : (least : ℕ) (bs : List (List ℕ)) (place : ℕ) (bytes rest after body next : List ℕ) → Front least bs place bytes rest → rest ≡ 1 ∷ after → after ≡ number32 (length body) ++ (body ++ next) → IsBody least body → Front least (bs ++ body ∷ []) (place + (5 + length body)) bytes next
+pub front_more : (least : ℕ) (bs : List (List ℕ)) (place : ℕ) (bytes rest after body next : List ℕ) → RecordsFront least bs place bytes rest → rest ≡ 1 ∷ after → after ≡ number32 (length body) ++ (body ++ next) → IsBody least body → RecordsFront least (bs ++ body ∷ []) (place + (5 + length body)) bytes next
 front_more least bs place bytes rest after body next front is_open is short =
     let whole : rest ≡ record_of body ++ next = is_open ∙ ap (λ (l : List ℕ). 1 ∷ l) (is ∙ sym (append_assoc (number32 (length body)) body next)) in
     record {
@@ -40,7 +40,7 @@ front_more least bs place bytes rest after body next front is_open is short =
     }
 
 -- before the first record
-pub front_none : (least : ℕ) (bytes : List ℕ) → Front least [] 0 bytes bytes
+pub front_none : (least : ℕ) (bytes : List ℕ) → RecordsFront least [] 0 bytes bytes
 front_none least bytes = record { split = refl; size = refl; short = tt }
 
 pub gated_none : (section : ℕ) (bytes : List ℕ) (before es : List JournalEntry) → es ≡ before → FrontGated section bytes bytes before es 0
@@ -67,7 +67,7 @@ gated_more section bytes rest after before es es' e place body next front is_ope
     }
 
 -- where a gate that isn't open stands, it is a file of records
-pub whole_shut : (least : ℕ) (bs : List (List ℕ)) (place : ℕ) (bytes rest : List ℕ) (gate : ℕ) (junk : List ℕ) (front : Front least bs place bytes rest) → rest ≡ gate ∷ junk → gate ≢ 1 → IsShut least bs place bytes
+pub whole_shut : (least : ℕ) (bs : List (List ℕ)) (place : ℕ) (bytes rest : List ℕ) (gate : ℕ) (junk : List ℕ) (front : RecordsFront least bs place bytes rest) → rest ≡ gate ∷ junk → gate ≢ 1 → IsShut least bs place bytes
 whole_shut least bs place bytes rest gate junk front is shut = record {
   gate = gate;
   junk = junk;
@@ -108,7 +108,7 @@ module _ (least : ℕ) (bs : List (List ℕ)) (place : ℕ) (bytes : List ℕ) (
       by_rest (gate ∷ junk) is ends = whole_shut least bs place bytes whole.rest gate junk whole.front is ends
 
 -- what the definitions read of a front
-pub read_front : (least : ℕ) (bs : List (List ℕ)) (place : ℕ) (bytes rest : List ℕ) → Front least bs place bytes rest → Stops least rest → (bodies least (length bytes) bytes ≡ bs) × (left_over least (length bytes) bytes ≡ rest)
+pub read_front : (least : ℕ) (bs : List (List ℕ)) (place : ℕ) (bytes rest : List ℕ) → RecordsFront least bs place bytes rest → Stops least rest → (bodies least (length bytes) bytes ≡ bs) × (left_over least (length bytes) bytes ≡ rest)
 read_front least bs place bytes rest front stops =
     let read = read_spelled least bs (length bytes) rest front.short stops (omega (arith, ap length front.split, length-append (spelled bs) rest)) in
     (ap (bodies least (length bytes)) front.split ∙ read.0, ap (left_over least (length bytes)) front.split ∙ read.1)
@@ -139,16 +139,16 @@ module _ (least : ℕ) (bs : List (List ℕ)) (place : ℕ) (bytes : List ℕ) (
   rest_size = ap length whole.front.split ∙ length-append (spelled bs) whole.rest ∙ ap (λ (n : ℕ). n + length whole.rest) whole.front.size
 
 -- an open gate before what is no whole record
-broken_front : (least : ℕ) (bs : List (List ℕ)) (place : ℕ) (bytes rest after : List ℕ) → Front least bs place bytes rest → rest ≡ 1 ∷ after → Stops least (1 ∷ after) → broken_at least bytes ≡ Some place
+broken_front : (least : ℕ) (bs : List (List ℕ)) (place : ℕ) (bytes rest after : List ℕ) → RecordsFront least bs place bytes rest → rest ≡ 1 ∷ after → Stops least (1 ∷ after) → broken_at least bytes ≡ Some place
 broken_front least bs place bytes rest after front is_open stops =
     let read = read_front least bs place bytes rest front (subst (Stops least) (sym is_open) stops) in
     let long : length bytes ≡ place + suc (length after) = ap length front.split ∙ length-append (spelled bs) rest ∙ (λ i. front.size i + ap length is_open i) in
     ap (open_gate (length bytes)) (read.1 ∙ is_open) ∙ ap (λ (n : ℕ). Some n) (omega (arith, long))
 
-pub broken_length : (least : ℕ) (bs : List (List ℕ)) (place : ℕ) (bytes rest after : List ℕ) → Front least bs place bytes rest → rest ≡ 1 ∷ after → length after < 4 + read32 after → broken_at least bytes ≡ Some place
+pub broken_length : (least : ℕ) (bs : List (List ℕ)) (place : ℕ) (bytes rest after : List ℕ) → RecordsFront least bs place bytes rest → rest ≡ 1 ∷ after → length after < 4 + read32 after → broken_at least bytes ≡ Some place
 broken_length least bs place bytes rest after front is_open short = broken_front least bs place bytes rest after front is_open (grind (arith, nat_tests))
 
-pub broken_body : (least : ℕ) (bs : List (List ℕ)) (place : ℕ) (bytes rest after body next : List ℕ) → Front least bs place bytes rest → rest ≡ 1 ∷ after → after ≡ number32 (length body) ++ (body ++ next) → length body < 2 ^ 32 → length body < least → broken_at least bytes ≡ Some place
+pub broken_body : (least : ℕ) (bs : List (List ℕ)) (place : ℕ) (bytes rest after body next : List ℕ) → RecordsFront least bs place bytes rest → rest ≡ 1 ∷ after → after ≡ number32 (length body) ++ (body ++ next) → length body < 2 ^ 32 → length body < least → broken_at least bytes ≡ Some place
 broken_body least bs place bytes rest after body next front is_open is fits short =
     let counts : read32 after ≡ length body = ap read32 is ∙ read32-number32 (length body) (body ++ next) fits in
     broken_front least bs place bytes rest after front is_open (few (omega (arith, counts, short)))

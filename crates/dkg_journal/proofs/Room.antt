@@ -4,7 +4,7 @@ use Rattle.std.specs.FinMap.{get, insert, get-insert}
 use Rattle.std.specs.Cmp.{nat_cmp_total}
 use Rattle.std.specs.Ordering.{nat_cmp, eq_by_cmp, is_eq}
 use Rattle.std.proofs.lemmas.Bool.Decides.{nat_tests}
-use Rattle.dkg_journal.specs.Places.{Places, has_room, joined, place_at}
+use Rattle.dkg_journal.specs.Places.{Places, has_room, flat_place, place_at}
 
 itself : (n : ℕ) → is_eq (nat_cmp n n) ≡ true
 itself n = grind (arith, nat_tests)
@@ -17,10 +17,10 @@ room_made places places' section put = ap (λ (m : Places). has_room m section) 
 
 pub room_places : (places places' : Places) (section : ℕ) → get places section ≡ None → places' ≡ insert places section None → (s : ℕ) → place_at places' s ≡ place_at places s
 room_places places places' section none put s =
-    ap (λ (m : Places). joined (get m s)) put ∙ ap joined (get-insert nat_cmp_total places section None s) ∙ by_test (eq_by_cmp nat_cmp s section) refl
+    ap (λ (m : Places). flat_place (get m s)) put ∙ ap flat_place (get-insert nat_cmp_total places section None s) ∙ by_test (eq_by_cmp nat_cmp s section) refl
   where
-    by_test : (b : Bool) → eq_by_cmp nat_cmp s section ≡ b → joined (cond b (Some None) (get places s)) ≡ joined (get places s)
-    by_test true is = sym (ap joined (ap (get places) (equal_keys s section is) ∙ none))
+    by_test : (b : Bool) → eq_by_cmp nat_cmp s section ≡ b → flat_place (cond b (Some None) (get places s)) ≡ flat_place (get places s)
+    by_test true is = sym (ap flat_place (ap (get places) (equal_keys s section is) ∙ none))
     by_test false is = refl
 
 -- a place put where there was room

@@ -13,7 +13,7 @@ use Rattle.std.proofs.lemmas.Cmp.{eq_by_cmp_equiv}
 use Rattle.dkg_values.specs.declared.name.Name.{Name}
 use Rattle.dkg_journal.specs.Names.{name_cmp}
 use Rattle.dkg_journal.specs.Kept.{KeptBytes, settled, FileImage}
-use Rattle.dkg_journal.specs.Table.{Rows, file_at, IsUpdate, made_sure, Lands, PickedRow, Crashed, CrashedBy}
+use Rattle.dkg_journal.specs.Table.{Rows, file_at, IsUpdate, made_sure, FileLands, PickedRow, Crashed, CrashedBy}
 use Rattle.dkg_journal.proofs.Map.{find_lookup, is_sorted_true}
 use Rattle.dkg_journal.proofs.Steps.{names_total, exact_names}
 
@@ -90,22 +90,22 @@ module _ {F : Type 0} (T : F → Name → KeptBytes → Bool → KeptBytes → F
       let same : new ≡ (r.0, w) ∷ rest = is ∙ ap (λ (x : Bool). cond x ((r.0, w) ∷ rest) rest) met.0 in
       (more.0, subst (λ (l : Rows). Crashed pick (count_of f) but (r ∷ old) l more.0) (sym same) (count_of g, (refl, met.4, more.1)))
 
-  walk_lands : (f : F) → Holds f → (old new : Rows) → RetainsPairs T f old new → (q : Name) → Lands (file_at q old) (file_at q new)
-  walk_lands f holds [] new ran q = subst (λ (l : Rows). Lands None (file_at q l)) (sym ran) tt
+  walk_lands : (f : F) → Holds f → (old new : Rows) → RetainsPairs T f old new → (q : Name) → FileLands (file_at q old) (file_at q new)
+  walk_lands f holds [] new ran q = subst (λ (l : Rows). FileLands None (file_at q l)) (sym ran) tt
   walk_lands f holds (r ∷ old) new (b, w, g, rest, call, ran, is) q =
       let met = one f g r.0 r.1 w b holds call in
       let same : new ≡ (r.0, w) ∷ rest = is ∙ ap (λ (x : Bool). cond x ((r.0, w) ∷ rest) rest) met.0 in
       let more = walk_lands g met.1 old rest ran q in
-      subst (λ (l : Rows). Lands (file_at q (r ∷ old)) (file_at q l)) (sym same)
-      (elim (eq_by_cmp name_cmp q r.0) as (λ (b : Bool). Lands (cond b (Some r.1) (file_at q old)) (cond b (Some w) (file_at q rest))) [
+      subst (λ (l : Rows). FileLands (file_at q (r ∷ old)) (file_at q l)) (sym same)
+      (elim (eq_by_cmp name_cmp q r.0) as (λ (b : Bool). FileLands (cond b (Some r.1) (file_at q old)) (cond b (Some w) (file_at q rest))) [
         | true ↦ (met.2, met.3)
         | false ↦ more
       ])
 
-  pub walked : (f : F) → Holds f → count_of f ≡ pick / 4 → (old new rows : Rows) → old ≡ rows → RetainsPairs T f old new → ((q : Name) → Lands (file_at q rows) (file_at q new)) × CrashedBy pick but rows new
+  pub walked : (f : F) → Holds f → count_of f ≡ pick / 4 → (old new rows : Rows) → old ≡ rows → RetainsPairs T f old new → ((q : Name) → FileLands (file_at q rows) (file_at q new)) × CrashedBy pick but rows new
   walked f holds first old new rows view ran =
       let all = walk_crashed f holds old new ran in
       let each : Crashed pick (pick / 4) but old new all.0 = subst (λ (n : ℕ). Crashed pick n but old new all.0) first all.1 in (
-        (λ q. subst (λ (l : Rows). Lands (file_at q l) (file_at q new)) view (walk_lands f holds old new ran q)),
+        (λ q. subst (λ (l : Rows). FileLands (file_at q l) (file_at q new)) view (walk_lands f holds old new ran q)),
         subst (λ (l : Rows). CrashedBy pick but l new) view (record { left = all.0; each = each }),
       )

@@ -3,7 +3,7 @@ use Rattle.std.proofs.Common.{◌≡◌, ◌⊎◌, inl, inr, ℕ, suc, ◌+◌,
 use Rattle.std.proofs.lemmas.List.{take_at, drop_at, drop_more}
 use Rattle.std.proofs.lemmas.Bool.{cases_eq}
 use Rattle.dkg_journal.specs.Disk.{Torn, written}
-use Rattle.dkg_journal.specs.Records.{number32, record_of, spelled, AreBodies, IsBody, IsShut, Staged, bodies, behind}
+use Rattle.dkg_journal.specs.Records.{number32, record_of, spelled, AreBodies, IsBody, IsShut, Staged, bodies, behind_gate}
 use Rattle.dkg_journal.proofs.Bytes.{read_spelled, shut_stops, spelled-push, short-push, length-number32}
 
 pub shut_bodies : (least : ℕ) (bs : List (List ℕ)) (place : ℕ) (file : List ℕ) → IsShut least bs place file → bodies least (length file) file ≡ bs
@@ -35,14 +35,14 @@ torn_behind least bs place n file c flat torn =
       short = flat.short;
     }
 
-pub written_behind : (least : ℕ) (bs : List (List ℕ)) (body : List ℕ) (place : ℕ) (file : List ℕ) → IsShut least bs place file → IsBody least body → Staged least bs body place (written (place + 1) (behind body) file)
+pub written_behind : (least : ℕ) (bs : List (List ℕ)) (body : List ℕ) (place : ℕ) (file : List ℕ) → IsShut least bs place file → IsBody least body → Staged least bs body place (written (place + 1) (behind_gate body) file)
 written_behind least bs body place file flat short_body =
     let parts = split_front bs place flat.gate flat.junk file flat.is flat.size in
-    let left = drop (place + 1 + length (behind body)) file in
+    let left = drop (place + 1 + length (behind_gate body)) file in
     record {
       gate = flat.gate;
       junk = left;
-      is = ap (λ (l : List ℕ). l ++ behind body ++ left) parts.1 ∙ simp append_assoc;
+      is = ap (λ (l : List ℕ). l ++ behind_gate body ++ left) parts.1 ∙ simp append_assoc;
       shut = flat.shut;
       size = flat.size;
       short = flat.short;

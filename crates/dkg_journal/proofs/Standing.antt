@@ -9,8 +9,8 @@ use Rattle.dkg_journal.specs.Names.{Files, name_number}
 use Rattle.dkg_journal.specs.Disk.{SameElse, HasFile, Follows, Lands, IsUnchanged}
 use Rattle.dkg_journal.specs.Fuse.{Ran, RanAll}
 use Rattle.dkg_journal.specs.Records.{SectionEntry, entries, placed}
-use Rattle.dkg_journal.specs.Steps.{Firm, IsNext, SegmentAt, KeepsBut, Adds, MayAdd, Into, append_calls_at}
-use Rattle.dkg_journal.specs.Operations.{Journaled, journaled, with_name, Operation, Appends, after_operation, calls_of, InPart, Tries, Tried, Finished, TriedOn, FinishedOn, Does}
+use Rattle.dkg_journal.specs.Steps.{Firm, IsNextAppend, SegmentAt, KeepsBut, AddsEntry, MayAdd, Into, append_calls_at}
+use Rattle.dkg_journal.specs.Operations.{Journaled, journaled, with_name, JournalOperation, Appends, after_operation, changing_calls, InPart, TriesOperation, Tried, Finished, TriedOn, FinishedOn, Does}
 use Rattle.dkg_journal.specs.declared.disk.Op.{Op}
 use Rattle.dkg_journal.proofs.Steps.{weaken}
 use Rattle.dkg_journal.proofs.SameFiles.{same_files, named, has_key}
@@ -34,18 +34,18 @@ pub appended_in_part : (e : SectionEntry) (old c : Files) → SameElse (Segment 
 appended_in_part e old c others has same = stands_for c (record { entries = entries old; plan = get old Plan; names = with_name (Segment e.0) (keys old) }) same (others Plan (plan_apart e.0)) (named (Segment e.0) old c others (is_there c (Segment e.0) has))
 
 -- nothing was done
-pub tries_none : (op : Operation) (old : Files) (image : Files → Type 0) → Lands old image → (c : Files) → image c → Tries op old c
+pub tries_none : (op : JournalOperation) (old : Files) (image : Files → Type 0) → Lands old image → (c : Files) → image c → TriesOperation op old c
 tries_none op old image lands c now = inl (ap journaled (lands.only c now))
 
-pub tried_none : (op : Operation) (old : Files) (image : Files → Type 0) (f : Burn) → Lands old image → Tried op old image f f
-tried_none op old image f lands = record { each = tries_none op old image lands; spent = none_spent (calls_of op (journaled old)) f }
+pub tried_none : (op : JournalOperation) (old : Files) (image : Files → Type 0) (f : Burn) → Lands old image → Tried op old image f f
+tried_none op old image f lands = record { each = tries_none op old image lands; spent = none_spent (changing_calls op (journaled old)) f }
 
 -- the file is in each image
 pub into_has : (name : Name) (P : List ℕ → Type 0) (a b : Files → Type 0) → Follows (Into name P) a b → (c : Files) → b c → HasFile c name (λ file. Unit {0})
 into_has name P a b step c now = let from = step.each c now in record { bytes = from.2.1.bytes; there = from.2.1.there; so = tt }
 
 -- an append behind the first of its calls
-pub tries_append : (e : SectionEntry) (old : Files) (image next : Files → Type 0) → Lands old image → Follows (MayAdd e) image next → ((c : Files) → next c → HasFile c (Segment e.0) (λ file. Unit {0})) → (c : Files) → next c → Tries (Appends e) old c
+pub tries_append : (e : SectionEntry) (old : Files) (image next : Files → Type 0) → Lands old image → Follows (MayAdd e) image next → ((c : Files) → next c → HasFile c (Segment e.0) (λ file. Unit {0})) → (c : Files) → next c → TriesOperation (Appends e) old c
 tries_append e old image next lands step has c now =
     let from = step.each c now in
     let is : from.0 ≡ old = lands.only from.0 from.1 in
@@ -53,7 +53,7 @@ tries_append e old image next lands step has c now =
     inr (⊎_elim (λ same. inr (appended_in_part e old c may.others (has c now) same)) (λ added. inl (appended e old c may.others (has c now) added)) may.either)
 
 -- .. and before or in it
-pub tries_make : (e : SectionEntry) (place : Option ℕ) (old : Files) (image next : Files → Type 0) → IsNext e.0 place old image → Lands old image → Follows (KeepsBut (Segment e.0)) image next → ((p : ℕ) → place ≡ Some p → (c : Files) → next c → image c) → (c : Files) → next c → Tries (Appends e) old c
+pub tries_make : (e : SectionEntry) (place : Option ℕ) (old : Files) (image next : Files → Type 0) → IsNextAppend e.0 place old image → Lands old image → Follows (KeepsBut (Segment e.0)) image next → ((p : ℕ) → place ≡ Some p → (c : Files) → next c → image c) → (c : Files) → next c → TriesOperation (Appends e) old c
 tries_make e (Some p) old image next at lands step same c now = tries_none (Appends e) old image lands c (same p refl c now)
 tries_make e None old image next at lands step same c now =
     let from = step.each c now in
@@ -61,7 +61,7 @@ tries_make e None old image next at lands step same c now =
     let keeps : KeepsBut (Segment e.0) old c = subst (λ (d : Files). KeepsBut (Segment e.0) d c) is from.2 in
     by_file keeps (get c (Segment e.0)) refl
   where
-    by_file : KeepsBut (Segment e.0) old c → (o : Option (List ℕ)) → get c (Segment e.0) ≡ o → Tries (Appends e) old c
+    by_file : KeepsBut (Segment e.0) old c → (o : Option (List ℕ)) → get c (Segment e.0) ≡ o → TriesOperation (Appends e) old c
     by_file keeps (Some x) is = inr (inr (appended_in_part e old c keeps.others (record { bytes = x; there = is; so = tt }) keeps.same))
     by_file keeps None is = inl (ap journaled (same_files (Segment e.0) old c keeps.others (is ∙ sym at.at)))
 
@@ -76,37 +76,37 @@ settled_file name x old new image next lands firm step now = record {
       same_files name new c (λ q ne. apart q ne ∙ sym (rest q ne)) (firm.only c here ∙ sym firm.there);
 }
 
-adds_else : (e : SectionEntry) (a b : Files → Type 0) → Follows (Adds e) a b → Follows (SameElse (Segment e.0)) a b
-adds_else e a b step = weaken (Adds e) (SameElse (Segment e.0)) a b (λ x y now k. k.others) step
+adds_else : (e : SectionEntry) (a b : Files → Type 0) → Follows (AddsEntry e) a b → Follows (SameElse (Segment e.0)) a b
+adds_else e a b step = weaken (AddsEntry e) (SameElse (Segment e.0)) a b (λ x y now k. k.others) step
 
 -- the calls of an append, of what the files are
-pub append_size : (place : Option ℕ) (e : SectionEntry) (old : Files) (image : Files → Type 0) → IsNext e.0 place old image → length (append_calls_at place e) ≡ calls_of (Appends e) (journaled old)
+pub append_size : (place : Option ℕ) (e : SectionEntry) (old : Files) (image : Files → Type 0) → IsNextAppend e.0 place old image → length (append_calls_at place e) ≡ changing_calls (Appends e) (journaled old)
 append_size (Some p) e old image at = sym (ap (λ (b : Bool). cond b 4 5) (has_key old (Segment e.0) ∙ ap is_some at.at.2))
 append_size None e old image at = sym (ap (λ (b : Bool). cond b 4 5) (has_key old (Segment e.0) ∙ ap is_some at.at))
 
-pub tried_append : {D : Type 0} (made : D → D → List (DeviceCall Op) → Type 0) (a b : D) (f g : Burn) (place : Option ℕ) (e : SectionEntry) (old : Files) (image next : Files → Type 0) → IsNext e.0 place old image → Ran made a b f g (append_calls_at place e) → ((c : Files) → next c → Tries (Appends e) old c) → Tried (Appends e) old next f g
-tried_append made a b f g place e old image next at ran each = record { each = each; spent = ran_spent made a b f g (append_calls_at place e) (calls_of (Appends e) (journaled old)) (append_size place e old image at) ran }
+pub tried_append : {D : Type 0} (made : D → D → List (DeviceCall Op) → Type 0) (a b : D) (f g : Burn) (place : Option ℕ) (e : SectionEntry) (old : Files) (image next : Files → Type 0) → IsNextAppend e.0 place old image → Ran made a b f g (append_calls_at place e) → ((c : Files) → next c → TriesOperation (Appends e) old c) → Tried (Appends e) old next f g
+tried_append made a b f g place e old image next at ran each = record { each = each; spent = ran_spent made a b f g (append_calls_at place e) (changing_calls (Appends e) (journaled old)) (append_size place e old image at) ran }
 
-pub finished_append : {D : Type 0} (made : D → D → List (DeviceCall Op) → Type 0) (a b : D) (f g : Burn) (place : Option ℕ) (end : ℕ) (e : SectionEntry) (old new : Files) (image next : Files → Type 0) → IsNext e.0 place old image → Lands old image → SegmentAt e.0 end new next → Follows (Adds e) image next → next new → RanAll made a b f g (append_calls_at place e) → Finished (Appends e) old new next f g
+pub finished_append : {D : Type 0} (made : D → D → List (DeviceCall Op) → Type 0) (a b : D) (f g : Burn) (place : Option ℕ) (end : ℕ) (e : SectionEntry) (old new : Files) (image next : Files → Type 0) → IsNextAppend e.0 place old image → Lands old image → SegmentAt e.0 end new next → Follows (AddsEntry e) image next → next new → RanAll made a b f g (append_calls_at place e) → Finished (Appends e) old new next f g
 finished_append made a b f g place end e old new image next at lands segment step now all =
     let from = step.each new now in
-    let adds : Adds e old new = subst (λ (d : Files). Adds e d new) (lands.only from.0 from.1) from.2 in
+    let adds : AddsEntry e old new = subst (λ (d : Files). AddsEntry e d new) (lands.only from.0 from.1) from.2 in
     record {
       after = appended e old new adds.others (record { bytes = segment.bytes; there = segment.firm.there; so = tt }) adds.added;
       settled = settled_file (Segment e.0) segment.bytes old new image next lands segment.firm (adds_else e image next step) now;
-      spent = all_burnt made a b f g (append_calls_at place e) (calls_of (Appends e) (journaled old)) (append_size place e old image at) all;
+      spent = all_burnt made a b f g (append_calls_at place e) (changing_calls (Appends e) (journaled old)) (append_size place e old image at) all;
     }
 
 -- an operation that came to its end, and one that did not
-pub does_ok : {D T E : Type 0} (files : D → Files) (image : D → Files → Type 0) (op : Operation) (x : T) (a b : D) (f g : Burn) → TriedOn files image op a b f g → FinishedOn files image op a b f g → Does {E = E} files image op (Ok x) a b f g
+pub does_ok : {D T E : Type 0} (files : D → Files) (image : D → Files → Type 0) (op : JournalOperation) (x : T) (a b : D) (f g : Burn) → TriedOn files image op a b f g → FinishedOn files image op a b f g → Does {E = E} files image op (Ok x) a b f g
 does_ok files image op x a b f g tried done = record { tried = tried; done = done }
 
-pub does_err : {D T E : Type 0} (files : D → Files) (image : D → Files → Type 0) (op : Operation) (r : Result T E) (e : E) (a b : D) (f g : Burn) → r ≡ Err e → TriedOn files image op a b f g → Does files image op r a b f g
+pub does_err : {D T E : Type 0} (files : D → Files) (image : D → Files → Type 0) (op : JournalOperation) (r : Result T E) (e : E) (a b : D) (f g : Burn) → r ≡ Err e → TriedOn files image op a b f g → Does files image op r a b f g
 does_err {T = T} {E = E} files image op r e a b f g is tried = record { tried = tried; done = subst (λ (q : Result T E). OnOk q (FinishedOn files image op a b f g)) (sym is) tt }
 
 -- an operation that only read
 pub unchanged_lands : {D : Type 0} (files : D → Files) (image : D → Files → Type 0) (a b : D) → Lands (files a) (image a) → IsUnchanged files image a b → Lands (files b) (image b)
 unchanged_lands files image a b lands same = record { only = λ c now. lands.only c (same.same_images c now) ∙ sym same.same_files }
 
-pub unchanged_tries : {D : Type 0} (files : D → Files) (image : D → Files → Type 0) (a b : D) (op : Operation) → Lands (files a) (image a) → IsUnchanged files image a b → (c : Files) → image b c → Tries op (files a) c
+pub unchanged_tries : {D : Type 0} (files : D → Files) (image : D → Files → Type 0) (a b : D) (op : JournalOperation) → Lands (files a) (image a) → IsUnchanged files image a b → (c : Files) → image b c → TriesOperation op (files a) c
 unchanged_tries files image a b op lands same c now = inl (ap journaled (lands.only c (same.same_images c now)))

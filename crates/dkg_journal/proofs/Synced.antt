@@ -7,7 +7,7 @@ use Rattle.dkg_values.specs.declared.name.Name.{Name}
 use Rattle.dkg_journal.specs.Names.{name_cmp}
 use Rattle.dkg_journal.specs.Disk.{written}
 use Rattle.dkg_journal.specs.Kept.{KeptBytes, Undone, restored, rolled, kept_to, wrote, AreWithin}
-use Rattle.dkg_journal.specs.Table.{Rows, file_at, IsUpdate, bytes_of, synced_of, synced_at, KeepsSynced, Crashed}
+use Rattle.dkg_journal.specs.Table.{Rows, file_at, IsUpdate, file_bytes, synced_of, synced_at, KeepsSynced, Crashed}
 use Rattle.dkg_journal.proofs.AtOnce.{torn_written}
 use Rattle.dkg_journal.proofs.Loose.{rolled-push, length-rolled}
 use Rattle.dkg_journal.proofs.OnRows.{update_here, update_other}
@@ -92,13 +92,13 @@ pub same_synced : (old new : Rows) → new ≡ old → KeepsSynced old new
 same_synced old new same = record { each = λ q. ap (synced_at q) same }
 
 -- a crash whose pick says so leaves what the last sync left
-pub crashed_synced : (pick count left : ℕ) (rows next : Rows) → pick % 4 ≡ 1 → Crashed pick count None rows next left → (q : Name) → bytes_of (file_at q next) ≡ synced_at q rows
+pub crashed_synced : (pick count left : ℕ) (rows next : Rows) → pick % 4 ≡ 1 → Crashed pick count None rows next left → (q : Name) → file_bytes (file_at q next) ≡ synced_at q rows
 crashed_synced pick count left [] [] one crashed q = refl
 crashed_synced pick count left (r ∷ rs) (s ∷ ss) one (between, (same, row, rest)) q =
-    ap (λ (n : Name). bytes_of (cond (eq_by_cmp name_cmp q n) (Some s.1) (file_at q ss))) same
+    ap (λ (n : Name). file_bytes (cond (eq_by_cmp name_cmp q n) (Some s.1) (file_at q ss))) same
     ∙ by_case (eq_by_cmp name_cmp q r.0) (file_at q ss) (file_at q rs) ((row.picked refl).0.as_synced one) (crashed_synced pick between left rs ss one rest q)
   where
-    by_case : (b : Bool) (x y : Option KeptBytes) → s.1.bytes ≡ kept_to 0 r.1 → bytes_of x ≡ synced_of y → bytes_of (cond b (Some s.1) x) ≡ synced_of (cond b (Some r.1) y)
+    by_case : (b : Bool) (x y : Option KeptBytes) → s.1.bytes ≡ kept_to 0 r.1 → file_bytes x ≡ synced_of y → file_bytes (cond b (Some s.1) x) ≡ synced_of (cond b (Some r.1) y)
     by_case true x y is later = ap (λ (l : List ℕ). Some l) is
     by_case false x y is later = later
 crashed_synced pick count left [] (s ∷ ss) one crashed q = absurd crashed

@@ -4,7 +4,7 @@ use Rattle.std.proofs.lemmas.List.{map-append, length-take, length-take-le, leng
 use Rattle.std.proofs.lemmas.Grind.{same_number_lists}
 use Rattle.std.proofs.lemmas.List.Sums.{fold_push}
 use Rattle.dkg_journal.specs.Disk.{written}
-use Rattle.dkg_journal.specs.Kept.{Undone, touched, AreWithin, KeptBytes, IsOutside, FileImage, settled, restored, rolled, filled, filled_all}
+use Rattle.dkg_journal.specs.Kept.{Undone, touched, AreWithin, KeptBytes, IsUntouched, FileImage, settled, restored, rolled, filled, filled_all}
 use Rattle.dkg_journal.specs.declared.file.Undo.{Undo}
 use Rattle.dkg_journal.specs.declared.file.Span.{Span}
 use Rattle.std.specs.Prelude.{nat_le, nat_lt, ◌&&◌, ◌||◌, false}
@@ -68,7 +68,7 @@ length-filled byte (u ∷ us) bytes h =
     let size : length one ≡ length bytes = length-written u.0 (replicate (length u.1) byte) bytes (omega (arith, length-replicate (length u.1) byte, h.0)) in
     length-filled byte us one (subst (AreWithin us) (sym size) h.1) ∙ size
 
-get_or-filled : (byte : ℕ) (us : List Undone) (bytes : List ℕ) (i : ℕ) → AreWithin us (length bytes) → IsOutside us i → get_or (filled byte us bytes) i 0 ≡ get_or bytes i 0
+get_or-filled : (byte : ℕ) (us : List Undone) (bytes : List ℕ) (i : ℕ) → AreWithin us (length bytes) → IsUntouched us i → get_or (filled byte us bytes) i 0 ≡ get_or bytes i 0
 get_or-filled byte [] bytes i h out = refl
 get_or-filled byte (u ∷ us) bytes i h out =
     let one = written u.0 (replicate (length u.1) byte) bytes in

@@ -53,12 +53,12 @@ after_write None name place bytes f = f
 after_write (Some file) name place bytes f = insert f name (written place bytes file)
 
 -- what a read gives after the call has returned Ok
-abbrev pub after : Op → Files → Files
-after (WriteAt name place bytes) f = after_write (get f name) name place bytes f
-after (Sync name) f = f
-after Barrier f = f
-after (Install name bytes) f = insert f name bytes
-after (Remove name) f = remove f name
+abbrev pub files_after : Op → Files → Files
+files_after (WriteAt name place bytes) f = after_write (get f name) name place bytes f
+files_after (Sync name) f = f
+files_after Barrier f = f
+files_after (Install name bytes) f = insert f name bytes
+files_after (Remove name) f = remove f name
 
 -- what a crash leaves then, of the names that it made sure of
 abbrev pub Durable : Op → Files → Files → Type 0
@@ -70,7 +70,7 @@ Durable (Remove name) f c = get c name ≡ None
 
 -- the call has returned Ok
 pub record Did (op : Op) (old new : Files) (image : Files → Type 0) : Type 0 where
-  pub reads : new ≡ after op old
+  pub reads : new ≡ files_after op old
   pub durable : (c : Files) → image c → Durable op old c
 
 -- a crash leaves what a read gives, and nothing else

@@ -14,9 +14,9 @@ use Rattle.dkg_journal.specs.declared.disk.Op.{Op}
 use Rattle.dkg_journal.specs.declared.opening.JournalEntry.{JournalEntry}
 
 -- the place behind a segment's whole records, if there is a segment
-abbrev pub EndsAt : Option ℕ → Option (List ℕ) → Type 0
-EndsAt None file = file ≡ None
-EndsAt (Some place) file = (bs : List (List ℕ)) × (bytes : List ℕ) × (file ≡ Some bytes) × Whole 0 bs place bytes
+abbrev pub EndsAtPlace : Option ℕ → Option (List ℕ) → Type 0
+EndsAtPlace None file = file ≡ None
+EndsAtPlace (Some place) file = (bs : List (List ℕ)) × (bytes : List ℕ) × (file ≡ Some bytes) × Whole 0 bs place bytes
 
 -- the entries of a segment, with the places of their gates
 abbrev pub gated_row : ℕ × List ℕ → List (ℕ × List ℕ)
@@ -25,7 +25,7 @@ gated_row row = gated_from row.0 0 (bodies 0 (length row.1) row.1)
 -- Behind these calls: of these segments the entries were listed, the places behind them are known, and so are the calls that mend them.
 pub record Takes (before : List Op) (rows : List (ℕ × List ℕ)) (waiting : List JournalEntry) (places : Places) (mending : List Op) : Type 0 where
   pub listed : map gated waiting ≡ flat_map gated_row rows
-  pub ends : (section : ℕ) → EndsAt (place_at places section) (find nat_cmp section rows)
+  pub ends : (section : ℕ) → EndsAtPlace (place_at places section) (find nat_cmp section rows)
   pub mended : mending ≡ before ++ mends rows
   pub unbroken : broken_rows rows ≡ None
 
@@ -37,7 +37,7 @@ IsWholeFlat (Some file) = (bs : List (List ℕ)) × (place : ℕ) × Whole 8 bs 
 -- .. of the segments of a disk's files
 pub record FindsSegments (files : Files) (waiting : List JournalEntry) (places : Places) (calls : List Op) : Type 0 where
   pub listed : map gated waiting ≡ flat_map gated_row (map_of.entries (segments files))
-  pub ends : (section : ℕ) → EndsAt (place_at places section) (get (segments files) section)
+  pub ends : (section : ℕ) → EndsAtPlace (place_at places section) (get (segments files) section)
   pub made : calls ≡ open_calls files
   pub unbroken : broken files ≡ None
   pub flat : IsWholeFlat (get files Flat)

@@ -2,7 +2,7 @@
 use Rattle.std.specs.Prelude.{◌≡◌, ℕ, ◌+◌, ◌==◌, if◌then◌else◌, List, [], ◌∷◌, ◌++◌, map, length}
 use Rattle.dkg_journal.specs.Names.{Files}
 use Rattle.dkg_journal.specs.Opening.{broken}
-use Rattle.dkg_journal.specs.Records.{SectionEntry, Front, entries}
+use Rattle.dkg_journal.specs.Records.{SectionEntry, RecordsFront, entries}
 use Rattle.dkg_journal.specs.declared.opening.JournalEntry.{JournalEntry}
 
 -- an entry whose body has the place of its gate in front
@@ -34,5 +34,5 @@ pub record OpensAlike (old new : Files) : Type 0 where
 -- The bytes are whole records with these entries up to this place, each with the place of its gate, and a rest. Others stood before.
 pub record FrontGated (section : ℕ) (bytes rest : List ℕ) (before es : List JournalEntry) (place : ℕ) : Type 0 where
   pub bs : List (List ℕ)
-  pub front : Front 0 bs place bytes rest
+  pub front : RecordsFront 0 bs place bytes rest
   pub gates : map gated es ≡ map gated before ++ gated_from section 0 bs

@@ -51,15 +51,15 @@ AreWithin [] n = Unit {0}
 AreWithin (u ∷ us) n = (u.0 + length u.1 ≤ n) × AreWithin us n
 
 -- no write since the last sync has touched this place
-abbrev pub IsOutside : List Undone → ℕ → Type 0
-IsOutside [] i = Unit {0}
-IsOutside (u ∷ us) i = ((i < u.0) ⊎ (u.0 + length u.1 ≤ i)) × IsOutside us i
+abbrev pub IsUntouched : List Undone → ℕ → Type 0
+IsUntouched [] i = Unit {0}
+IsUntouched (u ∷ us) i = ((i < u.0) ⊎ (u.0 + length u.1 ≤ i)) × IsUntouched us i
 
 -- what a crash may leave
 pub record FileImage (f : KeptBytes) (c : List ℕ) : Type 0 where
   pub no_shorter : min f.synced (length f.bytes) ≤ length c
   pub same_length : length f.bytes ≡ f.synced → length c ≡ f.synced
-  pub agrees : (i : ℕ) → i < f.synced → IsOutside f.undo i → get_or c i 0 ≡ get_or f.bytes i 0
+  pub agrees : (i : ℕ) → i < f.synced → IsUntouched f.undo i → get_or c i 0 ≡ get_or f.bytes i 0
 
 -- whether a write since the last sync has touched a place
 abbrev pub touched : List Undone → ℕ → Bool

@@ -24,13 +24,13 @@ abbrev pub journaled : Files → Journaled
 journaled files = record { entries = entries files; plan = get files Plan; names = keys files }
 
 -- An opening has its number of calls with it. That of the others follows from what is held.
-pub data Operation : Type 0 where
-  Bars : Operation
-  Opens : (calls : ℕ) → Operation
-  Appends : SectionEntry → Operation
-  Prunes : (min : ℕ) → Operation
-  PutsPlan : List ℕ → Operation
-  ClearsPlan : Operation
+pub data JournalOperation : Type 0 where
+  Bars : JournalOperation
+  Opens : (calls : ℕ) → JournalOperation
+  Appends : SectionEntry → JournalOperation
+  Prunes : (min : ℕ) → JournalOperation
+  PutsPlan : List ℕ → JournalOperation
+  ClearsPlan : JournalOperation
 
 abbrev pub has_name : Name → List Name → Bool
 has_name name names = list_any (eq_by_cmp name_cmp name) names
@@ -56,7 +56,7 @@ abbrev pub opened_names : List SectionEntry → List Name → List Name
 opened_names es names = if has_name Flat names then with_segments es (filter is_plan names) else names
 
 -- what an operation makes of it
-abbrev pub after_operation : Operation → Journaled → Journaled
+abbrev pub after_operation : JournalOperation → Journaled → Journaled
 after_operation Bars j = j
 after_operation (Opens calls) j = record { entries = j.entries; plan = j.plan; names = opened_names j.entries j.names }
 after_operation (Appends e) j = record { entries = placed j.entries e; plan = j.plan; names = with_name (Segment e.0) j.names }
@@ -65,17 +65,17 @@ after_operation (PutsPlan bytes) j = record { entries = j.entries; plan = Some b
 after_operation ClearsPlan j = record { entries = j.entries; plan = None; names = without_name Plan j.names }
 
 -- how many changing calls it makes
-abbrev pub calls_of : Operation → Journaled → ℕ
-calls_of Bars j = 1
-calls_of (Opens calls) j = calls
-calls_of (Appends e) j = if has_name (Segment e.0) j.names then 4 else 5
-calls_of (Prunes min) j = length (filter (is_below min) j.names)
-calls_of (PutsPlan bytes) j = 1
-calls_of ClearsPlan j = 1
+abbrev pub changing_calls : JournalOperation → Journaled → ℕ
+changing_calls Bars j = 1
+changing_calls (Opens calls) j = calls
+changing_calls (Appends e) j = if has_name (Segment e.0) j.names then 4 else 5
+changing_calls (Prunes min) j = length (filter (is_below min) j.names)
+changing_calls (PutsPlan bytes) j = 1
+changing_calls ClearsPlan j = 1
 
 -- What a crash inside it may leave besides before and after: an append may have made its file alone, an opening may have changed names
 -- alone, and a prune may have come up to a lower minimum.
-abbrev pub InPart : Operation → Journaled → Journaled → Type 0
+abbrev pub InPart : JournalOperation → Journaled → Journaled → Type 0
 InPart (Appends e) j new = new ≡ record { entries = j.entries; plan = j.plan; names = with_name (Segment e.0) j.names }
 InPart (Opens calls) j new = (new.entries ≡ j.entries) × (new.plan ≡ j.plan)
 InPart (Prunes min) j new = (least : ℕ) × (least ≤ min) × (new ≡ after_operation (Prunes least) j)
@@ -84,27 +84,27 @@ InPart (PutsPlan bytes) j new = ⊥
 InPart ClearsPlan j new = ⊥
 
 -- from before it, from after it, or in part
-abbrev pub Tries : Operation → Files → Files → Type 0
-Tries op old c = (journaled c ≡ journaled old) ⊎ ((journaled c ≡ after_operation op (journaled old)) ⊎ InPart op (journaled old) (journaled c))
+abbrev pub TriesOperation : JournalOperation → Files → Files → Type 0
+TriesOperation op old c = (journaled c ≡ journaled old) ⊎ ((journaled c ≡ after_operation op (journaled old)) ⊎ InPart op (journaled old) (journaled c))
 
 -- An operation on a disk of which nothing was loose, wherever it ended: whatever a crash now leaves, and the calls that were counted.
-pub record Tried (op : Operation) (old : Files) (image : Files → Type 0) (before now : Burn) : Type 0 where
-  pub each : (c : Files) → image c → Tries op old c
-  pub spent : SpentUpTo (calls_of op (journaled old)) before now
+pub record Tried (op : JournalOperation) (old : Files) (image : Files → Type 0) (before now : Burn) : Type 0 where
+  pub each : (c : Files) → image c → TriesOperation op old c
+  pub spent : SpentUpTo (changing_calls op (journaled old)) before now
 
 -- .. It is done, and nothing is loose.
-pub record Finished (op : Operation) (old new : Files) (image : Files → Type 0) (before now : Burn) : Type 0 where
+pub record Finished (op : JournalOperation) (old new : Files) (image : Files → Type 0) (before now : Burn) : Type 0 where
   pub after : journaled new ≡ after_operation op (journaled old)
   pub settled : Lands new image
-  pub spent : now ≡ burnt (calls_of op (journaled old)) before
+  pub spent : now ≡ burnt (changing_calls op (journaled old)) before
 
-abbrev pub TriedOn : {D : Type 0} → (D → Files) → (D → Files → Type 0) → Operation → D → D → Burn → Burn → Type 0
+abbrev pub TriedOn : {D : Type 0} → (D → Files) → (D → Files → Type 0) → JournalOperation → D → D → Burn → Burn → Type 0
 TriedOn files image op old new before now = Lands (files old) (image old) → Tried op (files old) (image new) before now
 
-abbrev pub FinishedOn : {D : Type 0} → (D → Files) → (D → Files → Type 0) → Operation → D → D → Burn → Burn → Type 0
+abbrev pub FinishedOn : {D : Type 0} → (D → Files) → (D → Files → Type 0) → JournalOperation → D → D → Burn → Burn → Type 0
 FinishedOn files image op old new before now = Lands (files old) (image old) → Finished op (files old) (files new) (image new) before now
 
 -- A call that does an operation: it is tried at every exit, and finished at Ok.
-pub record Does {D T E : Type 0} (files : D → Files) (image : D → Files → Type 0) (op : Operation) (result : Result T E) (old new : D) (before now : Burn) : Type 0 where
+pub record Does {D T E : Type 0} (files : D → Files) (image : D → Files → Type 0) (op : JournalOperation) (result : Result T E) (old new : D) (before now : Burn) : Type 0 where
   pub tried : TriedOn files image op old new before now
   pub done : OnOk result (FinishedOn files image op old new before now)

@@ -10,12 +10,12 @@ use Rattle.dkg_journal.specs.declared.disk.Op.TheVariants.{Remove}
 abbrev pub Places : Type 0
 Places = FinMap nat_cmp (Option ℕ)
 
-abbrev pub joined : Option (Option ℕ) → Option ℕ
-joined None = None
-joined (Some place) = place
+abbrev pub flat_place : Option (Option ℕ) → Option ℕ
+flat_place None = None
+flat_place (Some place) = place
 
 abbrev pub place_at : Places → ℕ → Option ℕ
-place_at places section = joined (get places section)
+place_at places section = flat_place (get places section)
 
 abbrev pub has_room : Places → ℕ → Bool
 has_room places section = is_some (get places section)

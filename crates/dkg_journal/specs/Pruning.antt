@@ -19,7 +19,7 @@ abbrev pub prune_calls : ℕ → List Name → List Op
 prune_calls min names = removes (filter (is_below min) names)
 
 -- The segments below a minimum are gone, and the other files are the same. So the entries of sections at or above it stay.
-pub record Leaves (min : ℕ) (old new : Files) : Type 0 where
+pub record LeavesAbove (min : ℕ) (old new : Files) : Type 0 where
   pub others : (q : Name) → is_below min q ≡ false → get new q ≡ get old q
   pub gone : (section : ℕ) → section < min → get new (Segment section) ≡ None
   pub left : entries new ≡ from_section min (entries old)
@@ -28,9 +28,9 @@ pub record Leaves (min : ℕ) (old new : Files) : Type 0 where
 pub record MayLeave (min : ℕ) (old new : Files) : Type 0 where
   pub least : ℕ
   pub low : least ≤ min
-  pub leaves : Leaves least old new
+  pub leaves : LeavesAbove least old new
 
 -- A prune that gave this answer: each image is so, and at Ok the minimum is this one.
 pub record Thins {T E : Type 0} (min : ℕ) (result : Result T E) (old new : Files → Type 0) : Type 0 where
   pub may : Follows (MayLeave min) old new
-  pub left : OnOk result (Follows (Leaves min) old new)
+  pub left : OnOk result (Follows (LeavesAbove min) old new)

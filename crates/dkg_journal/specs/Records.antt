@@ -40,8 +40,8 @@ left_over least (suc n) (gate ∷ rest) = if (gate == 1) && is_whole least rest 
 abbrev pub SectionEntry : Type 0
 SectionEntry = ℕ × List ℕ
 
-abbrev pub entry_of : List ℕ → SectionEntry
-entry_of body = (read64 body, drop 8 body)
+abbrev pub entry_in_body : List ℕ → SectionEntry
+entry_in_body body = (read64 body, drop 8 body)
 
 -- behind the entries of its section and of those below
 abbrev pub placed : List SectionEntry → SectionEntry → List SectionEntry
@@ -57,7 +57,7 @@ abbrev pub from_section : ℕ → List SectionEntry → List SectionEntry
 from_section min es = filter (λ e. nat_le min e.0) es
 
 abbrev pub in_sections : List (List ℕ) → List SectionEntry
-in_sections bs = in_order (map entry_of bs)
+in_sections bs = in_order (map entry_in_body bs)
 
 -- The entries of the flat file, sections rising. There a body begins with the eight bytes of its section.
 abbrev pub flat_entries : List ℕ → List SectionEntry
@@ -100,8 +100,8 @@ pub record IsShut (least : ℕ) (bs : List (List ℕ)) (place : ℕ) (file : Lis
   pub short : AreBodies least bs
 
 -- what is written behind the closed gate: a record but for its gate, and the next gate
-abbrev pub behind : List ℕ → List ℕ
-behind body = (number32 (length body) ++ body) ++ 0 ∷ []
+abbrev pub behind_gate : List ℕ → List ℕ
+behind_gate body = (number32 (length body) ++ body) ++ 0 ∷ []
 
 -- the same file with one more record, whose gate isn't open
 pub record Staged (least : ℕ) (bs : List (List ℕ)) (body : List ℕ) (place : ℕ) (file : List ℕ) : Type 0 where
@@ -124,7 +124,7 @@ Ends [] = Unit {0}
 Ends (gate ∷ rest) = gate ≢ 1
 
 -- the bytes are records of these bodies up to this place, and a rest
-pub record Front (least : ℕ) (bs : List (List ℕ)) (place : ℕ) (bytes rest : List ℕ) : Type 0 where
+pub record RecordsFront (least : ℕ) (bs : List (List ℕ)) (place : ℕ) (bytes rest : List ℕ) : Type 0 where
   pub split : bytes ≡ spelled bs ++ rest
   pub size : length (spelled bs) ≡ place
   pub short : AreBodies least bs
@@ -132,7 +132,7 @@ pub record Front (least : ℕ) (bs : List (List ℕ)) (place : ℕ) (bytes rest 
 -- records of these bodies up to this place, where no open gate stands
 pub record Whole (least : ℕ) (bs : List (List ℕ)) (place : ℕ) (bytes : List ℕ) : Type 0 where
   pub rest : List ℕ
-  pub front : Front least bs place bytes rest
+  pub front : RecordsFront least bs place bytes rest
   pub ends : Ends rest
 
 -- the place of an open gate, where one stands in front of these last bytes of n

@@ -3,7 +3,7 @@ use Rattle.std.specs.Prelude.{◌≡◌, ◌≢◌, ◌⊎◌, ℕ, ◌+◌, Lis
 use Rattle.std.specs.FinMap.{get}
 use Rattle.dkg_journal.specs.Names.{Files}
 use Rattle.dkg_journal.specs.Disk.{SameElse, HasFile, Follows}
-use Rattle.dkg_journal.specs.Records.{SectionEntry, entries, placed, IsShut, behind}
+use Rattle.dkg_journal.specs.Records.{SectionEntry, entries, placed, IsShut, behind_gate}
 use Rattle.dkg_journal.specs.Places.{Places, place_at}
 use Rattle.dkg_values.specs.declared.name.Name.{Name}
 use Rattle.dkg_values.specs.declared.name.Name.TheVariants.{Plan, Flat, Segment}
@@ -27,7 +27,7 @@ pub record IsOpenAt (places : Places) (files : Files) (image : Files → Type 0)
   pub only : (c : Files) → image c → (q : Name) → q ≢ Plan → get c q ≡ get files q
 
 -- .. as far as an append to one section goes
-pub record IsNext (section : ℕ) (place : Option ℕ) (files : Files) (image : Files → Type 0) : Type 0 where
+pub record IsNextAppend (section : ℕ) (place : Option ℕ) (files : Files) (image : Files → Type 0) : Type 0 where
   pub no_flat : (c : Files) → image c → get c Flat ≡ None
   pub at : IsSegmentAt place (get files (Segment section))
   pub only : (c : Files) → image c → get c (Segment section) ≡ get files (Segment section)
@@ -54,7 +54,7 @@ pub record KeepsBut (name : Name) (old new : Files) : Type 0 where
   pub same : entries new ≡ entries old
 
 -- only the segment of an entry's section may change, and there is that entry more
-pub record Adds (e : SectionEntry) (old new : Files) : Type 0 where
+pub record AddsEntry (e : SectionEntry) (old new : Files) : Type 0 where
   pub others : SameElse (Segment e.0) old new
   pub added : entries new ≡ placed (entries old) e
 
@@ -66,22 +66,22 @@ pub record MayAdd (e : SectionEntry) (old new : Files) : Type 0 where
 -- An append that gave this answer: each image has the entries from before, with the new one or without, and at Ok with it.
 pub record Grows {T E : Type 0} (e : SectionEntry) (result : Result T E) (old new : Files → Type 0) : Type 0 where
   pub may : Follows (MayAdd e) old new
-  pub added : OnOk result (Follows (Adds e) old new)
+  pub added : OnOk result (Follows (AddsEntry e) old new)
 
-abbrev pub start : Option ℕ → ℕ
-start None = 0
-start (Some place) = place
+abbrev pub place_or_start : Option ℕ → ℕ
+place_or_start None = 0
+place_or_start (Some place) = place
 
 abbrev pub make_segment : ℕ → Op
 make_segment section = Install (Segment section) (0 ∷ [])
 
 -- the changing calls of an append where the file is there
 abbrev pub record_calls : ℕ → SectionEntry → List Op
-record_calls place e = WriteAt (Segment e.0) (place + 1) (behind e.1) ∷ Sync (Segment e.0) ∷ WriteAt (Segment e.0) place (1 ∷ []) ∷ Sync (Segment e.0) ∷ []
+record_calls place e = WriteAt (Segment e.0) (place + 1) (behind_gate e.1) ∷ Sync (Segment e.0) ∷ WriteAt (Segment e.0) place (1 ∷ []) ∷ Sync (Segment e.0) ∷ []
 
 abbrev pub make_calls : ℕ → Option ℕ → List Op
 make_calls section (Some place) = []
 make_calls section None = make_segment section ∷ []
 
 abbrev pub append_calls_at : Option ℕ → SectionEntry → List Op
-append_calls_at place e = make_calls e.0 place ++ record_calls (start place) e
+append_calls_at place e = make_calls e.0 place ++ record_calls (place_or_start place) e

@@ -28,11 +28,11 @@ made_sure None = None
 made_sure (Some f) = Some (settled f.bytes)
 
 -- a crash leaves the file as one of its images, with nothing loose
-abbrev pub Lands : Option KeptBytes → Option KeptBytes → Type 0
-Lands None None = Unit {0}
-Lands (Some f) (Some g) = FileImage f g.bytes × (g ≡ settled g.bytes)
-Lands None (Some g) = ⊥
-Lands (Some f) None = ⊥
+abbrev pub FileLands : Option KeptBytes → Option KeptBytes → Type 0
+FileLands None None = Unit {0}
+FileLands (Some f) (Some g) = FileImage f g.bytes × (g ≡ settled g.bytes)
+FileLands None (Some g) = ⊥
+FileLands (Some f) None = ⊥
 
 -- a name that a crash leaves as it is
 abbrev pub is_spared : Option Name → Name → Bool
@@ -124,23 +124,23 @@ settled_image : (f : KeptBytes) → FileImage f f.bytes
 settled_image f = record { no_shorter = omega arith; same_length = λ h. h; agrees = λ i low out. refl }
 
 -- what a read gives of a file, if it is there
-abbrev pub bytes_of : Option KeptBytes → Option (List ℕ)
-bytes_of None = None
-bytes_of (Some f) = Some f.bytes
+abbrev pub file_bytes : Option KeptBytes → Option (List ℕ)
+file_bytes None = None
+file_bytes (Some f) = Some f.bytes
 
-find_bytes : (rows : Rows) (q : Name) → find name_cmp q (map row_bytes rows) ≡ bytes_of (file_at q rows)
+find_bytes : (rows : Rows) (q : Name) → find name_cmp q (map row_bytes rows) ≡ file_bytes (file_at q rows)
 find_bytes [] q = refl
-find_bytes (r ∷ rows) q = elim (eq_by_cmp name_cmp q r.0) as (λ (b : Bool). cond b (Some r.1.bytes) (find name_cmp q (map row_bytes rows)) ≡ bytes_of (cond b (Some r.1) (file_at q rows))) [
+find_bytes (r ∷ rows) q = elim (eq_by_cmp name_cmp q r.0) as (λ (b : Bool). cond b (Some r.1.bytes) (find name_cmp q (map row_bytes rows)) ≡ file_bytes (cond b (Some r.1) (file_at q rows))) [
   | true ↦ refl
   | false ↦ find_bytes rows q
 ]
 
 -- what a read gives
-pub get_contents : (rows : Rows) (q : Name) → get (contents rows) q ≡ bytes_of (file_at q rows)
+pub get_contents : (rows : Rows) (q : Name) → get (contents rows) q ≡ file_bytes (file_at q rows)
 get_contents rows q = get-from_entries names_total (map row_bytes rows) q ∙ find_bytes rows q
 
 -- a disk as it reads is one of its images
-pub matches : (o : Option KeptBytes) → MatchFile o (bytes_of o)
+pub matches : (o : Option KeptBytes) → MatchFile o (file_bytes o)
 matches None = tt
 matches (Some f) = settled_image f
 

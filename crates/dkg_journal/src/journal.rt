@@ -12,8 +12,8 @@ ghost use Rattle.dkg_journal.specs.Fuse.{HasRun};
 ghost use Rattle.dkg_journal.specs.Operations.{Does, Appends};
 ghost use Rattle.dkg_journal.specs.Places.{has_room, place_at};
 ghost use Rattle.dkg_journal.specs.Ready.{IsPrepared, CanAppend};
-ghost use Rattle.dkg_journal.specs.Records.{behind};
-ghost use Rattle.dkg_journal.specs.Steps.{Firm, IsNext, Into, KeepsBut, Grows, SegmentAt, start, make_segment, make_calls, append_calls_at};
+ghost use Rattle.dkg_journal.specs.Records.{behind_gate};
+ghost use Rattle.dkg_journal.specs.Steps.{Firm, IsNextAppend, Into, KeepsBut, Grows, SegmentAt, place_or_start, make_segment, make_calls, append_calls_at};
 ghost use Rattle.dkg_values.specs.declared.name.Name.{Name};
 
 use crate::by_section::BySection;
@@ -73,11 +73,11 @@ fn make_file<D: Disk>(
     make: &Op,
 ) -> Result<(), JournalError>
     requires { make.now ≡ make_segment section }
-    ensures open { OnOk result (IsTrue D.tells → IsNext section place (D.files disk.old) (D.image disk.old)
-        → SegmentAt section (start place) (D.files disk.new) (D.image disk.new)) }
-    ensures images { IsNext section place (D.files disk.old) (D.image disk.old)
+    ensures open { OnOk result (IsTrue D.tells → IsNextAppend section place (D.files disk.old) (D.image disk.old)
+        → SegmentAt section (place_or_start place) (D.files disk.new) (D.image disk.new)) }
+    ensures images { IsNextAppend section place (D.files disk.old) (D.image disk.old)
         → Follows (KeepsBut (Name.Segment section)) (D.image disk.old) (D.image disk.new) }
-    ensures sound { IsNext section place (D.files disk.old) (D.image disk.old) → AreUnbroken (D.image disk.old) → AreUnbroken (D.image disk.new) }
+    ensures sound { IsNextAppend section place (D.files disk.old) (D.image disk.old) → AreUnbroken (D.image disk.old) → AreUnbroken (D.image disk.new) }
     ensures same { (p : ℕ) → place ≡ Some p → disk.new ≡ disk.old }
     ensures caused { Caused (IsTrue D.tells) D.files D.image D.faults D.wants result disk.old disk.new fuse.old fuse.new }
     ensures wanted { IsErrOf result JournalError.NoMemory → Rose (D.wants disk.old) (D.wants disk.new) }
@@ -97,7 +97,7 @@ fn make_file<D: Disk>(
 #[tactic(auto, unfolding(crate::specs::Records::number32))]
 fn bytes_behind(alloc: Global, body: &[u8]) -> Result<Vec<u8>, AllocError>
     requires { length body.now < 2 ^ 32 }
-    ensures { IfOk result (λ v. v.items ≡ behind body.now) }
+    ensures { IfOk result (λ v. v.items ≡ behind_gate body.now) }
 {
     let len = body.len() as u32;
     let mut bytes = Vec::with_capacity(alloc, body.len() + 5)?;
@@ -119,7 +119,7 @@ fn prepare(alloc: Global, place: u64, section: u64, body: &[u8]) -> Result<Prepa
     requires short { length body.now < 2 ^ 32 }
     requires low { place < 2 ^ 63 }
     ensures make { IfOk result (λ p. p.make ≡ make_segment section) }
-    ensures write { IfOk result (λ p. p.write ≡ Op.WriteAt (Name.Segment section) (place + 1) (behind body.now)) }
+    ensures write { IfOk result (λ p. p.write ≡ Op.WriteAt (Name.Segment section) (place + 1) (behind_gate body.now)) }
     ensures gate { IfOk result (λ p. p.gate ≡ Op.WriteAt (Name.Segment section) place (1 ∷ [])) }
 {
     let behind = bytes_behind(alloc, body)?;
@@ -155,8 +155,8 @@ fn append_prepared<D: Disk>(
     body: &[u8],
 ) -> Result<(), JournalError>
     requires prepared { IsPrepared calls.now place (section, body.now) }
-    requires next { IsTrue D.tells → IsNext section place (D.files disk.old) (D.image disk.old) }
-    ensures open { OnOk result (IsTrue D.tells → SegmentAt section (start place + 5 + length body.now) (D.files disk.new) (D.image disk.new)) }
+    requires next { IsTrue D.tells → IsNextAppend section place (D.files disk.old) (D.image disk.old) }
+    ensures open { OnOk result (IsTrue D.tells → SegmentAt section (place_or_start place + 5 + length body.now) (D.files disk.new) (D.image disk.new)) }
     ensures grows { IsTrue D.tells → Grows (section, body.now) result (D.image disk.old) (D.image disk.new) }
     ensures sound { IsTrue D.tells → AreUnbroken (D.image disk.old) → AreUnbroken (D.image disk.new) }
     ensures does { IsTrue D.tells → Does D.files D.image (Appends (section, body.now)) result disk.old disk.new fuse.old fuse.new }

@@ -7,7 +7,7 @@ ghost use Rattle.dkg_journal.specs.Disk.{Allowed, Inside, Follows};
 ghost use Rattle.std.specs.FinMap.Entries.{is_sorted};
 ghost use Rattle.dkg_journal.specs.Names.{name_cmp};
 ghost use Rattle.dkg_journal.specs.Kept.{KeptBytes, FileImage, settled, wrote};
-ghost use Rattle.dkg_journal.specs.Table.{Rows, RowsImage, bytes_of, contents, file_at, IsUpdate, made_sure, Lands, PickedRow, CrashedBy, Begun, KeepsSynced};
+ghost use Rattle.dkg_journal.specs.Table.{Rows, RowsImage, file_bytes, contents, file_at, IsUpdate, made_sure, FileLands, PickedRow, CrashedBy, Begun, KeepsSynced};
 ghost use Rattle.dkg_values.specs.declared.name.Name.{Name};
 
 use crate::Op;
@@ -64,7 +64,7 @@ impl Table {
 
     /// A copy of the bytes of a file, if it is there.
     pub fn read(&self, alloc: Global, name: Name) -> Result<Option<Vec<u8>>, AllocError>
-        ensures { IfOk result (λ bytes. option_map (λ v. v.items) bytes ≡ bytes_of (file_at name self.now)) }
+        ensures { IfOk result (λ bytes. option_map (λ v. v.items) bytes ≡ file_bytes (file_at name self.now)) }
     {
         match self.get(name) {
             None => Ok(None),
@@ -158,7 +158,7 @@ impl Table {
 
     /// What a crash leaves by its pick, of all files but one that is made sure of.
     pub fn crash(&mut self, pick: u64, but: Option<Name>)
-        ensures lands { (q : Name) → Lands (file_at q self.old) (file_at q self.new) }
+        ensures lands { (q : Name) → FileLands (file_at q self.old) (file_at q self.new) }
         ensures picked { CrashedBy pick but self.old self.new }
     {
         let mut count = pick / 4;

@@ -17,8 +17,8 @@ use Rattle.dkg_core.specs.Laws.{Law, Holds, PeerOperation, peer_law, IsDealtToIt
 use Rattle.dkg_core.specs.Heard.{recovered_in}
 use Rattle.dkg_core.specs.Enduring.{IsKeptFrom}
 use Rattle.dkg_core.specs.Forms.{IsTakenIn}
-use Rattle.dkg_core.specs.Transcripts.{lines_of}
-use Rattle.dkg_laws.specs.BlocksKept.{IsBlockLine, NodeStepsKeepNotes, NodeStepsKeepPlans, BlocksKeep, NodeStepsSpareTheirLogs}
+use Rattle.dkg_core.specs.Transcripts.{deed_lines}
+use Rattle.dkg_laws.specs.BlocksKept.{IsLineOfBlock, NodeStepsKeepNotes, NodeStepsKeepPlans, BlocksKeep, NodeStepsSpareTheirLogs}
 use Rattle.dkg_core.proofs.Behind.{steps_run_behind}
 use Rattle.dkg_laws.proofs.Enduring.{steps_keep}
 use Rattle.dkg_core.proofs.Hearing.{heard}
@@ -33,19 +33,19 @@ use Rattle.dkg_laws.proofs.Said.{runs_say}
 use Rattle.dkg_core.proofs.Stepping.{not_included}
 
 module _ {Dir : Type 0} (c : Fixed Dir) (st : Live Dir) where
-  any_past : (past : List (Deed Dir)) (line : Line) → OtherLine c (IsDealtToItself c st) (IsOffered c st) past line → IsBlockLine c st line
+  any_past : (past : List (Deed Dir)) (line : Line) → OtherLine c (IsDealtToItself c st) (IsOffered c st) past line → IsLineOfBlock c st line
   any_past past (Recorded epoch dealer public private) h = h
   any_past past (Ack epoch dealer ack) h = h
   any_past past (Offer epoch player public private) h = h
   any_past past line h = h
 
-  aside_line : (line : Line) → IsAside line → IsBlockLine c st line
+  aside_line : (line : Line) → IsAside line → IsLineOfBlock c st line
   aside_line (Recorded epoch dealer public private) aside = absurd aside
   aside_line (Ack epoch dealer ack) aside = absurd aside
   aside_line (Offer epoch player public private) aside = absurd aside
   aside_line line aside = aside
 
-  with_aside : (lines more : List Line) → AllByRecursion (IsBlockLine c st) lines → AllByRecursion IsAside more → AllByRecursion (IsBlockLine c st) (lines ++ more)
+  with_aside : (lines more : List Line) → AllByRecursion (IsLineOfBlock c st) lines → AllByRecursion IsAside more → AllByRecursion (IsLineOfBlock c st) (lines ++ more)
   with_aside [] [] all aside = tt
   with_aside [] (line ∷ more) all aside = (aside_line line aside.0, with_aside [] more tt aside.1)
   with_aside (line ∷ lines) more all aside = (all.0, with_aside lines more all.1 aside)
@@ -110,9 +110,9 @@ blocks_keep {Dir} c block st ended most w new low agreed can run =
     let law = other_law c (IsDealtToItself c st) (IsOffered c st) (reach_of c message) in
     let front = lines_obey law [] (step c message st) behind.half w.out behind.mid.out (others_acknowledge_nothing c st message tt) (runs_say course behind.half w behind.mid behind.run) in
     record {
-      lines = lines_of front.deeds ++ behind.lines;
-      out = behind.out ∙ ap (λ (ls : List Line). ls ++ behind.lines) front.added ∙ append_assoc w.out (lines_of front.deeds) behind.lines;
-      said = with_aside c st (lines_of front.deeds) behind.lines (all_lines law (IsBlockLine c st) (any_past c st) [] front.deeds front.obeys) behind.aside;
+      lines = deed_lines front.deeds ++ behind.lines;
+      out = behind.out ∙ ap (λ (ls : List Line). ls ++ behind.lines) front.added ∙ append_assoc w.out (deed_lines front.deeds) behind.lines;
+      said = with_aside c st (deed_lines front.deeds) behind.lines (all_lines law (IsLineOfBlock c st) (any_past c st) [] front.deeds front.obeys) behind.aside;
       whole = subst (λ (h : Held). IsWhole (notes h) h.secrets) (sym behind.held)
           (along_runs (IsKeptFrom (c.rules.ack_of c.me) most w.out) course behind.half w behind.mid
           (steps_keep c st message most w.out w low agreed can (record { whole = agreed.whole; added = []; out = sym (append-nil w.out); said = tt })) behind.run).whole;

@@ -26,7 +26,7 @@ use Rattle.dkg_secrets.specs.Keys.{key_cmp}
 use Rattle.dkg_core.specs.Courses.{Say, Goes, Stops, bind, Throughout}
 use Rattle.dkg_core.specs.Fixed.{Fixed}
 use Rattle.dkg_core.specs.Live.{Live, Dealer, Seat, Plays, Watches, Stage, Deals, Includes, Follows, Ends, Message, Sent, Peer, Finalized, NextLog, ReleaseLog, EpochInfoOf, Feed, Over, Cancel, Work, recorded_at, with_used}
-use Rattle.dkg_core.specs.Logs.{log_event}
+use Rattle.dkg_core.specs.Logs.{carried_log_event}
 use Rattle.dkg_core.specs.Setup as s
 use Rattle.dkg_core.specs.Dealing as d
 use Rattle.dkg_core.specs.Including as i
@@ -38,7 +38,7 @@ use Rattle.dkg_core.specs.Agreeing.{AreAgreed, CanRecord, BringsRecords}
 use Rattle.dkg_infos.specs.declared.entry.Entry.{Entry as Line}
 use Rattle.dkg_infos.specs.declared.entry.Entry.TheVariants.{Ack, Offer}
 use Rattle.dkg_core.specs.Laws.{reach_of}
-use Rattle.dkg_core.specs.Enduring.{AckOf, IsSaidFrom, IsKeptFrom, StepsKeep}
+use Rattle.dkg_core.specs.Enduring.{OwnAckOf, IsSaidFrom, IsKeptFrom, StepsKeep}
 use Rattle.dkg_core.proofs.Agreeing as ag
 use Rattle.dkg_core.proofs.Agreeing.{all_whole, whole_kept}
 use Rattle.dkg_core.proofs.Running.{along_next, along_end}
@@ -49,7 +49,7 @@ use Rattle.dkg_core.proofs.Upkeep.{along_if, along_option, tells, silent_done, s
 -- A STEP
 
 module _ {Dir : Type 0} (c : Fixed Dir) (most : ℕ) (base : List Line) where
-  abbrev ack_of : AckOf
+  abbrev ack_of : OwnAckOf
   ack_of = c.rules.ack_of c.me
 
   abbrev P : World → Type 0
@@ -175,8 +175,8 @@ module _ {Dir : Type 0} (c : Fixed Dir) (most : ℕ) (base : List Line) where
 
     deals : (st : Live Dir) (w : World) → ((dealer : Dealer) → st.participation.dealer ≡ Some dealer → IsEvent (events.Dealing c.me dealer.public)) → AreAgreed st.records w.held → P w → Throughout P (d.deals c st) w
     deals st w is a q =
-        walk.rounds c P told st (λ round. option_map_or (λ dealer. d.offers c round dealer.public (s.unsent round dealer) st) st.participation.dealer (Goes st)) w q
-        (λ round. along_option P w st.participation.dealer (λ dealer. d.offers c round dealer.public (s.unsent round dealer) st) (Goes st) (λ dealer e. offers round dealer.public (s.unsent round dealer) st w (is dealer e) a q) (λ e. q))
+        walk.rounds c P told st (λ round. option_map_or (λ dealer. d.offers c round dealer.public (s.unsent_of_round round dealer) st) st.participation.dealer (Goes st)) w q
+        (λ round. along_option P w st.participation.dealer (λ dealer. d.offers c round dealer.public (s.unsent_of_round round dealer) st) (Goes st) (λ dealer e. offers round dealer.public (s.unsent_of_round round dealer) st w (is dealer e) a q) (λ e. q))
 
   -- BLOCKS
 
@@ -184,7 +184,7 @@ module _ {Dir : Type 0} (c : Fixed Dir) (most : ℕ) (base : List Line) where
     records_log : (epoch : ℕ) (log : SignedDealerLog) (st : Live Dir) (w : World) → IsEvent (events.LogAt log.dealer block.height log.log) → P w → Throughout P (b.records_log epoch block.height log st) w
     records_log epoch log st w is q =
         along_if P w (is_some (recorded_at st.records.logs epoch log.dealer)) (Goes st)
-        (d.appends epoch (log_event log.dealer block.height log.log) (Goes (b.with_log epoch log.dealer block.height log.log st)))
+        (d.appends epoch (carried_log_event log.dealer block.height log.log) (Goes (b.with_log_at epoch log.dealer block.height log.log st)))
         (λ e. q) (λ e. (
           λ cause new tears. silent_torn ack_of most base epoch (events.LogAt log.dealer block.height log.log) is refl w new cause tears q,
           silent_done ack_of most base epoch (events.LogAt log.dealer block.height log.log) is refl w q,

@@ -19,7 +19,7 @@ use Rattle.dkg_core.specs.Live.{Live, Waiting, NodeStop, Faulted, Stage, Deals, 
 use Rattle.dkg_core.specs.Logs.{canonical, filled_by}
 use Rattle.dkg_core.specs.Setup.{looks, refused_in}
 use Rattle.dkg_core.specs.Including as inc
-use Rattle.dkg_core.specs.Including.{Fed, Need, Found, Lacks, Next, can_finish, is_need, job_for, read_of}
+use Rattle.dkg_core.specs.Including.{Fed, Need, Found, Lacks, Continuation, can_finish, is_need, job_for, read_of}
 use Rattle.dkg_core.specs.Core.{step}
 use Rattle.dkg_core.specs.Entering as half
 use Rattle.dkg_core.specs.Node.{unless_once}
@@ -40,7 +40,7 @@ module _ {Dir : Type 0} (c : Fixed Dir) (st : Live Dir) where
   abbrev Only : Course Dir Fault (Live Dir) → Type 0
   Only course = OnlySays IsAskedLine Beside course
 
-  abbrev GoesOn : Next Dir → Type 0
+  abbrev GoesOn : Continuation Dir → Type 0
   GoesOn next = (made : Artifact Dir) (i : Inclusion Dir) → Only (next made (with i))
 
   -- a course that goes on from such a life
@@ -65,31 +65,31 @@ module _ {Dir : Type 0} (c : Fixed Dir) (st : Live Dir) where
       (only_if IsAskedLine Beside (count == 0) (Stops (InvalidParticipants ProviderEmpty)) few tt
       (only_if IsAskedLine Beside (nat_lt c.limit count) (Stops (InvalidParticipants (ProviderAbove count c.limit))) acts tt only))
 
-  keeps : (logs : LogMap) (next : Next Dir) → GoesOn next → GoesOn (inc.keeping logs next)
+  keeps : (logs : LogMap) (next : Continuation Dir) → GoesOn next → GoesOn (inc.keeping_artifact logs next)
   keeps logs next so made i = so made (inc.with_cached logs made (with i)).inclusion
 
-  once : (o : OneShot Dir) (output : Output) (share : Option ℕ) (i : Inclusion Dir) (next : Next Dir) → GoesOn next → Only (inc.oneshot_with c o output share (with i) next)
+  once : (o : OneShot Dir) (output : Output) (share : Option ℕ) (i : Inclusion Dir) (next : Continuation Dir) → GoesOn next → Only (inc.oneshot_with c o output share (with i) next)
   once o output None i next so = tt
   once o output (Some share) i next so =
       in_directory (inc.oneshot_made o output) (next (record { info = Some (inc.oneshot_made o output); share = Some share }) (with i)) (so (record { info = Some (inc.oneshot_made o output); share = Some share }) i)
 
-  derived : (o : Option (OneShot Dir)) (r : VerifiedLogs) (i : Inclusion Dir) (next : Next Dir) → GoesOn next → Only (inc.derives c o r (with i) next)
+  derived : (o : Option (OneShot Dir)) (r : VerifiedLogs) (i : Inclusion Dir) (next : Continuation Dir) → GoesOn next → Only (inc.derives c o r (with i) next)
   derived (Some o) r i next so =
-      only_option IsAskedLine Beside (λ (found : Verified). inc.oneshot_with c o found.output found.share (with i) (inc.keeping r.logs next)) r.result
-      (inc.keeping r.logs next (record { info = None; share = None }) (with i)) (λ found. once o found.output found.share i (inc.keeping r.logs next) (keeps r.logs next so))
+      only_option IsAskedLine Beside (λ (found : Verified). inc.oneshot_with c o found.output found.share (with i) (inc.keeping_artifact r.logs next)) r.result
+      (inc.keeping_artifact r.logs next (record { info = None; share = None }) (with i)) (λ found. once o found.output found.share i (inc.keeping_artifact r.logs next) (keeps r.logs next so))
       (keeps r.logs next so (record { info = None; share = None }) i)
   derived None r i next so =
-      only_option IsAskedLine Beside (λ (info : EpochInfo Dir). inc.derives_next c info r (with i) (inc.keeping r.logs next)) st.participation.current (Stops HeightRange)
+      only_option IsAskedLine Beside (λ (info : EpochInfo Dir). inc.derives_next c info r (with i) (inc.keeping_artifact r.logs next)) st.participation.current (Stops HeightRange)
       (λ info. let made : EpochInfo Dir = info_by c.provided info (option_map (λ (found : Verified). found.output) r.result) in
-      provided (info.epoch + 2) (inc.share_by c info r.result (λ share. inc.with_directory c made (inc.keeping r.logs next (record { info = Some made; share = share }) (with i))))
-      (shared info r.result (λ share. inc.with_directory c made (inc.keeping r.logs next (record { info = Some made; share = share }) (with i)))
-      (λ share. in_directory made (inc.keeping r.logs next (record { info = Some made; share = share }) (with i)) (keeps r.logs next so (record { info = Some made; share = share }) i)))) tt
+      provided (info.epoch + 2) (inc.share_by c info r.result (λ share. inc.with_directory c made (inc.keeping_artifact r.logs next (record { info = Some made; share = share }) (with i))))
+      (shared info r.result (λ share. inc.with_directory c made (inc.keeping_artifact r.logs next (record { info = Some made; share = share }) (with i)))
+      (λ share. in_directory made (inc.keeping_artifact r.logs next (record { info = Some made; share = share }) (with i)) (keeps r.logs next so (record { info = Some made; share = share }) i)))) tt
 
-  by_artifact : (r : VerifiedLogs) (cached : Option (Artifact Dir)) (i : Inclusion Dir) (next : Next Dir) → GoesOn next → Only (inc.artifact_by c r cached (with i) next)
+  by_artifact : (r : VerifiedLogs) (cached : Option (Artifact Dir)) (i : Inclusion Dir) (next : Continuation Dir) → GoesOn next → Only (inc.artifact_by c r cached (with i) next)
   by_artifact r (Some made) i next so = so made i
   by_artifact r None i next so = derived c.oneshot r i next so
 
-  pub artifact : (r : VerifiedLogs) (i : Inclusion Dir) (next : Next Dir) → GoesOn next → Only (inc.artifact c r (with i) next)
+  pub artifact : (r : VerifiedLogs) (i : Inclusion Dir) (next : Continuation Dir) → GoesOn next → Only (inc.artifact c r (with i) next)
   artifact r i next so = by_artifact r (inc.cached_for i.cached r.logs) i next so
 
   -- READING
@@ -100,7 +100,7 @@ module _ {Dir : Type 0} (c : Fixed Dir) (st : Live Dir) where
 
   asks_for : (round : Round) (request : ℕ) (logs : LogMap) (cached : Option (Artifact Dir)) (retained : Option VerifiedLogs) (i : Inclusion Dir) → Only (inc.asks_for_by c round request logs cached retained (with i))
   asks_for round request logs (Some made) retained i = (tt, refl)
-  asks_for round request logs None (Some r) i = artifact r i (inc.answers c request) (λ made now. (tt, refl))
+  asks_for round request logs None (Some r) i = artifact r i (inc.answers_request c request) (λ made now. (tt, refl))
   asks_for round request logs None None i = starts (job_for c round logs (with i)) (Some request) (if can_finish c round logs (with i) then refused_in c round (with i) else None) i
 
   fed : (round : Round) (request : ℕ) (i : Inclusion Dir) (f : Fed) → Only (inc.fed c round request (with i) f)
@@ -151,11 +151,11 @@ module _ {Dir : Type 0} (c : Fixed Dir) (st : Live Dir) where
   completes : (r : VerifiedLogs) (waiter : Option ℕ) → Only (inc.completes_in c r st waiter)
   completes r None = refl
   completes r (Some request) =
-      artifact r st.inclusion (λ made now. bind (inc.answers c request made now) (λ now. Goes (inc.retains c r now))) (λ made i. (tt, refl))
+      artifact r st.inclusion (λ made now. bind (inc.answers_request c request made now) (λ now. Goes (inc.retains c r now))) (λ made i. (tt, refl))
 
   pub ends : (handed : Option VerifiedLogs) (running : Option Job) → Only (inc.ends_verifying_in c handed st running)
   ends handed None = refl
-  ends handed (Some job) = completes (inc.result_of c handed job) st.inclusion.waiter
+  ends handed (Some job) = completes (inc.job_result_of c handed job) st.inclusion.waiter
 
   pub mails : (mail : Mail Dir) → IsOther (Sent mail) → Only (step c (Sent mail) st)
   mails (Peer from bytes) other = absurd other

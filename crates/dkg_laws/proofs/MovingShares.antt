@@ -33,7 +33,7 @@ use Rattle.dkg_core.specs.Courses.{Course, EndsSo, Say, Do, Call, Ask, Goes, Sto
 use Rattle.dkg_core.specs.Sources.{Tip}
 use Rattle.dkg_core.specs.Fixed.{Fixed, OneShot}
 use Rattle.dkg_core.specs.Live.{Live, Stage, Deals, Includes, Inclusion, Request, Job, VerifiedLogs, Artifact, Cached, NodeStop, Delivers, GaveNone, Finalized, awaited_height, is_last_height, recorded_at, with_tip, with_participation, with_inclusion, with_told}
-use Rattle.dkg_core.specs.Logs.{canonical, is_accepted, log_event}
+use Rattle.dkg_core.specs.Logs.{canonical, is_accepted, carried_log_event}
 use Rattle.dkg_core.specs.Setup as s
 use Rattle.dkg_core.specs.Dealing as d
 use Rattle.dkg_core.specs.Including as i
@@ -159,7 +159,7 @@ pub record Walks {Dir : Type 0} (c : Fixed Dir) (Such : ℕ → ℕ → Type 0) 
   pub prunes : (min : ℕ) → min ≤ most → (now : Live Dir) (w : World) → P w.held → Throughout {Dir = Dir} (λ (x : World). P x.held) (s.prunes min now) w
   pub commits : (info : EpochInfo Dir) (share : Option ℕ) → IfSome share (Such info.epoch) → (now : Live Dir) (w : World) → P w.held
       → Throughout {Dir = Dir} (λ (x : World). P x.held) (s.commits info (seed_read c info w.held) share now) w
-  pub records : (epoch height : ℕ) (log : SignedDealerLog) (now : Live Dir) (w : World) → P w.held → Throughout {Dir = Dir} (λ (x : World). P x.held) (d.appends epoch (log_event log.dealer height log.log) (Goes now)) w
+  pub records : (epoch height : ℕ) (log : SignedDealerLog) (now : Live Dir) (w : World) → P w.held → Throughout {Dir = Dir} (λ (x : World). P x.held) (d.appends epoch (carried_log_event log.dealer height log.log) (Goes now)) w
 
 -- .. so is what is had of the secrets kept
 module _ {Dir : Type 0} (c : Fixed Dir) (Such : ℕ → ℕ → Type 0) (most : ℕ) (R : Secrets → Type 0) (keeps : Keeps Such most R) where
@@ -235,13 +235,13 @@ module _ {Dir : Type 0} (c : Fixed Dir) (form : IsFormThrough c) (stored : OfSha
       (λ st. if s.is_late_floor c None then s.follows c st else s.draws_up c (s.participants_of info) (Some info.output) share seed st) w (walks.prunes (now.participation.epoch - 1) under now w q)
       (λ end mid q. walk.behind_prune c P (λ w line aside q. q) None info share seed end mid q)
 
-  judged : (info : EpochInfo Dir) (now : Live Dir) (valid : Result (Unit {0}) ParticipantsError) (w : World) → (now.participation.epoch - 1) ≤ most → P w → Throughout P (s.judged c None s.WasCommitted info now valid) w
+  judged : (info : EpochInfo Dir) (now : Live Dir) (valid : Result (Unit {0}) ParticipantsError) (w : World) → (now.participation.epoch - 1) ≤ most → P w → Throughout P (s.info_judged c None s.WasCommitted info now valid) w
   judged info now (Err e) w under q = q
   judged info now (Ok passed) w under q = with_parts info (share_read c info w.held) (seed_read c info w.held) now w under q
 
   sets_up : (info : EpochInfo Dir) (now : Live Dir) (w : World) → (now.participation.epoch - 1) ≤ most → P w → Throughout P (s.with_info c None s.WasCommitted info now) w
   sets_up info now w under q =
-      along_if P w (info.epoch == now.participation.epoch) (s.judged c None s.WasCommitted info now (validity c info)) (Stops (WrongEpoch now.participation.epoch info.epoch))
+      along_if P w (info.epoch == now.participation.epoch) (s.info_judged c None s.WasCommitted info now (validity c info)) (Stops (WrongEpoch now.participation.epoch info.epoch))
       (λ e. judged info now (validity c info) w under q) (λ e. q)
 
   module _ (last : is_last_height c block.height ≡ true) (info : EpochInfo Dir) (of_next : info.epoch ≡ next_epoch c block) where
@@ -360,7 +360,7 @@ module _ {Dir : Type 0} (c : Fixed Dir) (form : IsFormThrough c) (stored : OfSha
         by_result found (retains c found (with starts)).inclusion ended.has refl result w same
 
     derived : (its : Inclusion Dir) → HasAsked c stored (with its) → (retained : Option VerifiedLogs) → retained_for its.retained logs ≡ retained → (w : World) → w.held ≡ held
-        → Throughout P (b.derives_now c round block logs retained (with its)) w
+        → Throughout P (b.derives_at_block c round block logs retained (with its)) w
     derived its has (Some r) is w same =
         by_result r its has (retained_logs its.retained logs r is) (of_round st (λ x. IsResultIn c x st r) round of_epoch (has.kept r (retained_is its.retained logs r is))) w same
     derived its has None is w same = verifies its has (if can_finish c round logs (with its) then s.refused_in c round (with its) else None) refl w same
@@ -390,7 +390,7 @@ module _ {Dir : Type 0} (c : Fixed Dir) (form : IsFormThrough c) (stored : OfSha
   records_log : (epoch : ℕ) (log : SignedDealerLog) (w : World) → P w → Throughout {Dir = Dir} P (b.records_log epoch block.height log st) w
   records_log epoch log w q =
       along_if P w (is_some (recorded_at st.records.logs epoch log.dealer)) (Goes st)
-      (d.appends epoch (log_event log.dealer block.height log.log) (Goes (b.with_log epoch log.dealer block.height log.log st))) (λ e. q) (λ e. walks.records epoch block.height log (b.with_log epoch log.dealer block.height log.log st) w q)
+      (d.appends epoch (carried_log_event log.dealer block.height log.log) (Goes (b.with_log_at epoch log.dealer block.height log.log st))) (λ e. q) (λ e. walks.records epoch block.height log (b.with_log_at epoch log.dealer block.height log.log st) w q)
 
   observes : (round : Round) (log : Option SignedDealerLog) (w : World) → P w → Throughout P (b.observes c round block st log) w
   observes round None w q = q

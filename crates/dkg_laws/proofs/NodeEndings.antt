@@ -25,8 +25,8 @@ use Rattle.dkg_core.specs.Core.{step}
 use Rattle.dkg_core.specs.Entering as half
 use Rattle.dkg_core.specs.Node.{unless_once}
 use Rattle.dkg_core.specs.Laws.{IsQuiet}
-use Rattle.dkg_core.specs.Transcripts.{lines_of, BeginsOpened}
-use Rattle.dkg_core.specs.Splitting.{IsEarly, named}
+use Rattle.dkg_core.specs.Transcripts.{deed_lines, BeginsOpened}
+use Rattle.dkg_core.specs.Splitting.{IsEarly, fault_named}
 use Rattle.dkg_core.specs.Behind.{EndsBehind, IfEarly, IsAside}
 use Rattle.dkg_core.specs.Endings.{ComesTo}
 use Rattle.dkg_core.specs.NodeEndings.{NodeOpeningsAreQuiet, NodeStepsAreQuiet, NodeDuesAreAnswered}
@@ -40,7 +40,7 @@ use Rattle.dkg_core.proofs.Splitting.{runs_split, runs_under, came_to}
 -- THE RESHARE HALF, AND WHAT COMES BEHIND IT
 
 -- P of how a course went to its end, of how it went under other names
-of_went : {S : Type 0} (P : Ended Fault S → Type 0) (end : S) (its : Ended Fault S) → went end ≡ named Faulted its → P its → P (went end)
+of_went : {S : Type 0} (P : Ended Fault S → Type 0) (end : S) (its : Ended Fault S) → went end ≡ fault_named Faulted its → P its → P (went end)
 of_went P end (went other) is p = subst (λ end. P (went end)) (sym (same_end end other is)) p
   where
     same_end : {S : Type 0} (a b : S) → ◌≡◌ {A = Ended NodeStop S} (went a) (went b) → a ≡ b
@@ -166,7 +166,7 @@ module _ {Dir : Type 0} (c : Fixed Dir) (from : ℕ) (bytes : List ℕ) (st : Li
       either true run = done run
       either false run = done (subst (λ (course : Course Dir NodeStop (Live Dir)). EndsSo course (went last) mid new) (asks_nothing c end none) run)
 
-last_line : {Dir : Type 0} (deeds : List (Deed Dir)) (line : Line) → lines_of (deeds ++ Spoke line ∷ []) ≡ lines_of deeds ++ line ∷ []
+last_line : {Dir : Type 0} (deeds : List (Deed Dir)) (line : Line) → deed_lines (deeds ++ Spoke line ∷ []) ≡ deed_lines deeds ++ line ∷ []
 last_line [] line = refl
 last_line (Spoke its ∷ deeds) line = ap (λ (ls : List Line). its ∷ ls) (last_line deeds line)
 last_line (Did op ∷ deeds) line = last_line deeds line
@@ -192,6 +192,6 @@ node_dues_are_answered {Dir} c st end from bytes due w new none run =
     said mid now run =
         let adds = runs_add_deeds (step c (Sent (Peer from bytes)) st) (went mid) w now run in
         let last = answered c st from bytes due w.held in
-        let are = ap lines_of last.2 ∙ last_line last.0 (Ack due.round.number from last.1) in
+        let are = ap deed_lines last.2 ∙ last_line last.0 (Ack due.round.number from last.1) in
         let all = sym (adds.of_deeds ∙ ap (λ (ls : List Line). adds.added ++ ls) adds.own_end.0 ∙ append-nil adds.added) in
-        (lines_of last.0, last.1, adds.out ∙ ap (λ (ls : List Line). w.out ++ ls) (all ∙ are))
+        (deed_lines last.0, last.1, adds.out ∙ ap (λ (ls : List Line). w.out ++ ls) (all ∙ are))

@@ -21,7 +21,7 @@ use Rattle.dkg_types.specs.PayloadCodes.{its_log}
 use Rattle.dkg_secrets.specs.declared.secrets.SecretOp.{SecretOp}
 use Rattle.dkg_secrets.specs.declared.secrets.SecretOp.TheVariants.{PutDealing, Prune}
 use Rattle.dkg_secrets.proofs.Map.{keys_total, exact_keys, same_key, get_other, below_or}
-use Rattle.dkg_store.specs.Acts.{Held, OnDisk, Changes, World, does, notes, Cause, Tears, IsLeft}
+use Rattle.dkg_store.specs.Acts.{Held, OnDisk, Changes, World, does, notes, Cause, Tears, IsDiskLeft}
 use Rattle.dkg_store.specs.Events.{event_spelling, IsEvent}
 use Rattle.dkg_store.specs.Noted.{Note, Notes, noted, noted_ack, noted_log, acks_in, logs_in}
 use Rattle.dkg_store.specs.declared.event.Event.TheVariants as events
@@ -31,7 +31,7 @@ use Rattle.dkg_store.proofs.Pruned.{acks_from, logs_from}
 use Rattle.dkg_core.specs.Courses.{Course, Say, Goes, Stops, bind, Throughout}
 use Rattle.dkg_core.specs.Fixed.{Fixed}
 use Rattle.dkg_core.specs.Live.{Live, Records, Dealer, Seat, Plays, Watches, Stage, Deals, Includes, Follows, Ends, Message, Sent, Peer, Finalized, NextLog, ReleaseLog, EpochInfoOf, Feed, Over, Cancel, Work, recorded_at, with_used}
-use Rattle.dkg_core.specs.Logs.{log_event, recorded_log}
+use Rattle.dkg_core.specs.Logs.{carried_log_event, recorded_log}
 use Rattle.dkg_core.specs.Setup as s
 use Rattle.dkg_core.specs.Dealing as d
 use Rattle.dkg_core.specs.Blocks as b
@@ -71,7 +71,7 @@ module _ {Dir : Type 0} (c : Fixed Dir) (R : List SectionEntry → Type 0) (most
   changed : (op : SecretOp) (cause : Cause) (w new : World) → Tears cause (Changes op) w new → Q w → Q new
   changed op cause w new tears q = subst (λ (j : Journaled). R j.entries) (sym tears.torn.0) q
 
-  prune_torn : (min : ℕ) → min ≤ most → (w new : World) → IsLeft (Prunes min) w.held.journaled new.held.journaled → Q w → Q new
+  prune_torn : (min : ℕ) → min ≤ most → (w new : World) → IsDiskLeft (Prunes min) w.held.journaled new.held.journaled → Q w → Q new
   prune_torn min low w new (inl is) q = subst (λ (j : Journaled). R j.entries) (sym is) q
   prune_torn min low w new (inr (inl is)) q = subst (λ (j : Journaled). R j.entries) (sym is) (pruned min (notes w.held) low q)
   prune_torn min low w new (inr (inr part)) q =
@@ -94,7 +94,7 @@ pub record KeepsNotes (R : List SectionEntry → Type 0) (most : ℕ) : Type 0 w
 -- .. and by that of a log that is new
 abbrev pub KeepsLog : {Dir : Type 0} → Block Dir → (R : List SectionEntry → Type 0) → Type 0
 KeepsLog block R = (epoch : ℕ) (log : SignedDealerLog) (r : Records) (h : Held) → IsEvent (events.LogAt log.dealer block.height log.log) → AreAgreed r h → recorded_at r.logs epoch log.dealer ≡ None → R (notes h)
-    → R (placed (notes h) (epoch, event_spelling (log_event log.dealer block.height log.log)))
+    → R (placed (notes h) (epoch, event_spelling (carried_log_event log.dealer block.height log.log)))
 
 module _ {Dir : Type 0} (c : Fixed Dir) (R : List SectionEntry → Type 0) (most : ℕ) (keeps : KeepsNotes R most) where
   abbrev P : World → Type 0
@@ -170,8 +170,8 @@ module _ {Dir : Type 0} (c : Fixed Dir) (R : List SectionEntry → Type 0) (most
 
     deals : (st : Live Dir) (w : World) → ((dealer : Dealer) → st.participation.dealer ≡ Some dealer → IsEvent (events.Dealing c.me dealer.public)) → AreAgreed st.records w.held → P w → Throughout P (d.deals c st) w
     deals st w is a q =
-        walk.rounds c P (λ w line aside q. q) st (λ round. option_map_or (λ dealer. d.offers c round dealer.public (s.unsent round dealer) st) st.participation.dealer (Goes st)) w q
-        (λ round. along_option P w st.participation.dealer (λ dealer. d.offers c round dealer.public (s.unsent round dealer) st) (Goes st) (λ dealer e. offers round dealer.public (s.unsent round dealer) st w (is dealer e) a q) (λ e. q))
+        walk.rounds c P (λ w line aside q. q) st (λ round. option_map_or (λ dealer. d.offers c round dealer.public (s.unsent_of_round round dealer) st) st.participation.dealer (Goes st)) w q
+        (λ round. along_option P w st.participation.dealer (λ dealer. d.offers c round dealer.public (s.unsent_of_round round dealer) st) (Goes st) (λ dealer e. offers round dealer.public (s.unsent_of_round round dealer) st w (is dealer e) a q) (λ e. q))
 
   -- A PEER'S MESSAGE
 
@@ -217,9 +217,9 @@ module _ {Dir : Type 0} (c : Fixed Dir) (R : List SectionEntry → Type 0) (most
     records_log : KeepsLog block R → (log : SignedDealerLog) → option_and_then its_log block.payload ≡ Some log → P w → (epoch : ℕ) → Throughout {Dir = Dir} P (b.records_log epoch block.height log st) w
     records_log keeps_log log is q epoch =
         along_if P w (is_some (recorded_at st.records.logs epoch log.dealer)) (Goes st)
-        (d.appends epoch (log_event log.dealer block.height log.log) (Goes (b.with_log epoch log.dealer block.height log.log st))) (λ e. q)
+        (d.appends epoch (carried_log_event log.dealer block.height log.log) (Goes (b.with_log_at epoch log.dealer block.height log.log st))) (λ e. q)
         (λ e. let more = keeps_log epoch log st.records w.held (can.brings log is) a (not_there (recorded_at st.records.logs epoch log.dealer) e) q in
-        (λ cause new tears. appended (epoch, event_spelling (log_event log.dealer block.height log.log)) cause w new more tears q, more))
+        (λ cause new tears. appended (epoch, event_spelling (carried_log_event log.dealer block.height log.log)) cause w new more tears q, more))
 
     pub applies : (stage : Stage) → (stage ≡ Includes → KeepsLog block R) → P w → Throughout P (b.applies_in c block st stage) w
     applies Deals keeps_log q = walk.ends_dealing c P (λ w line aside q. q) most commits_read (prunes c R most keeps.pruned) block low st w q (deals can.acks st w can.dealing a q)
@@ -298,7 +298,7 @@ module _ (most : ℕ) where
 
   pub acks_keep_log : {Dir : Type 0} (held : Notes (List ℕ)) (block : Block Dir) → KeepsLog block (Still noted_ack most held)
   acks_keep_log held block epoch log r h is a none was =
-      still_silent noted_ack most held (epoch, event_spelling (log_event log.dealer block.height log.log)) (notes h) (says_ack epoch (log_event log.dealer block.height log.log) is) was
+      still_silent noted_ack most held (epoch, event_spelling (carried_log_event log.dealer block.height log.log)) (notes h) (says_ack epoch (carried_log_event log.dealer block.height log.log) is) was
 
   pub logs_keep : (held : Notes RecordedLog) → KeepsNotes (Still noted_log most held) most
   logs_keep held = record {
@@ -309,8 +309,8 @@ module _ (most : ℕ) where
 
   pub logs_keep_log : {Dir : Type 0} (held : Notes RecordedLog) (block : Block Dir) → KeepsLog block (Still noted_log most held)
   logs_keep_log held block epoch log r h is a none was =
-      still_new noted_log most held (epoch, event_spelling (log_event log.dealer block.height log.log)) (notes h) (epoch, log.dealer) (recorded_log block.height log.log)
-      (says_log epoch (log_event log.dealer block.height log.log) is) (unnoted (logs_in (notes h)) r.logs (epoch, log.dealer) a.logs none) was
+      still_new noted_log most held (epoch, event_spelling (carried_log_event log.dealer block.height log.log)) (notes h) (epoch, log.dealer) (recorded_log block.height log.log)
+      (says_log epoch (carried_log_event log.dealer block.height log.log) is) (unnoted (logs_in (notes h)) r.logs (epoch, log.dealer) a.logs none) was
 
   pub logs_stay : (held : Notes RecordedLog) → KeepsNotes (Same noted_log most held) most
   logs_stay held = record {

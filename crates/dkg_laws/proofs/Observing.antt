@@ -52,7 +52,7 @@ module _ {Dir : Type 0} (c : Fixed Dir) (round : Round) (block : Block Dir) (st 
     now_recorded = recorded_log block.height log.log
 
     abbrev looked : Bool → Live Dir
-    looked kept = if kept then st else b.with_log round.number log.dealer block.height log.log st
+    looked kept = if kept then st else b.with_log_at round.number log.dealer block.height log.log st
 
     first_in : (found : Option RecordedLog) → recorded_at st.records.logs round.number log.dealer ≡ found
         → recorded_at (looked (is_some found)).records.logs round.number log.dealer ≡ Some (first_of_both found now_recorded)

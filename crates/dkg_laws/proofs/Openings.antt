@@ -20,7 +20,7 @@ use Rattle.dkg_infos.specs.declared.fault.Fault.TheVariants.{HeightRange, Missin
 use Rattle.dkg_infos.specs.declared.info.EpochInfo.{EpochInfo}
 use Rattle.dkg_types.specs.declared.scheme.SchemeInfo.{SchemeInfo}
 use Rattle.dkg_journal.specs.Operations.{Bars, Opens}
-use Rattle.dkg_store.specs.Acts.{Held, OnDisk, after}
+use Rattle.dkg_store.specs.Acts.{Held, OnDisk, held_after}
 use Rattle.dkg_store.specs.Recorded.{restored_of}
 use Rattle.dkg_core.specs.Courses.{Course, Say, Goes, Stops, bind, under, Genesis}
 use Rattle.dkg_core.specs.Seen.{Seen}
@@ -140,7 +140,7 @@ module _ {Dir : Type 0} (c : Fixed Dir) (form : IsForm c) (devices : Option Held
     start_of_life = begun_life seen
 
     abbrev next : Option (Material Dir) → Course Dir Fault (Live Dir)
-    next kept = p.in_range c (p.resolves_plan c (p.starts_from c start_of_life) kept)
+    next kept = p.stays_in_range c (p.resolves_plan c (p.starts_from c start_of_life) kept)
 
     starts : ComesOver F G (p.starts_from c start_of_life None) devices
     starts =
@@ -162,7 +162,7 @@ module _ {Dir : Type 0} (c : Fixed Dir) (form : IsForm c) (devices : Option Held
 
 -- what the reads of an opening find
 abbrev behind : {Dir : Type 0} → Fixed Dir → Option Held → Option Held
-behind c devices = option_map (after (OnDisk (Opens c.opening_calls))) (option_map (after (OnDisk Bars)) devices)
+behind c devices = option_map (held_after (OnDisk (Opens c.opening_calls))) (option_map (held_after (OnDisk Bars)) devices)
 
 comes : {Dir : Type 0} (c : Fixed Dir) (form : IsForm c) (devices : Option Held) → ComesOver (F c form (behind c devices)) (G c form (behind c devices)) (opening c) devices
 comes c form devices = reads c form (behind c devices)

@@ -17,7 +17,7 @@ use Rattle.dkg_core.specs.Live.{Live, Message, Sent, Peer, Finalized, NextLog, R
 use Rattle.dkg_core.specs.Setup.{setup}
 use Rattle.dkg_core.specs.Core.{opening, step, opens_in, begun_life}
 use Rattle.dkg_core.specs.Laws.{Law, Holds, Anything, IsQuiet, IsSilent, PeerLine, peer_law, OtherLine, OfHalves, OfOffers, IsDealtToItself, IsOffered, other_law, prune_law, reach_of}
-use Rattle.dkg_core.specs.Transcripts.{lines_of, StepsAreQuiet, BeginsOpened, OpeningsAreQuiet}
+use Rattle.dkg_core.specs.Transcripts.{deed_lines, StepsAreQuiet, BeginsOpened, OpeningsAreQuiet}
 use Rattle.dkg_core.proofs.Hearing.{heard}
 use Rattle.dkg_core.proofs.Holding.{holds_as}
 use Rattle.dkg_core.proofs.Lines.{lines_obey, all_lines}
@@ -57,7 +57,7 @@ module _ {Dir : Type 0} (c : Fixed Dir) (st : Live Dir) (ended : Ended Fault (Li
       → SaysBy (on_devices (step c message st)) ended old new → AddsQuiet
   of_law law message so holds said =
       let front = lines_obey law [] (step c message st) ended old new holds said in
-      (lines_of front.deeds, front.added, all_lines law IsQuiet so [] front.deeds front.obeys)
+      (deed_lines front.deeds, front.added, all_lines law IsQuiet so [] front.deeds front.obeys)
 
   of_other : (message : Message Dir) → Holds (other_law c (IsDealtToItself c st) (IsOffered c st) (reach_of c message)) [] (step c message st) → SaysBy (on_devices (step c message st)) ended old new → AddsQuiet
   of_other message holds said = of_law (other_law c (IsDealtToItself c st) (IsOffered c st) (reach_of c message)) message (other_quiet c (IsDealtToItself c st) (IsOffered c st)) holds said

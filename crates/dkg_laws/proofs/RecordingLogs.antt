@@ -21,7 +21,7 @@ use Rattle.dkg_store.proofs.Pruned.{logs_from}
 use Rattle.dkg_core.specs.Courses.{Goes, bind, on_devices, Throughout}
 use Rattle.dkg_core.specs.Fixed.{Fixed}
 use Rattle.dkg_core.specs.Live.{Live, Stage, Deals, Includes, Follows, Ends, Mail, Message, Sent, Finalized, recorded_at, is_last_height, with_tip}
-use Rattle.dkg_core.specs.Logs.{is_accepted, log_event, recorded_log}
+use Rattle.dkg_core.specs.Logs.{is_accepted, carried_log_event, recorded_log}
 use Rattle.dkg_core.specs.Setup as s
 use Rattle.dkg_core.specs.Dealing as d
 use Rattle.dkg_core.specs.Including as i
@@ -86,7 +86,7 @@ module _ {Dir : Type 0} (c : Fixed Dir) (st : Live Dir) (block : Block Dir) (mos
       its_key = (round.number, log.dealer)
 
       abbrev its_entry : SectionEntry
-      its_entry = (round.number, event_spelling (log_event log.dealer block.height log.log))
+      its_entry = (round.number, event_spelling (carried_log_event log.dealer block.height log.log))
 
       recorded : recorded_at st.records.logs round.number log.dealer ≡ None → R (placed (notes w.held) its_entry)
       recorded none key above = elim (same_key keys_total exact_keys key its_key) [
@@ -108,13 +108,13 @@ module _ {Dir : Type 0} (c : Fixed Dir) (st : Live Dir) (block : Block Dir) (mos
       ]
         where
           placed_is : noted noted_log (placed (notes w.held) its_entry) ≡ insert held its_key (recorded_log block.height log.log)
-          placed_is = noted_placed noted_log its_key (recorded_log block.height log.log) its_entry (notes w.held) (says_log round.number (log_event log.dealer block.height log.log) (can.brings log carried))
+          placed_is = noted_placed noted_log its_key (recorded_log block.height log.log) its_entry (notes w.held) (says_log round.number (carried_log_event log.dealer block.height log.log) (can.brings log carried))
               (unnoted held st.records.logs its_key agreed.logs none)
 
       records : Throughout {Dir = Dir} P (b.records_log round.number block.height log st) w
       records =
           along_if P w (is_some (recorded_at st.records.logs round.number log.dealer)) (Goes st)
-          (d.appends round.number (log_event log.dealer block.height log.log) (Goes (b.with_log round.number log.dealer block.height log.log st))) (λ e. nothing_yet)
+          (d.appends round.number (carried_log_event log.dealer block.height log.log) (Goes (b.with_log_at round.number log.dealer block.height log.log st))) (λ e. nothing_yet)
           (λ e. let more = recorded (noting.not_there (recorded_at st.records.logs round.number log.dealer) e) in
           (λ cause new tears. noting.appended c R most keeps its_entry cause w new more tears nothing_yet, more))
 

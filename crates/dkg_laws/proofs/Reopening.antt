@@ -18,7 +18,7 @@ use Rattle.dkg_types.specs.PayloadCodes.{its_log}
 use Rattle.dkg_infos.specs.Validation.{validation}
 use Rattle.dkg_journal.specs.Operations as of_journal
 use Rattle.dkg_journal.specs.Operations.{Bars, Opens, PutsPlan, ClearsPlan, Journaled, InPart}
-use Rattle.dkg_store.specs.Acts.{OnDisk, Changes, World, says, does, notes, IsLeft}
+use Rattle.dkg_store.specs.Acts.{OnDisk, Changes, World, says, does, notes, IsDiskLeft}
 use Rattle.dkg_store.specs.Recorded.{restored_of}
 use Rattle.dkg_secrets.specs.declared.secrets.SecretOp.TheVariants.{PutSeed}
 use Rattle.dkg_store.proofs.Halves.{seed_halves}
@@ -33,19 +33,19 @@ use Rattle.dkg_core.specs.Blocks.{ends_once}
 use Rattle.dkg_core.specs.Core.{opening, opens_in, begun_life}
 use Rattle.dkg_core.specs.Laws.{StartsWithin}
 use Rattle.dkg_core.specs.Behind.{IsAside}
-use Rattle.dkg_core.specs.Enduring.{AckOf, IsSaidFrom, IsKeptFrom, OpeningsEndure}
+use Rattle.dkg_core.specs.Enduring.{OwnAckOf, IsSaidFrom, IsKeptFrom, OpeningsEndure}
 use Rattle.dkg_core.proofs.Opening.{above_floor}
 use Rattle.dkg_core.proofs.Upkeep as up
 use Rattle.dkg_core.proofs.Upkeep.{along_if}
 use Rattle.dkg_core.proofs.Walking as walk
 
 -- what is left of an operation that changes no entry
-left_same : (op : of_journal.Operation) (j new : Journaled) → (of_journal.after_operation op j).entries ≡ j.entries → (InPart op j new → new.entries ≡ j.entries) → IsLeft op j new → new.entries ≡ j.entries
+left_same : (op : of_journal.JournalOperation) (j new : Journaled) → (of_journal.after_operation op j).entries ≡ j.entries → (InPart op j new → new.entries ≡ j.entries) → IsDiskLeft op j new → new.entries ≡ j.entries
 left_same op j new kept part (inl is) = ap (λ (x : Journaled). x.entries) is
 left_same op j new kept part (inr (inl is)) = ap (λ (x : Journaled). x.entries) is ∙ kept
 left_same op j new kept part (inr (inr is)) = part is
 
-module _ {Dir : Type 0} (c : Fixed Dir) (ack_of : AckOf) (most : ℕ) (base : List Line) (starts : StartsWithin c most) where
+module _ {Dir : Type 0} (c : Fixed Dir) (ack_of : OwnAckOf) (most : ℕ) (base : List Line) (starts : StartsWithin c most) where
   abbrev P : World → Type 0
   P w = IsKeptFrom ack_of most base w
 
@@ -59,7 +59,7 @@ module _ {Dir : Type 0} (c : Fixed Dir) (ack_of : AckOf) (most : ℕ) (base : Li
   same_entries w new same is_es is_t q = up.over ack_of most base w new (notes w.held) w.held.secrets same is_es is_t q.whole (λ key v above got. got) q
 
   -- an operation that changes no entry, and what follows
-  behind : (op : of_journal.Operation) → ((j : Journaled) → (of_journal.after_operation op j).entries ≡ j.entries) → ((j new : Journaled) → InPart op j new → new.entries ≡ j.entries)
+  behind : (op : of_journal.JournalOperation) → ((j : Journaled) → (of_journal.after_operation op j).entries ≡ j.entries) → ((j new : Journaled) → InPart op j new → new.entries ≡ j.entries)
       → (course : Course Dir Fault (Live Dir)) (w : World) → P w → (P (does w (OnDisk op)) → Throughout P course (does w (OnDisk op))) → Throughout P (Do (OnDisk op) course) w
   behind op kept part course w q next = (
     λ cause new tears. same_entries w new tears.same (left_same op w.held.journaled new.held.journaled (kept w.held.journaled) (part w.held.journaled new.held.journaled) tears.torn.1) tears.torn.0 q,
@@ -88,9 +88,9 @@ module _ {Dir : Type 0} (c : Fixed Dir) (ack_of : AckOf) (most : ℕ) (base : Li
       (λ e. behind ClearsPlan (λ j. refl) (λ j new part. absurd part) (p.starts_from c st None) w q (λ q. starts_from st None (does w (OnDisk ClearsPlan)) q)) (λ e. starts_from st (Some m) w q)
 
   abbrev next : Live Dir → Option (Material Dir) → Course Dir Fault (Live Dir)
-  next st found = p.in_range c (p.resolves_plan c (p.starts_from c st) found)
+  next st found = p.stays_in_range c (p.resolves_plan c (p.starts_from c st) found)
 
-  in_range : (course : Course Dir Fault (Live Dir)) (w : World) → P w → Throughout P course w → Throughout P (p.in_range c course) w
+  in_range : (course : Course Dir Fault (Live Dir)) (w : World) → P w → Throughout P course w → Throughout P (p.stays_in_range c course) w
   in_range course w q t = along_if P w (option_map_or (λ t. s.is_past_range c (t.height + 1)) (start c) false) (Stops HeightRange) course (λ e. q) (λ e. t)
 
   goes : (st : Live Dir) (found : Option (Material Dir)) (w : World) → P w → Throughout P (next st found) w

@@ -10,13 +10,13 @@ use Rattle.dkg_store.proofs.Acts.{along_runs}
 use Rattle.dkg_core.specs.Courses.{on_devices}
 use Rattle.dkg_core.specs.Core.{step}
 use Rattle.dkg_core.specs.Heard.{recovered_in}
-use Rattle.dkg_core.specs.Enduring.{AckOf, IsSaidFrom, IsKeptFrom, StepsGiveBack}
+use Rattle.dkg_core.specs.Enduring.{OwnAckOf, IsSaidFrom, IsKeptFrom, StepsGiveBack}
 use Rattle.dkg_core.specs.Transcripts.{with_out}
 use Rattle.dkg_laws.proofs.Enduring.{steps_keep}
 use Rattle.dkg_laws.proofs.Transcripts.{transcripts_move}
 
 -- a dealing that was told since the beginning is given back
-module _ (ack_of : AckOf) (most : ℕ) (epoch dealer : ℕ) (public : List ℕ) (private : ℕ) where
+module _ (ack_of : OwnAckOf) (most : ℕ) (epoch dealer : ℕ) (public : List ℕ) (private : ℕ) where
   abbrev line : Line
   line = Recorded epoch dealer public private
 
@@ -29,7 +29,7 @@ module _ (ack_of : AckOf) (most : ℕ) (epoch dealer : ℕ) (public : List ℕ) 
 
 pub steps_give_back : {Dir : Type 0} → StepsGiveBack Dir
 steps_give_back c st message ended most w new low agreed can ran key pair above got =
-    let ack_of : AckOf = c.rules.ack_of c.me in
+    let ack_of : OwnAckOf = c.rules.ack_of c.me in
     let before : World = with_out (Recorded key.0 key.1 pair.0 pair.1 ∷ []) w in
     let moved = transcripts_move (on_devices (step c message st)) ended w new (Recorded key.0 key.1 pair.0 pair.1 ∷ []) ran in
     given ack_of most key.0 key.1 pair.0 pair.1 new moved.0

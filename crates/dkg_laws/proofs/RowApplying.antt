@@ -22,7 +22,7 @@ use Rattle.dkg_infos.specs.Units.{unit_spelling}
 use Rattle.dkg_infos.specs.Validation.{validation}
 use Rattle.dkg_probe.specs.Wire.{tag_after}
 use Rattle.dkg_core.specs.Live.{Event, Prepare, Propose, Verify, Subscribe, Retry, ProbeReply}
-use Rattle.dkg_core.specs.Desk.{spelled}
+use Rattle.dkg_core.specs.Desk.{block_spelled}
 use Rattle.dkg_laws.proofs.Lives.{Life, plays}
 use Rattle.dkg_laws.proofs.Worked.{Dir, life_of, configured, genesis, plain, block, info, keys, says, last_of}
 
@@ -32,7 +32,7 @@ abbrev pub member : Life Dir
 member = life_of 8 0 (genesis ∷ [])
 
 -- on a parent at height 2 a block without payload is proposed
-pub proposes : last_of (plays member (Propose (plain 2 (1 ∷ []) ∷ []) ∷ [])) ≡ says (Proposed (Some (spelled (configured 8 0) (plain 3 (2 ∷ [])))) ∷ [])
+pub proposes : last_of (plays member (Propose (plain 2 (1 ∷ []) ∷ []) ∷ [])) ≡ says (Proposed (Some (block_spelled (configured 8 0) (plain 3 (2 ∷ [])))) ∷ [])
 unfolding validation round_of
 proposes = refl
 

@@ -18,7 +18,7 @@ use Rattle.dkg_infos.specs.declared.entry.Part.TheVariants.{Player, Follow}
 use Rattle.dkg_infos.specs.declared.entry.Role.TheVariants.{Member}
 use Rattle.dkg_infos.specs.declared.entry.Why.TheVariants.{Following}
 use Rattle.dkg_infos.specs.declared.fault.Fault.TheVariants.{ConflictingBlock, DetachedBlock, SkippedHeight, FloorBlockMissing, StateSyncMaterial}
-use Rattle.dkg_infos.specs.InfoCodes.{held_at, parts_at}
+use Rattle.dkg_infos.specs.InfoCodes.{info_output_at, parts_at}
 use Rattle.dkg_infos.specs.OutcomeCodes.{outcome_after}
 use Rattle.dkg_infos.specs.Validation.{validation}
 use Rattle.dkg_store.specs.Acts.{OnDisk, Changes}
@@ -84,7 +84,7 @@ pub sixteen : plays (synced 4 (floor_block 4 ∷ [])) []
       calls = 4;
       fault = None;
     } ∷ []
-unfolding validation round_of parts_at held_at outcome_after mode_at byte_at many_at keys_at groups_at groups
+unfolding validation round_of parts_at info_output_at outcome_after mode_at byte_at many_at keys_at groups_at groups
 sixteen = refl
 
 -- a floor that lies late
@@ -95,7 +95,7 @@ pub sixteen_late : plays (synced 5 (floor_block 5 ∷ [])) (Reshare (EpochInfoOf
       calls = 4;
       fault = None;
     } ∷ says (Answer 1 (Unavailable Following) ∷ []) ∷ []
-unfolding validation round_of parts_at held_at outcome_after mode_at byte_at many_at keys_at groups_at groups
+unfolding validation round_of parts_at info_output_at outcome_after mode_at byte_at many_at keys_at groups_at groups
 sixteen_late = refl
 
 -- .. whose block isn't held
@@ -106,13 +106,13 @@ pub sixteen_missing : plays (synced 5 []) []
       calls = 2;
       fault = Some (Faulted FloorBlockMissing);
     } ∷ []
-unfolding validation round_of parts_at held_at outcome_after mode_at byte_at many_at keys_at groups_at groups
+unfolding validation round_of parts_at info_output_at outcome_after mode_at byte_at many_at keys_at groups_at groups
 sixteen_missing = refl
 
 -- stored material of an epoch that the source has left is deleted
 pub outdated : last_of (plays_over (holding_plan (material_bytes (configured 8 0) (floor_at 4))) (above 7 (7 ∷ []) (life_of 8 0 [])) [])
     ≡ record { lines = Opened 0 [] ∷ Setup 1 Early Follow ∷ Halted ∷ []; operations = OnDisk Bars ∷ OnDisk (Opens 0) ∷ OnDisk ClearsPlan ∷ []; calls = 2; fault = None }
-unfolding validation round_of parts_at held_at outcome_after mode_at byte_at many_at keys_at groups_at groups
+unfolding validation round_of parts_at info_output_at outcome_after mode_at byte_at many_at keys_at groups_at groups
 outdated = refl
 
 -- stored material is found again, and gives what provided material gave
@@ -123,11 +123,11 @@ pub stored : plays_over (holding_plan (material_bytes (configured 8 0) (floor_at
       calls = 3;
       fault = None;
     } ∷ []
-unfolding validation round_of parts_at held_at outcome_after mode_at byte_at many_at keys_at groups_at groups
+unfolding validation round_of parts_at info_output_at outcome_after mode_at byte_at many_at keys_at groups_at groups
 stored = refl
 
 -- material that is above the limit is refused before any call for it
 pub refused : plays (record (life_of 8 0 (floor_block 4 ∷ [])) { given = record (configured 8 0) { material = Some (floor_at 4); limit = 3 } }) []
     ≡ record { lines = Opened 0 [] ∷ []; operations = OnDisk Bars ∷ OnDisk (Opens 0) ∷ []; calls = 1; fault = Some (Faulted StateSyncMaterial) } ∷ []
-unfolding validation round_of parts_at held_at outcome_after mode_at byte_at many_at keys_at groups_at groups
+unfolding validation round_of parts_at info_output_at outcome_after mode_at byte_at many_at keys_at groups_at groups
 refused = refl

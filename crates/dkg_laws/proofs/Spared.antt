@@ -59,7 +59,7 @@ module _ {V : Type 0} (note_of : SectionEntry → Option (Note V)) (from_is : (m
       ∙ get-retain_keys (noted note_of es) (λ (x : ℕ × ℕ). nat_le min x.0) key (λ x tied. ap (λ (y : ℕ × ℕ). nat_le min y.0) (sym (exact_keys key x tied)))
       ∙ ap (λ (t : Bool). cond t (get (noted note_of es) key) None) (reaches min key.0 (omega (arith, low, above)))
 
-  notes_kept : (op : of_journal.Operation) (j : Journaled) → SparesNotes most (OnDisk op) → at_key (of_journal.after_operation op j) ≡ at_key j
+  notes_kept : (op : of_journal.JournalOperation) (j : Journaled) → SparesNotes most (OnDisk op) → at_key (of_journal.after_operation op j) ≡ at_key j
   notes_kept Bars j spares = refl
   notes_kept (Opens calls) j spares = refl
   notes_kept (Appends e) j spares = absurd spares
@@ -67,7 +67,7 @@ module _ {V : Type 0} (note_of : SectionEntry → Option (Note V)) (from_is : (m
   notes_kept (PutsPlan bytes) j spares = refl
   notes_kept ClearsPlan j spares = refl
 
-  notes_in_part : (op : of_journal.Operation) (j new : Journaled) → SparesNotes most (OnDisk op) → InPart op j new → at_key new ≡ at_key j
+  notes_in_part : (op : of_journal.JournalOperation) (j new : Journaled) → SparesNotes most (OnDisk op) → InPart op j new → at_key new ≡ at_key j
   notes_in_part Bars j new spares part = absurd part
   notes_in_part (Opens calls) j new spares part = ap (λ (es : List SectionEntry). get (noted note_of es) key) part.0
   notes_in_part (Appends e) j new spares part = absurd spares

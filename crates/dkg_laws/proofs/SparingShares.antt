@@ -12,7 +12,7 @@ use Rattle.dkg_store.proofs.Acts.{along_runs}
 use Rattle.dkg_core.specs.Courses.{Goes, bind, on_devices, Throughout}
 use Rattle.dkg_core.specs.Fixed.{Fixed}
 use Rattle.dkg_core.specs.Live.{Live, Stage, Deals, Includes, Follows, Ends, Sent, Finalized, is_last_height, recorded_at, with_tip}
-use Rattle.dkg_core.specs.Logs.{is_accepted, log_event}
+use Rattle.dkg_core.specs.Logs.{is_accepted, carried_log_event}
 use Rattle.dkg_core.specs.Dealing as d
 use Rattle.dkg_core.specs.Including as i
 use Rattle.dkg_core.specs.Blocks as b
@@ -35,7 +35,7 @@ module _ {Dir : Type 0} (c : Fixed Dir) (st : Live Dir) (block : Block Dir) (sec
   records_log : (epoch : ℕ) (log : SignedDealerLog) (w : World) → P w → Throughout {Dir = Dir} P (b.records_log epoch block.height log st) w
   records_log epoch log w q =
       along_if P w (is_some (recorded_at st.records.logs epoch log.dealer)) (Goes st)
-      (d.appends epoch (log_event log.dealer block.height log.log) (Goes (b.with_log epoch log.dealer block.height log.log st))) (λ e. q) (λ e. (λ cause new tears. tears.torn.0 ∙ q, q))
+      (d.appends epoch (carried_log_event log.dealer block.height log.log) (Goes (b.with_log_at epoch log.dealer block.height log.log st))) (λ e. q) (λ e. (λ cause new tears. tears.torn.0 ∙ q, q))
 
   observes : (round : Round) (log : Option SignedDealerLog) (w : World) → P w → Throughout P (b.observes c round block st log) w
   observes round None w q = q

@@ -37,14 +37,14 @@ NodeStepsKeepPlans Dir = (c : Fixed Dir) (st : Live Dir) (message : Message Dir)
     → plan new.held ≡ plan w.held
 
 -- Nothing is acknowledged, of dealings this node's own alone is recorded, and what its dealer deals is offered.
-abbrev pub IsBlockLine : {Dir : Type 0} → Fixed Dir → Live Dir → Line → Type 0
-IsBlockLine c st line = OtherLine c (IsDealtToItself c st) (IsOffered c st) [] line
+abbrev pub IsLineOfBlock : {Dir : Type 0} → Fixed Dir → Live Dir → Line → Type 0
+IsLineOfBlock c st line = OtherLine c (IsDealtToItself c st) (IsOffered c st) [] line
 
 -- Such lines were added, the devices are whole, and what they gave back of these epochs they give back.
 pub record IsKeptBehind {Dir : Type 0} (c : Fixed Dir) (st : Live Dir) (most : ℕ) (w new : World) : Type 0 where
   pub lines : List Line
   pub out : new.out ≡ w.out ++ lines
-  pub said : AllByRecursion (IsBlockLine c st) lines
+  pub said : AllByRecursion (IsLineOfBlock c st) lines
   pub whole : IsWhole (notes new.held) new.held.secrets
   pub dealings : StillNoted most (recovered_in w.held) (recovered_in new.held)
   pub acks : StillNoted most (acks_in (notes w.held)) (acks_in (notes new.held))

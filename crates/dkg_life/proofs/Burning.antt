@@ -21,7 +21,7 @@ use Rattle.dkg_core.specs.Courses.{Course, on_devices}
 use Rattle.dkg_life.specs.declared.stop.Stop.{Stop}
 use Rattle.dkg_life.specs.declared.stop.Stop.TheVariants as stop
 use Rattle.dkg_life.specs.declared.stop.Stop.TheVariants.{Fault as Faulted}
-use Rattle.dkg_life.specs.Ends.{IsOutside, by_cause, by_stop, cause_in, ends_in, fault_of, stop_of}
+use Rattle.dkg_life.specs.Ends.{IsOutside, by_cause, by_stop, cause_in, ends_in, fault_of_store, stop_of}
 use Rattle.dkg_life.specs.Made.{Burns, MakesAt, Speaks, UnlessBroken}
 use Rattle.dkg_life.proofs.Lines.{line_made}
 use Rattle.dkg_life.proofs.Said.{devices_of_pruning}
@@ -124,11 +124,11 @@ module _ {S T : Type 0} {acts : Acts Fault S} (next : S → Acts Fault T) {files
 -- A store's call, with the step's names.
 module _ {S : Type 0} {acts : Acts StoreError S} {files files_now : Files} {image now : Files → Type 0} {old new : Moment} where
   pub makes_under : (how : Ended StoreError S) → MadeAt acts how files image files_now now old new → Burns how old.fuse new.fuse
-      → MakesAt (acts_of.under fault_of acts) (renamed how) files image files_now now old new
+      → MakesAt (acts_of.under fault_of_store acts) (renamed how) files image files_now now old new
   makes_under how made burns = record { made = made_under how made; burns = burns_renamed how burns }
 
   pub makes_error : (e : StoreError) → IsOfDevices e → MadeAt acts (by_error e) files image files_now now old new → new.fuse.call ≡ old.fuse.call → new.fuse.pick ≡ old.fuse.pick
-      → MakesAt (acts_of.under fault_of acts) (by_stop (stop_of e)) files image files_now now old new
+      → MakesAt (acts_of.under fault_of_store acts) (by_stop (stop_of e)) files image files_now now old new
   makes_error e kind made call pick = record {
     made = made_error e kind made;
     burns = record { call = call; pick = pick; uncut = unless_outside S (stop_of e) (Reached old.fuse new.fuse → ⊥) (outside_of_devices e kind) };

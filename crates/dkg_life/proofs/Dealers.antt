@@ -25,7 +25,7 @@ use Rattle.dkg_store.specs.declared.store.Store.{Store}
 use Rattle.dkg_store.proofs.Own.{lookup_at}
 use Rattle.dkg_core.specs.Courses.{Course}
 use Rattle.dkg_core.specs.Fixed.{Fixed, has}
-use Rattle.dkg_core.specs.Live.{Live, of_epoch}
+use Rattle.dkg_core.specs.Live.{Live, records_of_epoch}
 use Rattle.dkg_core.specs.Live as live
 use Rattle.dkg_core.specs.Setup as setup
 use Rattle.dkg_core.proofs.Storing.{looked_up}
@@ -34,7 +34,7 @@ use Rattle.dkg_life.specs.declared.life.Stage.TheVariants.{Including}
 use Rattle.dkg_life.specs.Ends.{IsCaused, stop_of}
 use Rattle.dkg_life.specs.LiveOf.{Beside, DealsFor, DealsIn, IsToSign, dealer_of, live_of, records_of}
 use Rattle.dkg_life.specs.Rules.{CheckAckOf, DealOf, DealsBy, SignLogOf}
-use Rattle.dkg_life.specs.Steps.{MakesDealer, kept_for, stage_in, with_quorum}
+use Rattle.dkg_life.specs.Steps.{MakesDealer, kept_for, stage_begun_in, with_quorum}
 
 -- OVER A MAP
 
@@ -44,7 +44,7 @@ unsent_is acks privates [] = refl
 unsent_is acks privates (player ∷ players) = λ i. with_unsent player (looked_up player acks i) (lookup player privates) (unsent_is acks privates players i)
 
 -- .. and what it signs over
-pub held_is : (acks : AckMap) (players : List ℕ) → setup.acks_of (maps.entries acks) players ≡ held_acks acks players
+pub held_is : (acks : AckMap) (players : List ℕ) → setup.acks_in_order (maps.entries acks) players ≡ held_acks acks players
 held_is acks [] = refl
 held_is acks (player ∷ players) = λ i. with_held player (looked_up player acks i) (held_is acks players i)
 
@@ -111,7 +111,7 @@ module _ {Dir : Type 0} (c : Fixed Dir) (round : Round) (phase : Phase) (share :
     may_is : (deals_here logged : Bool) → (has round.dealers me && (is_some share || is_none round.previous)) ≡ deals_here → contains_key store.logs (round.number, me) ≡ logged
         → setup.may_deal c round share st ≡ (deals_here && not logged)
     may_is deals_here logged here there =
-        (λ i. has round.dealers (mine i) && (is_some share || is_none round.previous) && is_none (lookup (mine i) (bare_logs (of_epoch round.number (records i).logs))))
+        (λ i. has round.dealers (mine i) && (is_some share || is_none round.previous) && is_none (lookup (mine i) (bare_logs (records_of_epoch round.number (records i).logs))))
         ∙ (λ i. here i && recorded_is round.number me store.logs small i)
         ∙ ap (λ (b : Bool). deals_here && not b) there
 
@@ -131,8 +131,8 @@ module _ {Dir : Type 0} (c : Fixed Dir) (round : Round) (phase : Phase) (share :
     from_is : (d : Dealer) → maps.entries d.acks ≡ passing_acks (check_ack_of round me d.public) (at_epoch round.number store.acks) → d.finalized ≡ None
         → setup.dealer_from c round st (d.public, d.privates) ≡ dealer_of d
     from_is d acks unsigned =
-        let passes : setup.passing c round d.public (of_epoch round.number st.records.acks) ≡ maps.entries d.acks =
-        (λ i. filter (λ (a : ℕ × List ℕ). is_ok (deals.check_ack i round (mine i) d.public a.0 a.1)) (of_epoch round.number (records i).acks)) ∙ sym acks in
+        let passes : setup.passing_check c round d.public (records_of_epoch round.number st.records.acks) ≡ maps.entries d.acks =
+        (λ i. filter (λ (a : ℕ × List ℕ). is_ok (deals.check_ack i round (mine i) d.public a.0 a.1)) (records_of_epoch round.number (records i).acks)) ∙ sym acks in
         λ i. record { public = d.public; privates = d.privates; acks = passes i; log = sym unsigned i }
 
     pub one_dealer : (players : ℕ) (d : Dealer) → (has round.dealers me && (is_some share || is_none round.previous)) ≡ true → contains_key store.logs (round.number, me) ≡ false
@@ -230,7 +230,7 @@ module _ {Dir : Type 0} (c : Fixed Dir) (beside : Beside Dir) (unserved : beside
       (log : now.finalized ≡ Some (sign_log_of dealer.me dealer.round dealer.public dealer.privates (held_acks dealer.acks dealer.round.players)))
       (public : now.public ≡ dealer.public) (privates : now.privates ≡ dealer.privates) (acks : now.acks ≡ dealer.acks)
     where
-      log_is : now.finalized ≡ Some (c.rules.sign_log_of c.me round dealer.public dealer.privates (setup.acks_of (maps.entries dealer.acks) round.players))
+      log_is : now.finalized ≡ Some (c.rules.sign_log_of c.me round dealer.public dealer.privates (setup.acks_in_order (maps.entries dealer.acks) round.players))
       log_is =
           log
           ∙ (λ i. Some (sym signs i (me_is i) (round_is i) dealer.public dealer.privates (sym (held_is dealer.acks (round_is i).players) i)))
@@ -290,6 +290,6 @@ pub begins_later : {Dir : Type 0} (c : Fixed Dir) (phase : Phase) (st : Live Dir
 begins_later c phase st (inl is) = ap (λ (p : Phase). setup.in_stage c p st) (sym is)
 begins_later c phase st (inr is) = ap (λ (p : Phase). setup.in_stage c p st) (sym is)
 
-pub later_stage : (phase : Phase) → (phase ≡ Midpoint) ⊎ (phase ≡ Late) → Including ≡ stage_in phase
-later_stage phase (inl is) = ap (λ (p : Phase). stage_in p) (sym is)
-later_stage phase (inr is) = ap (λ (p : Phase). stage_in p) (sym is)
+pub later_stage : (phase : Phase) → (phase ≡ Midpoint) ⊎ (phase ≡ Late) → Including ≡ stage_begun_in phase
+later_stage phase (inl is) = ap (λ (p : Phase). stage_begun_in p) (sym is)
+later_stage phase (inr is) = ap (λ (p : Phase). stage_begun_in p) (sym is)

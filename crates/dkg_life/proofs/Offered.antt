@@ -28,7 +28,7 @@ use Rattle.dkg_life.specs.declared.stop.Stop.{Stop}
 use Rattle.dkg_life.specs.Ends.{by_stop}
 use Rattle.dkg_life.specs.LiveOf.{Beside, dealer_of, live_of, seat_of}
 use Rattle.dkg_life.specs.Made.{MakesAt, Tells}
-use Rattle.dkg_life.specs.Steps.{SameHalves, halves_of, with_public}
+use Rattle.dkg_life.specs.Steps.{SameHalves, private_halves_of, with_public}
 use Rattle.dkg_life.proofs.Burning.{makes_nothing}
 use Rattle.dkg_life.proofs.Chained.{early_makes, early_told, then_makes, then_told}
 use Rattle.dkg_life.proofs.Dealers.{unsent_is}
@@ -144,7 +144,7 @@ module _ {Dir : Type 0} (c : Fixed Dir) (round : Round) (public : List ℕ) wher
 -- WHAT IS OFFERED
 
 -- with the public half, and without it again
-pub halves_back : (public : List ℕ) (halves : List (ℕ × ℕ)) → halves_of (with_public public halves) ≡ halves
+pub halves_back : (public : List ℕ) (halves : List (ℕ × ℕ)) → private_halves_of (with_public public halves) ≡ halves
 halves_back public [] = refl
 halves_back public (p ∷ ps) = ap (λ (l : List (ℕ × ℕ)). p ∷ l) (halves_back public ps)
 
@@ -171,11 +171,11 @@ pub flat_sent : (public : List ℕ) (halves : List (ℕ × ℕ)) → flat (to_se
 flat_sent public [] = refl
 flat_sent public (p ∷ ps) = ap (λ (l : List (ℕ × List ℕ × ℕ)). (p.0, public, p.1) ∷ l) (flat_sent public ps)
 
-pub halves_more : (done : List (ℕ × List ℕ × ℕ)) (one : ℕ × List ℕ × ℕ) → halves_of (done ++ one ∷ []) ≡ halves_of done ++ (one.0, one.2) ∷ []
+pub halves_more : (done : List (ℕ × List ℕ × ℕ)) (one : ℕ × List ℕ × ℕ) → private_halves_of (done ++ one ∷ []) ≡ private_halves_of done ++ (one.0, one.2) ∷ []
 halves_more [] one = refl
 halves_more (d ∷ ds) one = ap (λ (l : List (ℕ × ℕ)). (d.0, d.2) ∷ l) (halves_more ds one)
 
-pub halves_split : (done rest : List (ℕ × List ℕ × ℕ)) (one : ℕ × List ℕ × ℕ) → halves_of (done ++ one ∷ rest) ≡ halves_of done ++ (one.0, one.2) ∷ halves_of rest
+pub halves_split : (done rest : List (ℕ × List ℕ × ℕ)) (one : ℕ × List ℕ × ℕ) → private_halves_of (done ++ one ∷ rest) ≡ private_halves_of done ++ (one.0, one.2) ∷ private_halves_of rest
 halves_split [] rest one = refl
 halves_split (d ∷ ds) rest one = ap (λ (l : List (ℕ × ℕ)). (d.0, d.2) ∷ l) (halves_split ds rest one)
 
@@ -212,47 +212,47 @@ module _ {Dir : Type 0} (c : Fixed Dir) (round : Round) (dealer : Dealer) (besid
         its.2.0.0 ∙ same_public start.dealer here.dealer dealer its.0 stays deals its.1
 
     abbrev before : Course Dir Fault (Live Dir)
-    before = dealing.offers c round dealer.public (halves_of done) (live_of beside fence start)
+    before = dealing.offers c round dealer.public (private_halves_of done) (live_of beside fence start)
 
     abbrev turn_of : Course Dir Fault (Live Dir)
     turn_of = dealing.offers c round public ((player, private) ∷ []) (live_of beside fence here)
 
     pub turn_made : (how : Ended Fault (Live Dir)) {files files_mid files_now : Files} {image between next : Files → Type 0} {old middle new : Moment}
         → MakesAt (on_devices before) (went (live_of beside fence here)) files image files_mid between old middle → MakesAt (on_devices turn_of) how files_mid between files_now next middle new
-        → MakesAt (on_devices (dealing.offers c round dealer.public (halves_of (done ++ (player, public, private) ∷ [])) (live_of beside fence start))) how files image files_now next old new
+        → MakesAt (on_devices (dealing.offers c round dealer.public (private_halves_of (done ++ (player, public, private) ∷ [])) (live_of beside fence start))) how files image files_now next old new
     turn_made how {files} {files_mid} {files_now} {image} {between} {next} {old} {middle} {new} first second =
         subst (λ (l : List (ℕ × ℕ)). MakesAt (on_devices (dealing.offers c round dealer.public l (live_of beside fence start))) how files image files_now next old new) (sym (halves_more done (player, public, private)))
-        (more_makes c round dealer.public (halves_of done) (player, private) (live_of beside fence start) (live_of beside fence here) public same how first second)
+        (more_makes c round dealer.public (private_halves_of done) (player, private) (live_of beside fence start) (live_of beside fence here) public same how first second)
 
     pub turn_said : (how : Ended Fault (Live Dir)) {out middle now : List Line} → Tells before (went (live_of beside fence here)) out middle → Tells turn_of how middle now
-        → Tells (dealing.offers c round dealer.public (halves_of (done ++ (player, public, private) ∷ [])) (live_of beside fence start)) how out now
+        → Tells (dealing.offers c round dealer.public (private_halves_of (done ++ (player, public, private) ∷ [])) (live_of beside fence start)) how out now
     turn_said how {out} {middle} {now} first second =
         subst (λ (l : List (ℕ × ℕ)). Tells (dealing.offers c round dealer.public l (live_of beside fence start)) how out now) (sym (halves_more done (player, public, private)))
-        (more_told c round dealer.public (halves_of done) (player, private) (live_of beside fence start) (live_of beside fence here) public same how first second)
+        (more_told c round dealer.public (private_halves_of done) (player, private) (live_of beside fence start) (live_of beside fence here) public same how first second)
 
     module _ (all : List (ℕ × List ℕ × ℕ)) (are : done ++ (player, public, private) ∷ rest ≡ all) where
-      are_halves : halves_of done ++ (player, private) ∷ halves_of rest ≡ halves_of all
-      are_halves = sym (halves_split done rest (player, public, private)) ∙ ap (λ (l : List (ℕ × List ℕ × ℕ)). halves_of l) are
+      are_halves : private_halves_of done ++ (player, private) ∷ private_halves_of rest ≡ private_halves_of all
+      are_halves = sym (halves_split done rest (player, public, private)) ∙ ap (λ (l : List (ℕ × List ℕ × ℕ)). private_halves_of l) are
 
       pub turn_broken : (stop : Stop) {files files_mid files_now : Files} {image between next : Files → Type 0} {old middle new : Moment}
           → MakesAt (on_devices before) (went (live_of beside fence here)) files image files_mid between old middle → MakesAt (on_devices turn_of) (by_stop stop) files_mid between files_now next middle new
-          → MakesAt (on_devices (dealing.offers c round dealer.public (halves_of all) (live_of beside fence start))) (by_stop stop) files image files_now next old new
+          → MakesAt (on_devices (dealing.offers c round dealer.public (private_halves_of all) (live_of beside fence start))) (by_stop stop) files image files_now next old new
       turn_broken stop first second =
-          end_makes c round dealer.public (halves_of done) (player, private) (live_of beside fence start) (live_of beside fence here) public same (halves_of rest) (halves_of all) are_halves stop first second
+          end_makes c round dealer.public (private_halves_of done) (player, private) (live_of beside fence start) (live_of beside fence here) public same (private_halves_of rest) (private_halves_of all) are_halves stop first second
 
       pub turn_unsaid : (stop : Stop) {out middle now : List Line} → Tells before (went (live_of beside fence here)) out middle → Tells turn_of (by_stop stop) middle now
-          → Tells (dealing.offers c round dealer.public (halves_of all) (live_of beside fence start)) (by_stop stop) out now
+          → Tells (dealing.offers c round dealer.public (private_halves_of all) (live_of beside fence start)) (by_stop stop) out now
       turn_unsaid stop first second =
-          end_told c round dealer.public (halves_of done) (player, private) (live_of beside fence start) (live_of beside fence here) public same (halves_of rest) (halves_of all) are_halves stop first second
+          end_told c round dealer.public (private_halves_of done) (player, private) (live_of beside fence start) (live_of beside fence here) public same (private_halves_of rest) (private_halves_of all) are_halves stop first second
 
 -- all turns
 module _ {Dir : Type 0} (c : Fixed Dir) (round : Round) (public : List ℕ) (st : Live Dir) (done all : List (ℕ × List ℕ × ℕ)) (same : done ≡ all) (how : Ended Fault (Live Dir)) where
-  pub all_made : {files files_now : Files} {image next : Files → Type 0} {old new : Moment} → MakesAt (on_devices (dealing.offers c round public (halves_of done) st)) how files image files_now next old new
-      → MakesAt (on_devices (dealing.offers c round public (halves_of all) st)) how files image files_now next old new
-  all_made {files} {files_now} {image} {next} {old} {new} made = subst (λ (l : List (ℕ × List ℕ × ℕ)). MakesAt (on_devices (dealing.offers c round public (halves_of l) st)) how files image files_now next old new) same made
+  pub all_made : {files files_now : Files} {image next : Files → Type 0} {old new : Moment} → MakesAt (on_devices (dealing.offers c round public (private_halves_of done) st)) how files image files_now next old new
+      → MakesAt (on_devices (dealing.offers c round public (private_halves_of all) st)) how files image files_now next old new
+  all_made {files} {files_now} {image} {next} {old} {new} made = subst (λ (l : List (ℕ × List ℕ × ℕ)). MakesAt (on_devices (dealing.offers c round public (private_halves_of l) st)) how files image files_now next old new) same made
 
-  pub all_told : {out now : List Line} → Tells (dealing.offers c round public (halves_of done) st) how out now → Tells (dealing.offers c round public (halves_of all) st) how out now
-  all_told {out} {now} told = subst (λ (l : List (ℕ × List ℕ × ℕ)). Tells (dealing.offers c round public (halves_of l) st) how out now) same told
+  pub all_told : {out now : List Line} → Tells (dealing.offers c round public (private_halves_of done) st) how out now → Tells (dealing.offers c round public (private_halves_of all) st) how out now
+  all_told {out} {now} told = subst (λ (l : List (ℕ × List ℕ × ℕ)). Tells (dealing.offers c round public (private_halves_of l) st) how out now) same told
 
 -- WHERE THIS NODE DEALS
 
@@ -264,7 +264,7 @@ module _ {Dir : Type 0} (c : Fixed Dir) (beside : Beside Dir) (fence : Readiness
   st = live_of beside fence life
 
   abbrev by_parts : Option Round → Option live.Dealer → Course Dir Fault (Live Dir)
-  by_parts found its = option_map_or (λ round. option_map_or (λ d. dealing.offers c round d.public (setup.unsent round d) st) its (Goes st)) found (Goes st)
+  by_parts found its = option_map_or (λ round. option_map_or (λ d. dealing.offers c round d.public (setup.unsent_of_round round d) st) its (Goes st)) found (Goes st)
 
   pub deals_unknown : life.round ≡ None → dealing.deals c st ≡ Goes st
   deals_unknown none = ap (λ (o : Option Round). by_parts o (option_map dealer_of life.dealer)) none
@@ -283,7 +283,7 @@ module _ {Dir : Type 0} (c : Fixed Dir) (beside : Beside Dir) (fence : Readiness
   module _ (round : Round) (dealer : Dealer) (has : life.round ≡ Some round) (deals : life.dealer ≡ Some dealer) (same : round ≡ dealer.round) (sent : List (ℕ × List ℕ × ℕ))
       (is : sent ≡ with_public dealer.public (unsent dealer.acks dealer.privates dealer.round.players))
     where
-      deals_as : dealing.deals c st ≡ dealing.offers c round dealer.public (halves_of sent) st
+      deals_as : dealing.deals c st ≡ dealing.offers c round dealer.public (private_halves_of sent) st
       deals_as =
           ap (λ (o : Option Round). by_parts o (option_map dealer_of life.dealer)) has
           ∙ ap (λ (o : Option Dealer). by_parts (Some round) (option_map dealer_of o)) deals
@@ -291,13 +291,13 @@ module _ {Dir : Type 0} (c : Fixed Dir) (beside : Beside Dir) (fence : Readiness
           (ap (λ (r : Round). setup.unsent_of (maps.entries dealer.acks) dealer.privates r.players) same
           ∙ unsent_is dealer.acks dealer.privates dealer.round.players
           ∙ sym (halves_back dealer.public (unsent dealer.acks dealer.privates dealer.round.players))
-          ∙ ap (λ (l : List (ℕ × List ℕ × ℕ)). halves_of l) (sym is))
+          ∙ ap (λ (l : List (ℕ × List ℕ × ℕ)). private_halves_of l) (sym is))
 
       pub deals_made : (how : Ended Fault (Live Dir)) {files files_now : Files} {image next : Files → Type 0} {old new : Moment}
-          → MakesAt (on_devices (dealing.offers c round dealer.public (halves_of sent) st)) how files image files_now next old new → MakesAt (on_devices (dealing.deals c st)) how files image files_now next old new
+          → MakesAt (on_devices (dealing.offers c round dealer.public (private_halves_of sent) st)) how files image files_now next old new → MakesAt (on_devices (dealing.deals c st)) how files image files_now next old new
       deals_made how {files} {files_now} {image} {next} {old} {new} made = subst (λ (x : Course Dir Fault (Live Dir)). MakesAt (on_devices x) how files image files_now next old new) (sym deals_as) made
 
-      pub deals_told : (how : Ended Fault (Live Dir)) {out now : List Line} → Tells (dealing.offers c round dealer.public (halves_of sent) st) how out now → Tells (dealing.deals c st) how out now
+      pub deals_told : (how : Ended Fault (Live Dir)) {out now : List Line} → Tells (dealing.offers c round dealer.public (private_halves_of sent) st) how out now → Tells (dealing.deals c st) how out now
       deals_told how {out} {now} told = subst (λ (x : Course Dir Fault (Live Dir)). Tells x how out now) (sym deals_as) told
 
 pub sent_halves : {Dir : Type 0} (life : Life Dir) (dealer : Dealer) → life.dealer ≡ Some dealer → (sent : List (ℕ × List ℕ × ℕ)) → sent ≡ with_public dealer.public (unsent dealer.acks dealer.privates dealer.round.players)

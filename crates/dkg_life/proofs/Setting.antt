@@ -30,7 +30,7 @@ use Rattle.dkg_core.proofs.Agreeing.{entries_kept}
 use Rattle.dkg_life.specs.declared.life.Life.{Life}
 use Rattle.dkg_life.specs.declared.stop.Stop.{Stop}
 use Rattle.dkg_life.specs.declared.stop.Stop.TheVariants.{Fault as Faulted}
-use Rattle.dkg_life.specs.Ends.{by_stop, ends_in, fault_of, stop_of}
+use Rattle.dkg_life.specs.Ends.{by_stop, ends_in, fault_of_store, stop_of}
 use Rattle.dkg_life.specs.LiveOf.{Beside, live_of, records_of}
 use Rattle.dkg_core.specs.Said.{Said, SaysAll}
 use Rattle.dkg_life.specs.Made.{Burns, MakesAt}
@@ -78,7 +78,7 @@ pruned_records min old new dealings acks logs = λ i. record {
 -- a commit's acts are the store's, and then its line
 commits_as : {Dir : Type 0} (info : EpochInfo Dir) (seed : List ℕ) (share : Option ℕ) (st : Live Dir)
     → on_devices (setup.commits info seed share st)
-    ≡ acts_of.bind (acts_of.under fault_of (committing info.epoch seed share)) (λ done. acts_of.Say (Committed info.epoch share) (acts_of.Goes (record st { participation = record st.participation { current = Some info } })))
+    ≡ acts_of.bind (acts_of.under fault_of_store (committing info.epoch seed share)) (λ done. acts_of.Say (Committed info.epoch share) (acts_of.Goes (record st { participation = record st.participation { current = Some info } })))
 commits_as info seed None st = refl
 commits_as info seed (Some share) st = refl
 

@@ -15,7 +15,7 @@ use Rattle.dkg_store.proofs.Acts.{made_broken, made_stopped}
 use Rattle.dkg_core.specs.Courses.{Course, Say, Do, Call, Ask, Goes, Stops, bind, on_devices}
 use Rattle.dkg_life.specs.declared.stop.Stop.{Stop}
 use Rattle.dkg_life.specs.declared.stop.Stop.TheVariants as stop
-use Rattle.dkg_life.specs.Ends.{fault_of, stop_of, cause_in, by_cause, by_stop}
+use Rattle.dkg_life.specs.Ends.{fault_of_store, stop_of, cause_in, by_cause, by_stop}
 use Rattle.dkg_life.specs.Made.{Speaks}
 
 -- ONE AFTER ANOTHER
@@ -35,7 +35,7 @@ on_bind (Stops fault) next = refl
 -- how acts ended, with the step's names
 abbrev pub renamed : {S : Type 0} → Ended StoreError S → Ended Fault S
 renamed (went end) = went end
-renamed (stopped fault) = stopped (fault_of fault)
+renamed (stopped fault) = stopped (fault_of_store fault)
 renamed (broken cause) = broken cause
 
 -- an error of the store that comes from outside is the step's stop
@@ -50,21 +50,21 @@ renamed_error Cut is = refl
 renamed_error NoMemory is = refl
 
 module _ {S : Type 0} where
-  completes_under : (acts : Acts StoreError S) (end : S) (w new : World) → Completes acts end w new → Completes (acts_of.under fault_of acts) end w new
+  completes_under : (acts : Acts StoreError S) (end : S) (w new : World) → Completes acts end w new → Completes (acts_of.under fault_of_store acts) end w new
   completes_under (acts_of.Say line acts) end w new a = completes_under acts end (says w line) new a
   completes_under (acts_of.Do op acts) end w new a = completes_under acts end (does w op) new a
   completes_under (acts_of.Ask f) end w new a = completes_under (f w.held) end w new a
   completes_under (acts_of.Goes its) end w new a = a
   completes_under (acts_of.Stops fault) end w new a = absurd a
 
-  faults_under : (acts : Acts StoreError S) (fault : StoreError) (w new : World) → Faults acts fault w new → Faults (acts_of.under fault_of acts) (fault_of fault) w new
+  faults_under : (acts : Acts StoreError S) (fault : StoreError) (w new : World) → Faults acts fault w new → Faults (acts_of.under fault_of_store acts) (fault_of_store fault) w new
   faults_under (acts_of.Say line acts) fault w new a = faults_under acts fault (says w line) new a
   faults_under (acts_of.Do op acts) fault w new a = faults_under acts fault (does w op) new a
   faults_under (acts_of.Ask f) fault w new a = faults_under (f w.held) fault w new a
   faults_under (acts_of.Goes its) fault w new a = absurd a
-  faults_under (acts_of.Stops its) fault w new a = (a.0, ap fault_of a.1)
+  faults_under (acts_of.Stops its) fault w new a = (a.0, ap fault_of_store a.1)
 
-  breaks_under : (cause : Cause) (acts : Acts StoreError S) (w new : World) → Breaks cause acts w new → Breaks cause (acts_of.under fault_of acts) w new
+  breaks_under : (cause : Cause) (acts : Acts StoreError S) (w new : World) → Breaks cause acts w new → Breaks cause (acts_of.under fault_of_store acts) w new
   breaks_under cause (acts_of.Say line acts) w new (inl none) = inl none
   breaks_under cause (acts_of.Say line acts) w new (inr more) = inr (breaks_under cause acts (says w line) new more)
   breaks_under cause (acts_of.Do op acts) w new (inl tears) = inl tears
@@ -73,14 +73,14 @@ module _ {S : Type 0} where
   breaks_under cause (acts_of.Goes its) w new a = a
   breaks_under cause (acts_of.Stops its) w new a = a
 
-  runs_under : (acts : Acts StoreError S) (how : Ended StoreError S) (w new : World) → Runs acts how w new → Runs (acts_of.under fault_of acts) (renamed how) w new
+  runs_under : (acts : Acts StoreError S) (how : Ended StoreError S) (w new : World) → Runs acts how w new → Runs (acts_of.under fault_of_store acts) (renamed how) w new
   runs_under acts (went end) w new a = completes_under acts end w new a
   runs_under acts (stopped fault) w new a = faults_under acts fault w new a
   runs_under acts (broken cause) w new a = breaks_under cause acts w new a
 
   -- A store's call, with the step's names.
   pub made_under : {acts : Acts StoreError S} (how : Ended StoreError S) {files files_now : Files} {image now : Files → Type 0} {old new : Moment}
-      → MadeAt acts how files image files_now now old new → MadeAt (acts_of.under fault_of acts) (renamed how) files image files_now now old new
+      → MadeAt acts how files image files_now now old new → MadeAt (acts_of.under fault_of_store acts) (renamed how) files image files_now now old new
   made_under {acts = acts} how {files} {files_now} {image} {now} {old} {new} first = record {
     made = λ stands c here. runs_under acts how (at old files) (at new c) (first.made stands c here);
     stands = again how first.stands;
@@ -121,6 +121,6 @@ module _ {Dir S : Type 0} (course : Course Dir Fault S) where
 
 -- A store's call that failed is the step's stop.
 pub made_error : {S : Type 0} {acts : Acts StoreError S} (e : StoreError) → IsOfDevices e → {files files_now : Files} {image now : Files → Type 0} {old new : Moment}
-    → MadeAt acts (by_error e) files image files_now now old new → MadeAt (acts_of.under fault_of acts) (by_stop (stop_of e)) files image files_now now old new
+    → MadeAt acts (by_error e) files image files_now now old new → MadeAt (acts_of.under fault_of_store acts) (by_stop (stop_of e)) files image files_now now old new
 made_error {S = S} {acts = acts} e kind {files} {files_now} {image} {now} {old} {new} made =
-    subst (λ (how : Ended Fault S). MadeAt (acts_of.under fault_of acts) how files image files_now now old new) (renamed_error e kind) (made_under (by_error e) made)
+    subst (λ (how : Ended Fault S). MadeAt (acts_of.under fault_of_store acts) how files image files_now now old new) (renamed_error e kind) (made_under (by_error e) made)

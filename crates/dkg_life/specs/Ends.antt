@@ -12,15 +12,15 @@ use Rattle.dkg_life.specs.declared.stop.Stop.{Stop}
 use Rattle.dkg_life.specs.declared.stop.Stop.TheVariants.{Fault as Faulted, Cut, Failed}
 
 -- what an error of a store that acts stop by is to the step (a cut is none: it ends acts anywhere)
-abbrev pub fault_of : StoreError → Fault
-fault_of store.Disk = fault.Disk
-fault_of store.Secrets = fault.Secrets
-fault_of (store.Corrupt name place) = fault.Corrupt name place
-fault_of (store.LocalState cause) = fault.LocalState cause
-fault_of (store.StateSyncEpochs info floor) = fault.StateSyncEpochs info floor
-fault_of store.StateSyncMaterial = fault.StateSyncMaterial
-fault_of store.Cut = fault.Disk
-fault_of store.NoMemory = fault.NoMemory
+abbrev pub fault_of_store : StoreError → Fault
+fault_of_store store.Disk = fault.Disk
+fault_of_store store.Secrets = fault.Secrets
+fault_of_store (store.Corrupt name place) = fault.Corrupt name place
+fault_of_store (store.LocalState cause) = fault.LocalState cause
+fault_of_store (store.StateSyncEpochs info floor) = fault.StateSyncEpochs info floor
+fault_of_store store.StateSyncMaterial = fault.StateSyncMaterial
+fault_of_store store.Cut = fault.Disk
+fault_of_store store.NoMemory = fault.NoMemory
 
 -- .. and any error
 abbrev pub stop_of : StoreError → Stop

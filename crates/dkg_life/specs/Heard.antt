@@ -12,7 +12,7 @@ use Rattle.dkg_store.specs.declared.player.Player.{Player}
 use Rattle.dkg_store.specs.declared.store.Store.{Store}
 use Rattle.dkg_life.specs.declared.life.Life.{Life}
 use Rattle.dkg_life.specs.declared.stop.Stop.{Stop}
-use Rattle.dkg_life.specs.Ends.{fault_of}
+use Rattle.dkg_life.specs.Ends.{fault_of_store}
 use Rattle.dkg_life.specs.LiveOf.{SitsIn}
 use Rattle.dkg_life.specs.Rules.{AckOf, DealingOf}
 use Rattle.dkg_life.specs.Steps.{is_dealing}
@@ -22,9 +22,9 @@ abbrev pub round_dealt : {Dir : Type 0} → Life Dir → Option ℕ
 round_dealt life = if is_dealing life.stage then option_map (λ round. round.number) life.round else None
 
 -- a player's acts, under the step's names
-abbrev pub answers : DealingOf → AckOf → (me : ℕ) → Round → (known : Option (List ℕ × ℕ)) → (epoch dealer : ℕ) → List ℕ → ℕ → Acts Fault (Result (List ℕ) DealingError)
-answers dealing_of ack_of me round known epoch dealer public private =
-    under fault_of (answering (ack_of me round dealer) known (dealing_of round me dealer public private) epoch dealer public private)
+abbrev pub player_answers : DealingOf → AckOf → (me : ℕ) → Round → (known : Option (List ℕ × ℕ)) → (epoch dealer : ℕ) → List ℕ → ℕ → Acts Fault (Result (List ℕ) DealingError)
+player_answers dealing_of ack_of me round known epoch dealer public private =
+    under fault_of_store (answering (ack_of me round dealer) known (dealing_of round me dealer public private) epoch dealer public private)
 
 -- A dealing is recorded where its dealer's is not, and where it passed the check.
 abbrev pub pairs_after : (known : Option (List ℕ × ℕ)) → (check : Result (Unit {0}) DealingError) → (key : ℕ × ℕ) → List ℕ × ℕ → Pairs → Pairs

@@ -70,8 +70,8 @@ abbrev pub IsDealing : {Dir : Type 0} → DealOf → CheckAckOf → (me : ℕ) �
 IsDealing deal_of check_ack_of me l = IfSome l.dealer (DealsIn deal_of check_ack_of me l)
 
 -- A life's round has no more players than this.
-abbrev pub IsWithin : (limit : ℕ) → Option Round → Type 0
-IsWithin limit has = IfSome has (λ round. length round.players ≤ limit)
+abbrev pub IsRoundWithin : (limit : ℕ) → Option Round → Type 0
+IsRoundWithin limit has = IfSome has (λ round. length round.players ≤ limit)
 
 -- no epoch is ready
 abbrev pub no_fence : Readiness

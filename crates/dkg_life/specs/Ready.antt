@@ -15,10 +15,10 @@ use Rattle.dkg_life.specs.declared.life.Life.{Life}
 use Rattle.dkg_life.specs.declared.stop.Stop.{Stop}
 use Rattle.dkg_life.specs.declared.stop.Stop.TheVariants.{Fault as Faulted}
 use Rattle.dkg_life.specs.Ends.{IsCaused}
-use Rattle.dkg_life.specs.LiveOf.{IsDealing, IsPlaced, PlayerSits, IsWithin}
+use Rattle.dkg_life.specs.LiveOf.{IsDealing, IsPlaced, PlayerSits, IsRoundWithin}
 use Rattle.dkg_life.specs.Moved.{IsFirm}
 use Rattle.dkg_life.specs.Rules.{AckOf, CheckAckOf, DealOf}
-use Rattle.dkg_life.specs.Steps.{stage_in}
+use Rattle.dkg_life.specs.Steps.{stage_begun_in}
 
 -- a life on these devices, as the call before left them
 pub record IsReadyLife {Dir D X : Type 0} (tells : Bool) (files : D → Files) (image : D → Files → Type 0) (ack_of : AckOf) (deal_of : DealOf) (check_ack_of : CheckAckOf)
@@ -26,7 +26,7 @@ pub record IsReadyLife {Dir D X : Type 0} (tells : Bool) (files : D → Files) (
   pub seated : PlayerSits ack_of terms.me life
   pub dealing : IsDealing deal_of check_ack_of terms.me life
   pub placed : IsPlaced (non_zero_u64_get terms.blocks_per_epoch) life
-  pub within : IsWithin (non_zero_u32_get terms.limit) life.round
+  pub within : IsRoundWithin (non_zero_u32_get terms.limit) life.round
   pub firm : IsTrue tells → IsFirm life.store.journal (files devices.disk.now) (image devices.disk.now)
 
 -- .. of which this phase's setup is done
@@ -34,9 +34,9 @@ pub record IsSetUp {Dir D X : Type 0} (tells : Bool) (files : D → Files) (imag
     (me limit : ℕ) (phase : Phase) (life : Life Dir) (devices : Devices D X) : Type 0 where
   pub seated : PlayerSits ack_of me life
   pub dealing : IsDealing deal_of check_ack_of me life
-  pub within : IsWithin limit life.round
+  pub within : IsRoundWithin limit life.round
   pub joins : IsSome life.round
-  pub stage : life.stage ≡ stage_in phase
+  pub stage : life.stage ≡ stage_begun_in phase
   pub firm : IsTrue tells → IsFirm life.store.journal (files devices.disk.now) (image devices.disk.now)
 
 -- The devices are whole, and nothing of the disk is loose.

@@ -98,10 +98,10 @@ told_by epoch dealer (Ok ack) = Ack epoch dealer ack
 told_by epoch dealer (Err e) = Blocked dealer (why_dealing e)
 
 -- the stage in which a phase begins
-abbrev pub stage_in : Phase → Stage
-stage_in phase.Early = stage.Dealing
-stage_in phase.Midpoint = stage.Including
-stage_in phase.Late = stage.Including
+abbrev pub stage_begun_in : Phase → Stage
+stage_begun_in phase.Early = stage.Dealing
+stage_begun_in phase.Midpoint = stage.Including
+stage_begun_in phase.Late = stage.Including
 
 abbrev pub is_dealing : Stage → Bool
 is_dealing stage.Dealing = true
@@ -125,8 +125,8 @@ abbrev pub with_public : List ℕ → List (ℕ × ℕ) → List (ℕ × List �
 with_public public unsent = map (λ one. (one.0, public, one.1)) unsent
 
 -- the private halves of such a list
-abbrev pub halves_of : List (ℕ × List ℕ × ℕ) → List (ℕ × ℕ)
-halves_of unsent = map (λ one. (one.0, one.2)) unsent
+abbrev pub private_halves_of : List (ℕ × List ℕ × ℕ) → List (ℕ × ℕ)
+private_halves_of unsent = map (λ one. (one.0, one.2)) unsent
 
 -- what an epoch's last block carries: the info of the next epoch, or why it is refused
 abbrev pub carried_in : {Dir : Type 0} → (epoch : ℕ) → Block Dir → Result (EpochInfo Dir) Fault

@@ -35,10 +35,10 @@ use Rattle.dkg_core.specs.Entering.{takes_delivered}
 use Rattle.dkg_core.specs.Fixed.{Fixed, OneShot, has}
 use Rattle.dkg_core.specs.Forms.{Applied, Judged, Passed, judged_block}
 use Rattle.dkg_core.specs.Including as i
-use Rattle.dkg_core.specs.Including.{Fed, Need, Found, Lacks, can_finish, cached_for, is_need, job_for, read_of, result_of, retained_for, retains}
+use Rattle.dkg_core.specs.Including.{Fed, Need, Found, Lacks, can_finish, cached_for, is_need, job_for, read_of, job_result_of, retained_for, retains}
 use Rattle.dkg_core.specs.Laws.{IsAmong}
 use Rattle.dkg_core.specs.Live.{Artifact, Cancel, Deals, Ends, EpochInfoOf, Faulted, Feed, Finalized, Follows, GaveNone, Inclusion, Includes, Job, Live, Mail, Message, NextLog, NodeStop, Over, Peer, ReleaseLog, Request, Sent, Stage, VerifiedLogs, Verified, Work, is_last_height, recorded_at, with_inclusion, with_participation, with_queue, with_tip, with_told, with_used}
-use Rattle.dkg_core.specs.Logs.{canonical, filled_by, is_accepted, log_event}
+use Rattle.dkg_core.specs.Logs.{canonical, filled_by, is_accepted, carried_log_event}
 use Rattle.dkg_core.specs.Node.{node_step, unless_once}
 use Rattle.dkg_laws.specs.NodeSaying.{IsHalfLine}
 use Rattle.dkg_core.specs.Said.{Said, SaysAll}
@@ -301,9 +301,9 @@ module _ (c : Fixed U) (reshare : c.oneshot ≡ None) (n : ℕ) (Was : Type 0) w
   -- THE ARTIFACT
   module _ (P : List Entry → Live U → Type 0) (said : List Entry) (r : VerifiedLogs) (st : Live U) (next : Artifact U → Live U → Course U Fault (Live U))
       (so : (made : Artifact U) (now : Live U) → now.inclusion.queue ≡ st.inclusion.queue → now.inclusion.waiter ≡ st.inclusion.waiter → now.inclusion.running ≡ st.inclusion.running → Accounts P said (next made now)) where
-    with_directory : (made_info : EpochInfo U) (share : Option ℕ) → Accounts P said (i.with_directory c made_info (i.keeping r.logs next (record { info = Some made_info; share = share }) st))
+    with_directory : (made_info : EpochInfo U) (share : Option ℕ) → Accounts P said (i.with_directory c made_info (i.keeping_artifact r.logs next (record { info = Some made_info; share = share }) st))
     with_directory made_info share =
-        acc_if P said (c.directories.matches made_info.directory (i.info_peers made_info)) (i.keeping r.logs next (record { info = Some made_info; share = share }) st) (Stops (DirectoryMismatch made_info.epoch))
+        acc_if P said (c.directories.matches made_info.directory (i.info_peers made_info)) (i.keeping_artifact r.logs next (record { info = Some made_info; share = share }) st) (Stops (DirectoryMismatch made_info.epoch))
         (λ e. so (record { info = Some made_info; share = share }) (i.with_cached r.logs (record { info = Some made_info; share = share }) st) refl refl refl) (λ e. tt)
 
     provided : (epoch : ℕ) (acts : Course U Fault (Live U)) → Accounts P said acts → Accounts P said (i.with_provided c epoch acts)
@@ -322,10 +322,10 @@ module _ (c : Fixed U) (reshare : c.oneshot ≡ None) (n : ℕ) (Was : Type 0) w
     derived : Accounts P said (i.derives c c.oneshot r st next)
     derived =
         subst (λ (o : Option (OneShot U)). Accounts P said (i.derives c o r st next)) (sym reshare)
-        (acc_option P said (λ (info : EpochInfo U). i.derives_next c info r st (i.keeping r.logs next)) st.participation.current (Stops HeightRange)
+        (acc_option P said (λ (info : EpochInfo U). i.derives_next c info r st (i.keeping_artifact r.logs next)) st.participation.current (Stops HeightRange)
         (λ info e. let made : EpochInfo U = info_by c.provided info (option_map (λ (found : Verified). found.output) r.result) in
-        provided (info.epoch + 2) (i.share_by c info r.result (λ share. i.with_directory c made (i.keeping r.logs next (record { info = Some made; share = share }) st)))
-        (shared info r.result (λ share. i.with_directory c made (i.keeping r.logs next (record { info = Some made; share = share }) st)) (λ share. with_directory made share))) tt)
+        provided (info.epoch + 2) (i.share_by c info r.result (λ share. i.with_directory c made (i.keeping_artifact r.logs next (record { info = Some made; share = share }) st)))
+        (shared info r.result (λ share. i.with_directory c made (i.keeping_artifact r.logs next (record { info = Some made; share = share }) st)) (λ share. with_directory made share))) tt)
 
     artifact_to : Accounts P said (i.artifact c r st next)
     artifact_to = by_cached (cached_for st.inclusion.cached r.logs)
@@ -401,7 +401,7 @@ module _ (c : Fixed U) (reshare : c.oneshot ≡ None) (n : ℕ) (Was : Type 0) w
 
     asks_by : (logs : LogMap) (cached : Option (Artifact U)) (retained : Option VerifiedLogs) → To said (i.asks_for_by c round request logs cached retained st)
     asks_by logs (Some made) retained = told _ _ refl refl refl
-    asks_by logs None (Some r) = artifact_to IsKept said r st (i.answers c request) (λ made now queue same running. told _ _ queue same running)
+    asks_by logs None (Some r) = artifact_to IsKept said r st (i.answers_request c request) (λ made now queue same running. told _ _ queue same running)
     asks_by logs None None = starts (job_for c round logs st) (if can_finish c round logs st then s.refused_in c round st else None)
 
     fed_to : (f : Fed) → is_need f ≡ false → To said (i.fed c round request st f)
@@ -580,7 +580,7 @@ module _ (c : Fixed U) (reshare : c.oneshot ≡ None) (n : ℕ) (Was : Type 0) w
     completes_to : (r : VerifiedLogs) (waiter : Option ℕ) → st.inclusion.waiter ≡ waiter → IsKept [] st → To [] (i.completes_in c r st waiter)
     completes_to r None none kept = kept_by [] [] nothing st (retains c r st) refl (sym none) (λ idle. refl) kept
     completes_to r (Some request) there kept =
-        artifact_to IsKept [] r st (λ made now. bind (i.answers c request made now) (λ now. Goes (retains c r now))) (λ made now queue waiter running. ended _ _ queue refl)
+        artifact_to IsKept [] r st (λ made now. bind (i.answers_request c request made now) (λ now. Goes (retains c r now))) (λ made now queue waiter running. ended _ _ queue refl)
       where
         ended : (answer : AnswerLine) (now : Live U) → now.inclusion.queue ≡ st.inclusion.queue → now.inclusion.waiter ≡ None → IsKept (Answer request answer ∷ []) now
         ended answer now queue none = record {
@@ -614,7 +614,7 @@ module _ (c : Fixed U) (reshare : c.oneshot ≡ None) (n : ℕ) (Was : Type 0) w
       where
         by_running : (running : Option Job) → To [] (i.ends_verifying_in c handed st running)
         by_running None = kept
-        by_running (Some job) = completes_to (result_of c handed job) st.inclusion.waiter refl kept
+        by_running (Some job) = completes_to (job_result_of c handed job) st.inclusion.waiter refl kept
 
     fed_same : (block : Block U) (r : Request U) → (if r.ended then r else record r { blocks = r.blocks ++ block ∷ [] }).number ≡ r.number
     fed_same block r = by_test r.ended
@@ -681,7 +681,7 @@ module _ (c : Fixed U) (reshare : c.oneshot ≡ None) (n : ℕ) (Was : Type 0) w
         observes_say None = tt
         observes_say (Some log) = by_tests (is_accepted c round log) (is_some (recorded_at st.records.logs round.number log.dealer))
           where
-            by_tests : (accepted recorded : Bool) → SaysSo {Dir = U} IsUnanswered (if accepted then bind (if recorded then Goes st else d.appends round.number (log_event log.dealer block.height log.log) (Goes (b.with_log round.number log.dealer block.height log.log st)))
+            by_tests : (accepted recorded : Bool) → SaysSo {Dir = U} IsUnanswered (if accepted then bind (if recorded then Goes st else d.appends round.number (carried_log_event log.dealer block.height log.log) (Goes (b.with_log_at round.number log.dealer block.height log.log st)))
                 (λ now. Goes (b.without_own_log c log.dealer now)) else Goes st)
             by_tests true true = tt
             by_tests true false = tt
@@ -841,18 +841,18 @@ module _ (c : Fixed U) (reshare : c.oneshot ≡ None) (n : ℕ) (Was : Type 0) w
           by_running None is (inl (inr waits)) = absurd (none_some (sym (kept.waits is) ∙ waits))
           by_running (Some job) is (inl waiting) = by_waiter st.inclusion.waiter refl waiting
             where
-              by_waiter : (o : Option ℕ) → st.inclusion.waiter ≡ o → IsWaiting n st.inclusion → Accounts Rest [] (i.completes_in c (result_of c None job) st o)
+              by_waiter : (o : Option ℕ) → st.inclusion.waiter ≡ o → IsWaiting n st.inclusion → Accounts Rest [] (i.completes_in c (job_result_of c None job) st o)
               by_waiter None there (inl left) = inl left
               by_waiter None there (inr waits) = absurd (none_some (sym there ∙ waits))
               by_waiter (Some request) there waiting =
-                  artifact_to Rest [] (result_of c None job) st (λ made now. bind (i.answers c request made now) (λ now. Goes (retains c (result_of c None job) now))) (λ made now queue waiter running. by_waiting _ now queue waiting)
+                  artifact_to Rest [] (job_result_of c None job) st (λ made now. bind (i.answers_request c request made now) (λ now. Goes (retains c (job_result_of c None job) now))) (λ made now queue waiter running. by_waiting _ now queue waiting)
                 where
                   by_waiting : (answer : AnswerLine) (now : Live U) → now.inclusion.queue ≡ st.inclusion.queue → IsWaiting n st.inclusion → IsLeft now.inclusion.queue ⊎ IsAnsweredIn n (Answer request answer ∷ [])
                   by_waiting answer now queue (inl (r, among, is)) = inl (r, subst (IsAmong r) (sym queue) among, is)
                   by_waiting answer now queue (inr waits) = inr (answer, inl (ap (λ (k : ℕ). Answer k answer) (same_some (sym there ∙ waits))))
 
       module _ (round : Round) (block : Block U) (logs : LogMap) where
-        derives_rest : (found : Option VerifiedLogs) (now : Live U) (said : List Entry) → Rest said now → Accounts Done said (b.derives_now c round block logs found now)
+        derives_rest : (found : Option VerifiedLogs) (now : Live U) (said : List Entry) → Rest said now → Accounts Done said (b.derives_at_block c round block logs found now)
         derives_rest (Some r) now said rest = artifact_to Done said r now (b.concludes c block) (λ made x queue waiter running. concludes block made x said (rest_same said now x queue rest))
         derives_rest None now said rest =
             acc_behind Rest Done (i.starts_verifying c round logs None now) (λ x. i.artifact c found (retains c found x) (b.concludes c block)) said (starts_rest (if can_finish c round logs now then s.refused_in c round now else None))

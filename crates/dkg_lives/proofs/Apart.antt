@@ -33,9 +33,9 @@ use Rattle.dkg_core.specs.Entering.{Half, HalfAnswer, Acknowledges, Withholds, a
 use Rattle.dkg_core.specs.Fixed.{Fixed, OneShot, has}
 use Rattle.dkg_core.specs.Forms.{Applied, judged_block}
 use Rattle.dkg_core.specs.Including as i
-use Rattle.dkg_core.specs.Including.{Fed, Need, Found, Lacks, can_finish, cached_for, is_need, job_for, read_of, result_of, retained_for, retains}
+use Rattle.dkg_core.specs.Including.{Fed, Need, Found, Lacks, can_finish, cached_for, is_need, job_for, read_of, job_result_of, retained_for, retains}
 use Rattle.dkg_core.specs.Live.{Artifact, Cancel, Deals, Ends, EpochInfoOf, Faulted, Feed, Finalized, Follows, Inclusion, Includes, Job, Live, Mail, Message, NextLog, NodeStop, Orchestrator, Over, Peer, ReleaseLog, Request, Sent, Stage, VerifiedLogs, Verified, Waiting, Work, is_last_height, recorded_at, with_inclusion, with_participation, with_queue, with_tip, with_used}
-use Rattle.dkg_core.specs.Logs.{canonical, filled_by, is_accepted, log_event}
+use Rattle.dkg_core.specs.Logs.{canonical, filled_by, is_accepted, carried_log_event}
 use Rattle.dkg_core.specs.Node.{node_step, unless_once}
 use Rattle.dkg_core.specs.Setup as s
 use Rattle.dkg_core.specs.Stepping.{IsDealingStop, given_itself}
@@ -154,9 +154,9 @@ module _ (c : Fixed U) (reshare : c.oneshot ≡ None) where
     kept : (made : Artifact U) → To (next made (i.with_cached r.logs made st))
     kept made = so made (i.with_cached r.logs made st) (record { queue = apart.queue; waiter = apart.waiter })
 
-    with_directory : (info made_info : EpochInfo U) (share : Option ℕ) → To (i.with_directory c made_info (i.keeping r.logs next (record { info = Some info; share = share }) st))
+    with_directory : (info made_info : EpochInfo U) (share : Option ℕ) → To (i.with_directory c made_info (i.keeping_artifact r.logs next (record { info = Some info; share = share }) st))
     with_directory info made_info share =
-        to_if (c.directories.matches made_info.directory (i.info_peers made_info)) (i.keeping r.logs next (record { info = Some info; share = share }) st) (Stops (DirectoryMismatch made_info.epoch))
+        to_if (c.directories.matches made_info.directory (i.info_peers made_info)) (i.keeping_artifact r.logs next (record { info = Some info; share = share }) st) (Stops (DirectoryMismatch made_info.epoch))
         (λ e. kept (record { info = Some info; share = share })) (λ e. tt)
 
     provided : (epoch : ℕ) (acts : Course U Fault (Live U)) → To acts → To (i.with_provided c epoch acts)
@@ -175,10 +175,10 @@ module _ (c : Fixed U) (reshare : c.oneshot ≡ None) where
     derived : To (i.derives c c.oneshot r st next)
     derived =
         subst (λ (o : Option (OneShot U)). To (i.derives c o r st next)) (sym reshare)
-        (to_option (λ (info : EpochInfo U). i.derives_next c info r st (i.keeping r.logs next)) st.participation.current (Stops HeightRange)
+        (to_option (λ (info : EpochInfo U). i.derives_next c info r st (i.keeping_artifact r.logs next)) st.participation.current (Stops HeightRange)
         (λ info e. let made : EpochInfo U = info_by c.provided info (option_map (λ (found : Verified). found.output) r.result) in
-        provided (info.epoch + 2) (i.share_by c info r.result (λ share. i.with_directory c made (i.keeping r.logs next (record { info = Some made; share = share }) st)))
-        (shared info r.result (λ share. i.with_directory c made (i.keeping r.logs next (record { info = Some made; share = share }) st)) (λ share. with_directory made made share))) tt)
+        provided (info.epoch + 2) (i.share_by c info r.result (λ share. i.with_directory c made (i.keeping_artifact r.logs next (record { info = Some made; share = share }) st)))
+        (shared info r.result (λ share. i.with_directory c made (i.keeping_artifact r.logs next (record { info = Some made; share = share }) st)) (λ share. with_directory made made share))) tt)
 
     artifact_to : To (i.artifact c r st next)
     artifact_to = by_cached (cached_for st.inclusion.cached r.logs)
@@ -189,7 +189,7 @@ module _ (c : Fixed U) (reshare : c.oneshot ≡ None) where
 
   -- READING
 
-  as_told : (st : Live U) → IsApart st.inclusion → (request : ℕ) (made : Artifact U) → To (i.answers c request made st)
+  as_told : (st : Live U) → IsApart st.inclusion → (request : ℕ) (made : Artifact U) → To (i.answers_request c request made st)
   as_told st apart request made = record { queue = apart.queue; waiter = apart.waiter }
 
   module _ (round : Round) (request : ℕ) (st : Live U) (apart : IsApart st.inclusion) (lacks : LacksNumber request st.inclusion.queue) where
@@ -199,7 +199,7 @@ module _ (c : Fixed U) (reshare : c.oneshot ≡ None) where
 
     asks_by : (logs : LogMap) (cached : Option (Artifact U)) (retained : Option VerifiedLogs) → To (i.asks_for_by c round request logs cached retained st)
     asks_by logs (Some made) retained = as_told st apart request made
-    asks_by logs None (Some r) = artifact_to r st apart (i.answers c request) (λ made now its. as_told now its request made)
+    asks_by logs None (Some r) = artifact_to r st apart (i.answers_request c request) (λ made now its. as_told now its request made)
     asks_by logs None None = starts (job_for c round logs st) (if can_finish c round logs st then s.refused_in c round st else None)
 
     fed_to : (f : Fed) → To (i.fed c round request st f)
@@ -303,7 +303,7 @@ module _ (c : Fixed U) (reshare : c.oneshot ≡ None) where
     completes_to : (r : VerifiedLogs) (waiter : Option ℕ) → To (i.completes_in c r st waiter)
     completes_to r None = record { queue = apart.queue; waiter = tt }
     completes_to r (Some request) =
-        artifact_to r st apart (λ made now. bind (i.answers c request made now) (λ now. Goes (retains c r now))) (λ made now its. record { queue = its.queue; waiter = tt })
+        artifact_to r st apart (λ made now. bind (i.answers_request c request made now) (λ now. Goes (retains c r now))) (λ made now its. record { queue = its.queue; waiter = tt })
 
     works_to : (handed : Option VerifiedLogs) → To (i.works c handed st)
     works_to handed =
@@ -312,7 +312,7 @@ module _ (c : Fixed U) (reshare : c.oneshot ≡ None) where
       where
         by_running : (running : Option Job) → To (i.ends_verifying_in c handed st running)
         by_running None = apart
-        by_running (Some job) = completes_to (result_of c handed job) st.inclusion.waiter
+        by_running (Some job) = completes_to (job_result_of c handed job) st.inclusion.waiter
 
     fed_same : (block : Block U) (r : Request U) → (if r.ended then r else record r { blocks = r.blocks ++ block ∷ [] }).number ≡ r.number
     fed_same block r = by_test r.ended
@@ -373,10 +373,10 @@ module _ (c : Fixed U) (reshare : c.oneshot ≡ None) where
       observes_to round (Some log) = by_tests (is_accepted c round log) (is_some (recorded_at st.records.logs round.number log.dealer))
         where
           by_tests : (one two : Bool) → ComesTo {Dir = U} {F = Fault} Any (λ (end : Live U). end.inclusion ≡ st.inclusion)
-              (if one then bind (if two then Goes st else d.appends round.number (log_event log.dealer block.height log.log) (Goes (b.with_log round.number log.dealer block.height log.log st)))
+              (if one then bind (if two then Goes st else d.appends round.number (carried_log_event log.dealer block.height log.log) (Goes (b.with_log_at round.number log.dealer block.height log.log st)))
               (λ now. Goes (b.without_own_log c log.dealer now)) else Goes st)
           by_tests true true = cleared log.dealer st
-          by_tests true false = cleared log.dealer (b.with_log round.number log.dealer block.height log.log st)
+          by_tests true false = cleared log.dealer (b.with_log_at round.number log.dealer block.height log.log st)
           by_tests false two = refl
 
       includes_to : (round : Round) → To (b.includes c round block st)

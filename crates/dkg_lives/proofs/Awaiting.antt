@@ -14,8 +14,8 @@ use Rattle.dkg_text.specs.declared.script.Cut.{Cut}
 use Rattle.dkg_text.specs.declared.script.Event.{Event}
 use Rattle.dkg_text.specs.declared.script.Event.TheVariants.{Peer, Final}
 use Rattle.dkg_text.specs.declared.script.Life.{Life}
-use Rattle.dkg_script.specs.Blocks.{Block, block_at, block_of, blocks, delivered_number, events_come_to}
-use Rattle.dkg_script.specs.Position.{awaited_height, delivered, start_height}
+use Rattle.dkg_script.specs.Blocks.{ScriptBlock, numbered_block, block_of, blocks, delivered_number, events_come_to}
+use Rattle.dkg_script.specs.Position.{awaited_height_after, delivered, first_height}
 use Rattle.dkg_script.specs.Setting.{Setting}
 use Rattle.dkg_script.proofs.LineBlocks.{of_line}
 use Rattle.dkg_core.specs.Live.{Finalized}
@@ -97,30 +97,30 @@ module _ (s : Setting) (l : ℕ) (life : Life) (i : ℕ) (one : Event) (event_is
   abbrev events : List Event
   events = events_come_to life.cut life.events
 
-  pub delivered_more : delivered s life (suc i) ≡ delivered s life i ++ filter_map (block_at s) (filter_map delivered_number (one ∷ []))
+  pub delivered_more : delivered s life (suc i) ≡ delivered s life i ++ filter_map (numbered_block s) (filter_map delivered_number (one ∷ []))
   delivered_more =
-      ap (λ (es : List Event). filter_map (block_at s) (filter_map delivered_number es)) (one_more events i one (comes_to life.cut life.events i reached ∙ event_is))
-      ∙ ap (λ (ns : List ℕ). filter_map (block_at s) ns) (filter_map-append delivered_number (take i events) (one ∷ []))
-      ∙ filter_map-append (block_at s) (filter_map delivered_number (take i events)) (filter_map delivered_number (one ∷ []))
+      ap (λ (es : List Event). filter_map (numbered_block s) (filter_map delivered_number es)) (one_more events i one (comes_to life.cut life.events i reached ∙ event_is))
+      ∙ ap (λ (ns : List ℕ). filter_map (numbered_block s) ns) (filter_map-append delivered_number (take i events) (one ∷ []))
+      ∙ filter_map-append (numbered_block s) (filter_map delivered_number (take i events)) (filter_map delivered_number (one ∷ []))
 
-  height_more : awaited_height s l life (suc i) ≡ fold (λ height b. max height (suc b.height)) (awaited_height s l life i) (filter_map (block_at s) (filter_map delivered_number (one ∷ [])))
-  unfolding awaited_height
-  height_more = ap (λ (bs : List Block). fold (λ height b. max height (suc b.height)) (start_height s l life) bs) delivered_more
-      ∙ fold-append (λ height b. max height (suc b.height)) (start_height s l life) (delivered s life i) (filter_map (block_at s) (filter_map delivered_number (one ∷ [])))
+  height_more : awaited_height_after s l life (suc i) ≡ fold (λ height b. max height (suc b.height)) (awaited_height_after s l life i) (filter_map (numbered_block s) (filter_map delivered_number (one ∷ [])))
+  unfolding awaited_height_after
+  height_more = ap (λ (bs : List ScriptBlock). fold (λ height b. max height (suc b.height)) (first_height s l life) bs) delivered_more
+      ∙ fold-append (λ height b. max height (suc b.height)) (first_height s l life) (delivered s life i) (filter_map (numbered_block s) (filter_map delivered_number (one ∷ [])))
 
 -- what is awaited behind an event that delivers nothing, as a message, and behind a block
 pub event_behind : (s : Setting) (l : ℕ) (life : Life) (i : ℕ) (one : Event) → slice_get life.events i ≡ Some one → IsReached life.cut (suc i) → delivered_number one ≡ None
-    → awaited_height s l life (suc i) ≡ awaited_height s l life i
+    → awaited_height_after s l life (suc i) ≡ awaited_height_after s l life i
 event_behind s l life i one is reached none =
     height_more s l life i one is reached
-    ∙ ap (λ (o : Option ℕ). fold (λ height b. max height (suc b.height)) (awaited_height s l life i) (filter_map (block_at s) (cons_option o []))) none
+    ∙ ap (λ (o : Option ℕ). fold (λ height b. max height (suc b.height)) (awaited_height_after s l life i) (filter_map (numbered_block s) (cons_option o []))) none
 
-pub message_behind : (s : Setting) (l : ℕ) (life : Life) (i from : ℕ) (bytes : List ℕ) → slice_get life.events i ≡ Some (Peer from bytes) → IsReached life.cut (suc i) → awaited_height s l life (suc i) ≡ awaited_height s l life i
+pub message_behind : (s : Setting) (l : ℕ) (life : Life) (i from : ℕ) (bytes : List ℕ) → slice_get life.events i ≡ Some (Peer from bytes) → IsReached life.cut (suc i) → awaited_height_after s l life (suc i) ≡ awaited_height_after s l life i
 message_behind s l life i from bytes is reached = height_more s l life i (Peer from bytes) is reached
 
-pub block_behind : (s : Setting) (l : ℕ) (life : Life) (i number : ℕ) (b : Block) → slice_get life.events i ≡ Some (Final number) → IsReached life.cut (suc i) → block_at s number ≡ Some b
-    → awaited_height s l life (suc i) ≡ max (awaited_height s l life i) (b.height + 1)
-block_behind s l life i number b is reached there = height_more s l life i (Final number) is reached ∙ (rw there (rest (awaited_height s l life i) b.height))
+pub block_behind : (s : Setting) (l : ℕ) (life : Life) (i number : ℕ) (b : ScriptBlock) → slice_get life.events i ≡ Some (Final number) → IsReached life.cut (suc i) → numbered_block s number ≡ Some b
+    → awaited_height_after s l life (suc i) ≡ max (awaited_height_after s l life i) (b.height + 1)
+block_behind s l life i number b is reached there = height_more s l life i (Final number) is reached ∙ (rw there (rest (awaited_height_after s l life i) b.height))
   where
     rest : (h k : ℕ) → max h (suc k) ≡ max h (k + 1)
     rest h k = omega arith
@@ -128,8 +128,8 @@ block_behind s l life i number b is reached there = height_more s l life i (Fina
 -- THE BLOCKS, by their heights
 
 pub record HasHeight (s : Setting) (number : ℕ) (its : made.Block directory.Unit) : Type 0 where
-  pub b : Block
-  pub there : block_at s number ≡ Some b
+  pub b : ScriptBlock
+  pub there : numbered_block s number ≡ Some b
   pub same : its.height ≡ b.height
 
 pub has_height : (s : Setting) (number : ℕ) (its : made.Block directory.Unit) (line : BlockLine) → slice_get s.script.blocks number ≡ Some line → slice_get (blocks_in s.script) number ≡ Some its → HasHeight s number its
@@ -162,6 +162,6 @@ tip_awaits (Some tip) its height same = by_order (nat_le its.height tip.height) 
 
 -- a block that was taken
 pub block_awaits : (s : Setting) (l : ℕ) (life : Life) (i number : ℕ) (its : made.Block directory.Unit) (tip : Option Tip) → HasHeight s number its → slice_get life.events i ≡ Some (Final number) → IsReached life.cut (suc i)
-    → awaited tip ≡ awaited_height s l life i → awaited (tip_behind (Finalized its) tip) ≡ awaited_height s l life (suc i)
+    → awaited tip ≡ awaited_height_after s l life i → awaited (tip_behind (Finalized its) tip) ≡ awaited_height_after s l life (suc i)
 block_awaits s l life i number its tip has is reached height =
     tip_awaits tip its (has.b).height has.same ∙ ap (λ (n : ℕ). max n ((has.b).height + 1)) height ∙ sym (block_behind s l life i number has.b is reached has.there)

@@ -34,7 +34,7 @@ use Rattle.dkg_core.specs.Behind.{EndsBehind, IsAside, RunsBehind}
 use Rattle.dkg_core.specs.Agreeing.{AreAgreed, CanRecord}
 use Rattle.dkg_core.specs.Heard.{recovered_in}
 use Rattle.dkg_core.specs.Forms.{Applied, judged_block}
-use Rattle.dkg_core.specs.Logs.{log_event}
+use Rattle.dkg_core.specs.Logs.{carried_log_event}
 use Rattle.dkg_core.specs.Transcripts.{IfWentTo}
 use Rattle.dkg_core.proofs.Behind.{steps_run_behind}
 use Rattle.dkg_core.proofs.Upkeep.{along_if}
@@ -64,11 +64,11 @@ AreTold m0 base w = (key : ℕ × ℕ) (pair : List ℕ × ℕ) → get (recover
 pub records_log : {Dir : Type 0} (m0 : Pairs) (own : ℕ × ℕ → List ℕ × ℕ → Type 0) (height : ℕ) (log : SignedDealerLog) (st : Live Dir) (w : World) → IsEvent (events.LogAt log.dealer height log.log)
     → IsNoOther m0 own w → (epoch : ℕ) → Throughout {Dir = Dir} (IsNoOther m0 own) (b.records_log epoch height log st) w
 records_log m0 own height log st w is q epoch =
-    along_if (IsNoOther m0 own) w (is_some (recorded_at st.records.logs epoch log.dealer)) (Goes st) (d.appends epoch (log_event log.dealer height log.log) (Goes (b.with_log epoch log.dealer height log.log st)))
+    along_if (IsNoOther m0 own) w (is_some (recorded_at st.records.logs epoch log.dealer)) (Goes st) (d.appends epoch (carried_log_event log.dealer height log.log) (Goes (b.with_log_at epoch log.dealer height log.log st)))
     (λ e. q)
     (λ e. (
-      λ cause new tears. silent_torn m0 own epoch (log_event log.dealer height log.log) is refl w new cause tears q,
-      silent_done m0 own epoch (log_event log.dealer height log.log) is refl w q,
+      λ cause new tears. silent_torn m0 own epoch (carried_log_event log.dealer height log.log) is refl w new cause tears q,
+      silent_done m0 own epoch (carried_log_event log.dealer height log.log) is refl w q,
     ))
 
 module _ {Dir : Type 0} (c : Fixed Dir) (st : Live Dir) (block : Block Dir) (w : World) (agreed : AreAgreed st.records w.held) (can : CanRecord c st (Finalized block)) where

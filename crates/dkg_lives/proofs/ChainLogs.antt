@@ -21,7 +21,7 @@ use Rattle.dkg_types.specs.Blocks as made
 use Rattle.dkg_types.specs.Paths.{log_counts, logs_of_path}
 use Rattle.dkg_infos.specs.Units.{unit_spelling}
 use Rattle.dkg_infos.specs.declared.directory.Unit as directory
-use Rattle.dkg_script.specs.Blocks.{Block, chain}
+use Rattle.dkg_script.specs.Blocks.{ScriptBlock, chain}
 use Rattle.dkg_script.specs.Setting.{Setting, blocks_per_epoch}
 use Rattle.dkg_script.specs.Views.{seen_block}
 use Rattle.dkg_core.specs.Logs.{filled_by}
@@ -125,7 +125,7 @@ module _ (s : Setting) (epoch : ℕ) (round : Round) where
   brought_chain height (b ∷ bs) are = by_log (seen_block unit_spelling b).log refl (brought_chain (height + 1) bs are.2)
     where
       here : brings_of height ≡ counted_at height (seen_block unit_spelling b).log
-      here = ap (option_and_then (λ (x : Block). counted_at height x.log)) are.1
+      here = ap (option_and_then (λ (x : ScriptBlock). counted_at height x.log)) are.1
 
       by_log : (o : Option SignedDealerLog) → (seen_block unit_spelling b).log ≡ o → brought check_log_of middle ends round bs ≡ brought_from brings_of (height + 1) (length bs)
           → brought check_log_of middle ends round (b ∷ bs) ≡ option_to_list (brings_of height) ++ brought_from brings_of (height + 1) (length bs)
@@ -148,7 +148,7 @@ module _ (s : Setting) (epoch : ℕ) (round : Round) where
       by_signed (Some signed) is =
           none_some (sym (ap (λ (t : Bool). if t && nat_lt at ends && is_some (place_of signed.dealer round.dealers) && check_log_of round signed then Some (signed.dealer, signed.log) else None) (under at low)) ∙ is)
 
-      by_block : (o : Option Block) → option_and_then (λ b. counted_at at b.log) o ≡ Some p → ⊥
+      by_block : (o : Option ScriptBlock) → option_and_then (λ b. counted_at at b.log) o ≡ Some p → ⊥
       by_block None is = none_some is
       by_block (Some b) is = by_signed b.log is
 

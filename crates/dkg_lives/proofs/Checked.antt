@@ -21,7 +21,7 @@ use Rattle.dkg_script.specs.Inclusion.{IsFormOfInclusion}
 use Rattle.dkg_store.specs.Acts.{Held}
 use Rattle.dkg_core.specs.Seen.{Seen}
 use Rattle.dkg_life.specs.Configured.{config_fault}
-use Rattle.dkg_lives.specs.Causes.{HasCause}
+use Rattle.dkg_lives.specs.Causes.{HasDeviceCause}
 use Rattle.dkg_lives.specs.Epochs.{IsAnchorAbove, IsChecked, IsLifeInForm, refused_config}
 use Rattle.dkg_lives.specs.Given.{IsUnplanned, lived}
 
@@ -74,15 +74,15 @@ not_refused script checked mode version blocks same_mode same_version same_block
     none_some e = cc
 
 -- A refused configuration blames no device.
-pub config_caused : (mode : Mode) (version blocks : ℕ) (its : Fault) → config_fault mode version blocks ≡ Some its → (P Q : Type 0) → HasCause its P Q
+pub config_caused : (mode : Mode) (version blocks : ℕ) (its : Fault) → config_fault mode version blocks ≡ Some its → (P Q : Type 0) → HasDeviceCause its P Q
 config_caused mode version blocks its is P Q = by_test (supports_of version mode) (blocks == 1) is
   where
     the_fault : {x y : Fault} → Some x ≡ Some y → x ≡ y
     the_fault e = cc
 
-    by_test : (t u : Bool) → (if not t then Some (InvalidConfig ModeCause) else if u then Some (InvalidConfig OneBlock) else None) ≡ Some its → HasCause its P Q
-    by_test false u is = subst (λ (x : Fault). HasCause x P Q) (the_fault is) tt
-    by_test true true is = subst (λ (x : Fault). HasCause x P Q) (the_fault is) tt
+    by_test : (t u : Bool) → (if not t then Some (InvalidConfig ModeCause) else if u then Some (InvalidConfig OneBlock) else None) ≡ Some its → HasDeviceCause its P Q
+    by_test false u is = subst (λ (x : Fault). HasDeviceCause x P Q) (the_fault is) tt
+    by_test true true is = subst (λ (x : Fault). HasDeviceCause x P Q) (the_fault is) tt
     by_test true false is = absurd (let wrong : ◌≡◌ {A = Option Fault} None (Some its) = is in cc)
 
 -- .. and is a cause of its own.

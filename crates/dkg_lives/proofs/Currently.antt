@@ -12,7 +12,7 @@ use Rattle.dkg_infos.specs.declared.entry.Restored.{Restored}
 use Rattle.dkg_text.specs.declared.script.Life.{Life}
 use Rattle.dkg_script.specs.Kept.{AllCurrent, Gives, IsBroughtAtCut, IsRecordedAs, IsSound, IsSoundOpening, IsLaterOpening}
 use Rattle.dkg_script.specs.Position.{awaited_before, awaited_epoch, begun, begun_before, cut_of, events_taken, last_awaited}
-use Rattle.dkg_script.specs.Progress.{Progress, read, is_last_step, pair_of, with_life_ended, with_pair, IsBrought}
+use Rattle.dkg_script.specs.Progress.{Progress, read, is_last_step, pair_of, with_life_ended, with_restored, IsBrought}
 use Rattle.dkg_script.specs.Setting.{Setting, CutAt, is_oneshot, life_at, listed, recovered_from}
 use Rattle.dkg_script.proofs.Listed.{gives_all, pair_of-listed}
 use Rattle.dkg_script.proofs.Openings.{lists_them}
@@ -44,7 +44,7 @@ pub current_later : (b c : ℕ) (P : Restored → Type 0) → b ≤ c → (xs : 
 current_later b c P low [] all = tt
 current_later b c P low (x ∷ xs) all = ((λ now. all.0 (omega (arith, low, now))), current_later b c P low xs all.1)
 
-pub current_with : (b : ℕ) (P : Restored → Type 0) (xs : List Restored) (x : Restored) → AllCurrent b P xs → (b < x.epoch + 2 → P x) → AllCurrent b P (with_pair xs x)
+pub current_with : (b : ℕ) (P : Restored → Type 0) (xs : List Restored) (x : Restored) → AllCurrent b P xs → (b < x.epoch + 2 → P x) → AllCurrent b P (with_restored xs x)
 current_with b P xs x all one = all_with_pair (λ pair. b < pair.epoch + 2 → P pair) xs x all one
 
 pub current_all : (b : ℕ) (P : Restored → Type 0) (xs : List Restored) → AllByRecursion P xs → AllCurrent b P xs
@@ -116,7 +116,7 @@ module _ (b : ℕ) (s : Setting) (p : Progress) (m : Pairs) (may : MayBeKept b s
   found_listed pair given = pair_of-listed m pair.epoch pair.dealer
       ∙ ap (option_map (λ (v : List ℕ × ℕ). record { epoch = pair.epoch; dealer = pair.dealer; public = v.0; private = v.1 })) given
 
-  pub found_then : (pair : Restored) → Gives m pair → pair_of (fold with_pair p.recorded (listed m)) pair.epoch pair.dealer ≡ Some pair
+  pub found_then : (pair : Restored) → Gives m pair → pair_of (fold with_restored p.recorded (listed m)) pair.epoch pair.dealer ≡ Some pair
   found_then pair given = with_all_finds (listed m) p.recorded pair.epoch pair.dealer ∙ by_known (may.known pair given)
     where
       by_known : (pair_of p.recorded pair.epoch pair.dealer ≡ Some pair) ⊎ ((pair_of p.recorded pair.epoch pair.dealer ≡ None) × IsBroughtAtCut s p pair)
@@ -124,7 +124,7 @@ module _ (b : ℕ) (s : Setting) (p : Progress) (m : Pairs) (may : MayBeKept b s
       by_known (inl known) = rw known refl
       by_known (inr new) = rw new.0 (found_listed pair given)
 
-  recorded_as : (pair : Restored) → Gives m pair → IsRecordedAs p.recorded (fold with_pair p.recorded (listed m)) pair (IsBroughtAtCut s p pair)
+  recorded_as : (pair : Restored) → Gives m pair → IsRecordedAs p.recorded (fold with_restored p.recorded (listed m)) pair (IsBroughtAtCut s p pair)
   recorded_as pair given = record { first = brought (may.known pair given); stays = found_then pair given }
     where
       brought : (pair_of p.recorded pair.epoch pair.dealer ≡ Some pair) ⊎ ((pair_of p.recorded pair.epoch pair.dealer ≡ None) × IsBroughtAtCut s p pair)

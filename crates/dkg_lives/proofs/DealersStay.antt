@@ -16,7 +16,7 @@ use Rattle.dkg_core.specs.Forms.{Judged, Refusal, Passed, Applied, judged_block}
 use Rattle.dkg_core.specs.Live.{Live, Dealer, Seat, Plays, Watches, Stage, Deals, Includes, Follows, Ends, Mail, Message, Sent, Peer, Finalized, NextLog, ReleaseLog, EpochInfoOf, Feed, Over, Cancel, Work, is_last_height, recorded_at, with_participation, with_tip}
 use Rattle.dkg_core.specs.Setup.{begins_inclusion, signed}
 use Rattle.dkg_core.specs.Asked.{OfShares}
-use Rattle.dkg_core.specs.Blocks.{unoffered, with_log, without_own_log}
+use Rattle.dkg_core.specs.Blocks.{unoffered, with_log_at, without_own_log}
 use Rattle.dkg_core.specs.Logs.{is_accepted}
 use Rattle.dkg_core.specs.Through.{IsAppliedThrough, IsBlockThrough, IsFollowedThrough, IsIncludedThrough, IsNextThrough, IsReadFrom, PassesNothingOn, asked_by, observed, observed_log}
 use Rattle.dkg_core.specs.Through.{included as included_over}
@@ -156,9 +156,9 @@ module _ {Dir : Type 0} where
         by_log (Some log) = by_tests (is_accepted c round log) (is_some (recorded_at st.records.logs round.number log.dealer))
           where
             with_it : Live Dir
-            with_it = with_log round.number log.dealer b.height log.log st
+            with_it = with_log_at round.number log.dealer b.height log.log st
 
-            by_tests : (accepted kept : Bool) → StaysDealt st (if accepted then without_own_log c log.dealer (if kept then st else with_log round.number log.dealer b.height log.log st) else st)
+            by_tests : (accepted kept : Bool) → StaysDealt st (if accepted then without_own_log c log.dealer (if kept then st else with_log_at round.number log.dealer b.height log.log st) else st)
             by_tests false kept = same st st refl
             by_tests true true = no_more log.dealer st
             by_tests true false = both st with_it (without_own_log c log.dealer with_it) (same st with_it refl) (no_more log.dealer with_it)

@@ -14,7 +14,7 @@ use Rattle.dkg_values.specs.Joined.{beside_at, pair}
 use Rattle.dkg_values.specs.ListGrammar.{guard_past}
 use Rattle.dkg_values.specs.Lists.{PublicFits, count_at, element_at, public_at}
 use Rattle.dkg_values.specs.Uint.{uint_at}
-use Rattle.dkg_types.specs.MessageCodes.{ack_message, dealer_of, message_after, message_at}
+use Rattle.dkg_types.specs.MessageCodes.{ack_message, dealer_message, message_after, message_at}
 use Rattle.dkg_types.specs.declared.message.Message.{Message}
 use Rattle.dkg_types.specs.declared.message.Message.TheVariants.{Dealer, Ack}
 use Rattle.dkg_store.specs.Events.{no_limit}
@@ -68,13 +68,13 @@ MayBeRecorded (Ack ack) = length ack ≡ 8
 by_tag : (most tag : ℕ) (bytes : List ℕ) (m : Message) (rest : List ℕ) → most ≤ 2 ^ 30 → message_after most tag bytes ≡ Ok (m, rest) → MayBeRecorded m
 unfolding message_after
 by_tag most zero bytes m rest few e =
-    let a = bind_ok (beside_at (public_at most) element_at bytes) (λ a. Ok (dealer_of a.0, a.1)) (m, rest) e in
+    let a = bind_ok (beside_at (public_at most) element_at bytes) (λ a. Ok (dealer_message a.0, a.1)) (m, rest) e in
     let b = bind_ok (public_at most bytes) (λ p. element_at p.1 >>= λ q. Ok (pair {A = List ℕ} {B = ℕ} p.0 q.0, q.1)) a.0 a.1 in
     let o = bind_ok (element_at b.0.1) (λ q. Ok (pair {A = List ℕ} {B = ℕ} b.0.0 q.0, q.1)) a.0 b.2 in
     let fits : PublicFits no_limit b.0.0 = public_read most bytes b.0.0 b.0.1 few b.1 in
     let halves : (List ℕ × ℕ) × List ℕ = ((b.0.0, o.0.0), o.0.1) in
     let made : PublicFits no_limit a.0.0.0 = subst (λ (x : (List ℕ × ℕ) × List ℕ). PublicFits no_limit x.0.0) (ok_is halves a.0 o.2) fits in
-    let before : Message × List ℕ = (dealer_of a.0.0, a.0.1) in
+    let before : Message × List ℕ = (dealer_message a.0.0, a.0.1) in
     let read : Message × List ℕ = (m, rest) in
     subst (λ (x : Message × List ℕ). MayBeRecorded x.0) (ok_is before read a.2) made
 by_tag most (suc zero) bytes m rest few e =

@@ -26,7 +26,7 @@ use Rattle.dkg_core.specs.Behind.{event_of}
 use Rattle.dkg_core.specs.Courses.{Goes}
 use Rattle.dkg_core.specs.Forms.{IsForm, IsLiveIn}
 use Rattle.dkg_core.specs.Fixed.{Fixed}
-use Rattle.dkg_core.specs.Including.{Fed, Found, Lacks, can_finish, final_height, is_detached, is_final, is_need, is_unlinked, lowest, next_height, scan, with_lower}
+use Rattle.dkg_core.specs.Including.{Fed, Found, Lacks, can_finish, final_height, is_detached, is_final_read, is_need, is_unlinked, lowest_needed, next_height, scan, with_lower_log}
 use Rattle.dkg_core.specs.Laws.{IsCeremony, IsOther}
 use Rattle.dkg_core.specs.Live.{Artifact, Cancel, Delivers, EpochInfoOf, Feed, Finalized, Live, Mail, Message, NextLog, Over, Peer, ReleaseLog, Request, Reshare, Sent, VerifiedLogs, Work}
 use Rattle.dkg_core.specs.Node.{node_step}
@@ -35,7 +35,7 @@ use Rattle.dkg_core.specs.Through.{IsFormThrough, IsLiveThrough, IsTakenThrough,
 use Rattle.dkg_laws.proofs.Finishing.{stand_ins_finish}
 use Rattle.dkg_laws.proofs.StandIn.{stand_ins_are_ceremonies}
 use Rattle.dkg_lives.specs.Epochs.{IsLifeInForm, any_shares}
-use Rattle.dkg_lives.specs.Given.{IsUnplanned, Lived, at_step, seen_at, block_on, blocks_in, parent_in, payload_in, step_of, with_block}
+use Rattle.dkg_lives.specs.Given.{IsUnplanned, Lived, at_step, seen_in_step, block_on, blocks_in, parent_digest_in, payload_in, step_of, with_block}
 use Rattle.dkg_lives.proofs.Living.{holds_at}
 
 -- EACH BLOCK is that of its line
@@ -46,7 +46,7 @@ module _ {A : Type 0} (config : ScriptConfig) (f : Block directory.Unit → A) (
   made_so before (line ∷ lines) =
       made_so (with_block config before line) lines
       ∙ ap (λ (xs : List A). xs ++ map h lines)
-      (map-append f before (block_on config (parent_in before line.parent) line ∷ []) ∙ ap (λ (x : A). map f before ++ x ∷ []) (same (parent_in before line.parent) line))
+      (map-append f before (block_on config (parent_digest_in before line.parent) line ∷ []) ∙ ap (λ (x : A). map f before ++ x ∷ []) (same (parent_digest_in before line.parent) line))
       ∙ append_assoc (map f before) (h line ∷ []) (map h lines)
 
   made_at_line : (lines : List BlockLine) (number : ℕ) → option_map f (slice_get (fold (with_block config) [] lines) number) ≡ option_map h (slice_get lines number)
@@ -115,7 +115,7 @@ unfolding at_step
 lacks_nobody g taken d peers = refl
 
 -- no step reads a plan
-pub unplanned_at : (g : Lived) → IsUnplanned g.seen → (taken : ℕ) → IsUnplanned (seen_at g taken)
+pub unplanned_at : (g : Lived) → IsUnplanned g.seen → (taken : ℕ) → IsUnplanned (seen_in_step g taken)
 unplanned_at g none zero = none
 unplanned_at g none (suc taken) = λ h. refl
 
@@ -162,8 +162,8 @@ module _ (g : Lived) (i k : ℕ) where
   same_scan round st above found [] ended = refl
   same_scan round st above found (b ∷ bs) ended =
       let c : Fixed directory.Unit = at_step g i in
-      let more : LogMap = with_lower c round st b found in
-      let step : Fed → Fed → Fed = scanned (is_final c st above b) (not (b.height == next_height c st above)) (is_unlinked above b) (nat_lt (lowest c st) b.height) (is_detached c st b)
+      let more : LogMap = with_lower_log c round st b found in
+      let step : Fed → Fed → Fed = scanned (is_final_read c st above b) (not (b.height == next_height c st above)) (is_unlinked above b) (nat_lt (lowest_needed c st) b.height) (is_detached c st b)
       (WrongHeight (next_height c st above) b.height) (Unlinked b.height) (Detached b.height) more in
       ap (λ (one : Fed). step one (scan c round st (Some b) more bs ended)) (same_scan round st (Some b) found bs ended)
       ∙ ap (λ (two : Fed). step (scan (at_step g k) round st (Some b) found bs ended) two) (same_scan round st (Some b) more bs ended)

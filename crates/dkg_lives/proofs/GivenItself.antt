@@ -15,7 +15,7 @@ use Rattle.dkg_store.specs.Pairs.{Pairs}
 use Rattle.dkg_core.specs.Dealing.{counts, with_ack}
 use Rattle.dkg_core.specs.Fixed.{Fixed}
 use Rattle.dkg_core.specs.Live.{Dealer, Live, Plays, Seat, Watches, recorded_at}
-use Rattle.dkg_core.specs.Setup.{unsent}
+use Rattle.dkg_core.specs.Setup.{unsent_of_round}
 use Rattle.dkg_core.specs.Stepping.{given_in, given_itself, own_half, with_own_ack, with_own_dealing}
 use Rattle.dkg_core.proofs.Unsent.{are_unsent}
 use Rattle.dkg_lives.proofs.NoOthers.{IsOwnDealt, fine_of, inserted}
@@ -59,8 +59,8 @@ module _ {Dir : Type 0} (c : Fixed Dir) (st : Live Dir) (pairs : Pairs) (same : 
 
     own : (private : ℕ) → own_half c round dealer ≡ Some private → IsOwnDealt c st (round.number, c.me) (dealer.public, private)
     own private half =
-        of_key (λ x. IsOwnDealt c st (round.number, c.me) (dealer.public, x)) c.me (unsent round dealer) private
-        (fine_of c st round dealer of_epoch of_dealer (unsent round dealer) (are_unsent dealer.acks dealer.privates round.players)) half
+        of_key (λ x. IsOwnDealt c st (round.number, c.me) (dealer.public, x)) c.me (unsent_of_round round dealer) private
+        (fine_of c st round dealer of_epoch of_dealer (unsent_of_round round dealer) (are_unsent dealer.acks dealer.privates round.players)) half
 
     by_record : (private : ℕ) → own_half c round dealer ≡ Some private → (found : Option (List ℕ × ℕ)) (answer : Result (Unit {0}) AckError)
         → IsGiven (with_own_ack c round dealer (with_own_dealing c round dealer.public private st found) answer)

@@ -36,7 +36,7 @@ use Rattle.dkg_script.specs.Blocks.{round_at}
 use Rattle.dkg_script.specs.Due.{is_ack}
 use Rattle.dkg_script.specs.Kept.{AllCurrent, Gives}
 use Rattle.dkg_script.specs.Position.{awaited_epoch, event_of_step}
-use Rattle.dkg_script.specs.Progress.{Progress, read, pair_of, with_pair, IsBrought}
+use Rattle.dkg_script.specs.Progress.{Progress, read, pair_of, with_restored, IsBrought}
 use Rattle.dkg_script.specs.Readings.{dealing_in}
 use Rattle.dkg_script.specs.Setting.{Setting, life_at, limits, me}
 use Rattle.dkg_script.proofs.Bridges.{reads_dealing}
@@ -49,7 +49,7 @@ use Rattle.dkg_core.specs.Dealing as d
 use Rattle.dkg_core.specs.Core.{step}
 use Rattle.dkg_core.specs.Agreeing.{AreAgreed}
 use Rattle.dkg_core.specs.Heard.{Fits, recovered_in}
-use Rattle.dkg_core.specs.Transcripts.{AddsDeeds, IfWentTo, IsOwnEnd, lines_of}
+use Rattle.dkg_core.specs.Transcripts.{AddsDeeds, IfWentTo, IsOwnEnd, deed_lines}
 use Rattle.dkg_core.specs.Behind.{IsAside, OnlySays}
 use Rattle.dkg_core.proofs.Behind.{leaves_devices}
 use Rattle.dkg_core.proofs.Keeping.{fold_silent, left_entries, silent_whole}
@@ -132,16 +132,16 @@ own_found x = by_key (x.epoch == x.epoch) (x.dealer == x.dealer) (itself x.epoch
     by_key a b ea eb = rw (ea, eb) refl
 
 are_with : (b : ℕ) (m : Pairs) (recorded : List Restored) (epoch dealer : ℕ) (v : List ℕ × ℕ) → b < epoch + 2 → get m (epoch, dealer) ≡ None → AreKept b m recorded
-    → AreKept b (insert m (epoch, dealer) v) (with_pair recorded (restored_at epoch dealer v))
+    → AreKept b (insert m (epoch, dealer) v) (with_restored recorded (restored_at epoch dealer v))
 are_with b m recorded epoch dealer v now none are = record {
   given = current_with b (Gives (insert m (epoch, dealer) v)) recorded (restored_at epoch dealer v) (all_still_given b m (epoch, dealer) v recorded none are.given) (λ now. get_at m (epoch, dealer) (epoch, dealer) v refl);
   known = λ x given. elim (new_or_old m epoch dealer v x given) [
-    | inl is ↦ subst (λ (y : Restored). pair_of (with_pair recorded (restored_at epoch dealer v)) y.epoch y.dealer ≡ Some y) (sym is) of_new
+    | inl is ↦ subst (λ (y : Restored). pair_of (with_restored recorded (restored_at epoch dealer v)) y.epoch y.dealer ≡ Some y) (sym is) of_new
     | inr old ↦ with_pair_finds recorded (restored_at epoch dealer v) x.epoch x.dealer ∙ (rw (are.known x old) refl)
   ];
 }
   where
-    of_new : pair_of (with_pair recorded (restored_at epoch dealer v)) epoch dealer ≡ Some (restored_at epoch dealer v)
+    of_new : pair_of (with_restored recorded (restored_at epoch dealer v)) epoch dealer ≡ Some (restored_at epoch dealer v)
     of_new = with_pair_finds recorded (restored_at epoch dealer v) epoch dealer ∙ (rw (not_kept b m recorded epoch dealer are.given now none) (own_found (restored_at epoch dealer v)))
 
 -- WHAT A MESSAGE COMES TO
@@ -149,7 +149,7 @@ are_with b m recorded epoch dealer v now none are = record {
 -- nothing of dealings
 pub record IsPassed {Dir : Type 0} (c : Fixed Dir) (st : Live Dir) (from : ℕ) (bytes : List ℕ) (course : Course Dir Fault (Live Dir)) (h : Held) : Type 0 where
   pub only : OnlySays (λ line. Unit {0}) (λ end. Unit {0}) course
-  pub aside : AllByRecursion IsAside (lines_of (deeds_of course h))
+  pub aside : AllByRecursion IsAside (deed_lines (deeds_of course h))
   pub undue : IsUndue c st from bytes
 
 -- The devices are whole, and give back what they gave.
@@ -158,7 +158,7 @@ IsSameGiven w new = IsWhole (notes new.held) new.held.secrets × (recovered_in n
 
 -- an acknowledgement for this node's dealer
 pub record IsTakenAck {Dir : Type 0} (c : Fixed Dir) (st : Live Dir) (from : ℕ) (bytes : List ℕ) (course : Course Dir Fault (Live Dir)) (h : Held) : Type 0 where
-  pub aside : AllByRecursion IsAside (lines_of (deeds_of course h))
+  pub aside : AllByRecursion IsAside (deed_lines (deeds_of course h))
   pub undue : IsUndue c st from bytes
   pub ack : List ℕ
   pub brings : whole (message_at c.limit bytes) ≡ Ok (AnAck ack)
@@ -173,7 +173,7 @@ pub record IsAgain {Dir : Type 0} (c : Fixed Dir) (st : Live Dir) (from : ℕ) (
   pub brings : BringsDealing c st bytes round public private
   pub there : recorded_at st.records.dealings round.number from ≡ Some pair
   pub only : OnlySays (λ line. Unit {0}) (λ end. Unit {0}) course
-  pub lines : lines_of (deeds_of course h) ≡ entry.Ack round.number from (c.rules.ack_of c.me round from pair.0) ∷ []
+  pub lines : deed_lines (deeds_of course h) ≡ entry.Ack round.number from (c.rules.ack_of c.me round from pair.0) ∷ []
 
 -- a new one's record and acknowledgement
 pub record IsNew {Dir : Type 0} (c : Fixed Dir) (st : Live Dir) (from : ℕ) (bytes : List ℕ) (course : Course Dir Fault (Live Dir)) (h : Held) : Type 0 where
@@ -183,7 +183,7 @@ pub record IsNew {Dir : Type 0} (c : Fixed Dir) (st : Live Dir) (from : ℕ) (by
   pub brings : BringsDealing c st bytes round public private
   pub none : recorded_at st.records.dealings round.number from ≡ None
   pub valid : c.rules.dealing_of round c.me from public private ≡ Ok tt
-  pub lines : lines_of (deeds_of course h) ≡ entry.Recorded round.number from public private ∷ entry.Ack round.number from (c.rules.ack_of c.me round from public) ∷ []
+  pub lines : deed_lines (deeds_of course h) ≡ entry.Recorded round.number from public private ∷ entry.Ack round.number from (c.rules.ack_of c.me round from public) ∷ []
   pub lasts : (w : World) → IsEvent (events.Dealing from public) → get (recovered_in w.held) (round.number, from) ≡ None → IsWhole (notes w.held) w.held.secrets
       → Throughout (HasNew round.number from public private w) course w
 
@@ -193,12 +193,12 @@ module _ {Dir : Type 0} (st : Live Dir) (round : Round) (dealer : Dealer) (from 
   abbrev noted : Course Dir Fault (Live Dir)
   noted = d.appends round.number (events.Ack from ack) (Goes (d.counts dealer from ack (d.with_ack round.number from ack st)))
 
-  aside_if : (h : Held) (t : Bool) (x y : Course Dir Fault (Live Dir)) → AllByRecursion IsAside (lines_of (deeds_of x h)) → AllByRecursion IsAside (lines_of (deeds_of y h))
-      → AllByRecursion IsAside (lines_of (deeds_of (if t then x else y) h))
+  aside_if : (h : Held) (t : Bool) (x y : Course Dir Fault (Live Dir)) → AllByRecursion IsAside (deed_lines (deeds_of x h)) → AllByRecursion IsAside (deed_lines (deeds_of y h))
+      → AllByRecursion IsAside (deed_lines (deeds_of (if t then x else y) h))
   aside_if h true x y one other = one
   aside_if h false x y one other = other
 
-  ack_aside : (h : Held) (check : Result (Unit {0}) AckError) → AllByRecursion IsAside (lines_of (deeds_of (d.checked_ack round dealer from ack st check) h))
+  ack_aside : (h : Held) (check : Result (Unit {0}) AckError) → AllByRecursion IsAside (deed_lines (deeds_of (d.checked_ack round dealer from ack st check) h))
   ack_aside h (Err e) = (tt, tt)
   ack_aside h (Ok passed) =
       aside_if h (is_some (lookup from dealer.acks)) (Goes st) (if is_some (recorded_at st.records.acks round.number from) then Goes (d.counts dealer from ack st) else noted) tt
@@ -623,7 +623,7 @@ module _ {Dir : Type 0} (c : Fixed Dir) (begun epoch : ℕ) (st : Live Dir) (fro
     ]
 
     told_so : (added : List Entry) (one : Entry) (more : List Entry) → adds.added ≡ added → added ≡ one ∷ more → EachAfter s (IsKeptEntry s) p added → IsSameStep p (fold (read s) p added)
-        → (fold (read s) p added).recorded ≡ with_pair p.recorded pair → IfWentTo half (λ end. list_any is_ack (fold (read s) p added).written ≡ true) → Heard
+        → (fold (read s) p added).recorded ≡ with_restored p.recorded pair → IfWentTo half (λ end. list_any is_ack (fold (read s) p added).written ≡ true) → Heard
     told_so added one more are is each same recorded wrote = record {
       added = added;
       out = adds.out ∙ ap (λ (ls : List Entry). w.out ++ ls) are;
@@ -636,8 +636,8 @@ module _ {Dir : Type 0} (c : Fixed Dir) (begun epoch : ℕ) (st : Live Dir) (fro
       valid = valid_then;
     }
       where
-        all_known : AreKept begun (recovered_in mid.held) (with_pair p.recorded pair)
-        all_known = subst (λ (m : Pairs). AreKept begun m (with_pair p.recorded pair)) (sym (now_has one more (are ∙ is))) (are_with begun pairs p.recorded epoch from v carries.current none_there carries.are)
+        all_known : AreKept begun (recovered_in mid.held) (with_restored p.recorded pair)
+        all_known = subst (λ (m : Pairs). AreKept begun m (with_restored p.recorded pair)) (sym (now_has one more (are ∙ is))) (are_with begun pairs p.recorded epoch from v carries.current none_there carries.are)
 
         known : (x : Restored) → Gives (recovered_in mid.held) x → pair_of (fold (read s) p added).recorded x.epoch x.dealer ≡ Some x
         known x there = rw recorded (all_known.known x there)

@@ -35,7 +35,7 @@ use Rattle.dkg_secrets.specs.Secrets as of_secrets
 use Rattle.dkg_secrets.specs.declared.secrets.SecretOp.TheVariants.{Prune, PutDealing, PutSeed, PutShare}
 use Rattle.dkg_secrets.proofs.Map.{exact_keys, keys_total}
 use Rattle.dkg_secrets.proofs.Tried.{all_done}
-use Rattle.dkg_store.specs.Acts.{Changes, Held, OnDisk, World, after, does, notes, says, stopped, went}
+use Rattle.dkg_store.specs.Acts.{Changes, Held, OnDisk, World, held_after, does, notes, says, stopped, went}
 use Rattle.dkg_store.specs.Events.{IsEvent, event_spelling}
 use Rattle.dkg_store.specs.declared.event.Event.TheVariants as events
 use Rattle.dkg_store.specs.Pairs.{Pairs, recovered}
@@ -50,13 +50,13 @@ use Rattle.dkg_core.specs.Courses.{Ask, Call, Course, Do, EndsSo, Goes, Say, Sto
 use Rattle.dkg_core.specs.Dealing as d
 use Rattle.dkg_core.specs.Endings.{ComesTo}
 use Rattle.dkg_core.specs.Fixed.{Fixed}
-use Rattle.dkg_core.specs.Forms.{Applied, Judged, Passed, Refusal, committed_by, judged_block, judged_over, set_up_by}
+use Rattle.dkg_core.specs.Forms.{Applied, Judged, Passed, Refusal, committed_by, judged_block, judged_over_tip, set_up_by}
 use Rattle.dkg_core.specs.Heard.{Fits, recovered_in}
 use Rattle.dkg_core.specs.Including as i
 use Rattle.dkg_laws.specs.Idle.{IsAskedLine}
 use Rattle.dkg_core.specs.Laws.{IsOther}
 use Rattle.dkg_core.specs.Live.{Deals, Dealer, Ends, Follows, Includes, Live, Mail, Plays, Records, Seat, Sent, Stage, Watches, is_last_height, recorded_at, with_inclusion, with_participation, with_tip}
-use Rattle.dkg_core.specs.Logs.{is_accepted, log_event, recorded_log}
+use Rattle.dkg_core.specs.Logs.{is_accepted, carried_log_event, recorded_log}
 use Rattle.dkg_core.specs.Setup as s
 use Rattle.dkg_core.specs.Setup.{Standing, Uncommitted, WasCommitted}
 use Rattle.dkg_core.specs.Sources.{Tip}
@@ -85,11 +85,11 @@ same_halves r h t same a = record {
 committed : {Dir : Type 0} (standing : Standing) (info : EpochInfo Dir) (share : Option ℕ) (seed : List ℕ) (r : Records) (h : Held) → Knows r h → Knows r (committed_by standing info share seed h)
 committed Uncommitted info None seed r h a = same_halves r h (of_secrets.after (PutSeed info.epoch seed) h.secrets) refl a
 committed Uncommitted info (Some share) seed r h a =
-    let shared : Held = after (Changes (PutShare info.epoch share)) h in
+    let shared : Held = held_after (Changes (PutShare info.epoch share)) h in
     same_halves r shared (of_secrets.after (PutSeed info.epoch seed) shared.secrets) refl (same_halves r h (of_secrets.after (PutShare info.epoch share) h.secrets) refl a)
 committed WasCommitted info share seed r h a = a
 
-pruned : (r : Records) (min : ℕ) (h : Held) → Knows r h → Knows (s.records_from min r) (after (Changes (Prune min)) (after (OnDisk (Prunes min)) h))
+pruned : (r : Records) (min : ℕ) (h : Held) → Knows r h → Knows (s.records_from min r) (held_after (Changes (Prune min)) (held_after (OnDisk (Prunes min)) h))
 pruned r min h a =
     let t : Secrets = of_secrets.after (Prune min) h.secrets in
     let halves : (k : ℕ × ℕ) → min ≤ k.0 → get t.privates k ≡ get h.secrets.privates k = λ k above. prune_halves min h.secrets t k (all_done (Prune min) h.secrets t refl) above in
@@ -141,17 +141,17 @@ module _ (given : Held) (asked : List Pair) where
 
   module _ (epoch : ℕ) (h : Held) where
     -- a log more
-    module _ (dealer height : ℕ) (log : DealerLog) (is : IsEvent (log_event dealer height log)) where
+    module _ (dealer height : ℕ) (log : DealerLog) (is : IsEvent (carried_log_event dealer height log)) where
       abbrev log_entry : SectionEntry
-      log_entry = (epoch, event_spelling (log_event dealer height log))
+      log_entry = (epoch, event_spelling (carried_log_event dealer height log))
 
       logged : recovered (placed (notes h) log_entry) h.secrets ≡ recovered_in h
-      logged = fold_silent h.secrets log_entry (says_dealing epoch (log_event dealer height log) is) (notes h) empty
+      logged = fold_silent h.secrets log_entry (says_dealing epoch (carried_log_event dealer height log) is) (notes h) empty
 
-      log_more : (r : Records) → Knows r h → Knows (record r { logs = put key_cmp (epoch, dealer) (recorded_log height log) r.logs }) (after (OnDisk (Appends log_entry)) h)
+      log_more : (r : Records) → Knows r h → Knows (record r { logs = put key_cmp (epoch, dealer) (recorded_log height log) r.logs }) (held_after (OnDisk (Appends log_entry)) h)
       log_more r a = record { dealings = a.dealings ∙ ap maps.entries (sym logged); rising = placed_above (notes h) log_entry 0 a.rising (low epoch) }
 
-      log_persists : Persists h → Persists (after (OnDisk (Appends log_entry)) h)
+      log_persists : Persists h → Persists (held_after (OnDisk (Appends log_entry)) h)
       log_persists was = record { gives = λ key v got. ap (λ (m : Pairs). get m key) logged ∙ was.gives key v got; seeds = was.seeds; shares = was.shares }
 
     -- an acknowledgement more
@@ -162,10 +162,10 @@ module _ (given : Held) (asked : List Pair) where
       same : recovered (placed (notes h) ack_entry) h.secrets ≡ recovered_in h
       same = fold_silent h.secrets ack_entry (says_dealing epoch (events.Ack player ack) is) (notes h) empty
 
-      ack_more : (r : Records) → Knows r h → Knows (record r { acks = put key_cmp (epoch, player) ack r.acks }) (after (OnDisk (Appends ack_entry)) h)
+      ack_more : (r : Records) → Knows r h → Knows (record r { acks = put key_cmp (epoch, player) ack r.acks }) (held_after (OnDisk (Appends ack_entry)) h)
       ack_more r a = record { dealings = a.dealings ∙ ap maps.entries (sym same); rising = placed_above (notes h) ack_entry 0 a.rising (low epoch) }
 
-      ack_persists : Persists h → Persists (after (OnDisk (Appends ack_entry)) h)
+      ack_persists : Persists h → Persists (held_after (OnDisk (Appends ack_entry)) h)
       ack_persists was = record { gives = λ key v got. ap (λ (m : Pairs). get m key) same ∙ was.gives key v got; seeds = was.seeds; shares = was.shares }
 
     -- a dealing more
@@ -174,7 +174,7 @@ module _ (given : Held) (asked : List Pair) where
       dealing_entry = (epoch, event_spelling (events.Dealing dealer public))
 
       abbrev behind : Held
-      behind = after (OnDisk (Appends dealing_entry)) (after (Changes (PutDealing epoch dealer private)) h)
+      behind = held_after (OnDisk (Appends dealing_entry)) (held_after (Changes (PutDealing epoch dealer private)) h)
 
       inserted_is : recovered_in behind ≡ maps.insert (recovered_in h) (epoch, dealer) (public, private)
       inserted_is = recorded_later epoch dealer private public is h.secrets (notes h) a.rising
@@ -196,7 +196,7 @@ module _ (given : Held) (asked : List Pair) where
 
   abbrev pub Lands : {Dir : Type 0} → Course Dir Fault (Live Dir) → Held → Type 0
   Lands (Say line course) h = Lands course h
-  Lands (Do op course) h = Lands course (after op h)
+  Lands (Do op course) h = Lands course (held_after op h)
   Lands (Call outer course) h = Lands course h
   Lands (Ask f) h = Lands (f h) h
   Lands (Goes st) h = IsKnown st h
@@ -205,7 +205,7 @@ module _ (given : Held) (asked : List Pair) where
   lands_bind : {Dir : Type 0} (course : Course Dir Fault (Live Dir)) (next : Live Dir → Course Dir Fault (Live Dir)) (h : Held) → Lands course h
       → ((st : Live Dir) (h : Held) → IsKnown st h → Lands (next st) h) → Lands (bind course next) h
   lands_bind (Say line course) next h l more = lands_bind course next h l more
-  lands_bind (Do op course) next h l more = lands_bind course next (after op h) l more
+  lands_bind (Do op course) next h l more = lands_bind course next (held_after op h) l more
   lands_bind (Call outer course) next h l more = lands_bind course next h l more
   lands_bind (Ask f) next h l more = lands_bind (f h) next h l more
   lands_bind (Goes st) next h l more = more st h l
@@ -215,7 +215,7 @@ module _ (given : Held) (asked : List Pair) where
   lands_to : {Dir : Type 0} (stops : Fault → Type 0) (goes : Live Dir → Type 0) (course : Course Dir Fault (Live Dir)) (next : Live Dir → Course Dir Fault (Live Dir)) (h : Held) → Lands course h
       → ComesTo stops goes course → ((st : Live Dir) (h : Held) → IsKnown st h → goes st → Lands (next st) h) → Lands (bind course next) h
   lands_to stops goes (Say line course) next h l comes more = lands_to stops goes course next h l comes more
-  lands_to stops goes (Do op course) next h l comes more = lands_to stops goes course next (after op h) l comes more
+  lands_to stops goes (Do op course) next h l comes more = lands_to stops goes course next (held_after op h) l comes more
   lands_to stops goes (Call outer course) next h l comes more = lands_to stops goes course next h l comes more
   lands_to stops goes (Ask f) next h l comes more = lands_to stops goes (f h) next h l (comes h) more
   lands_to stops goes (Goes st) next h l comes more = more st h l comes
@@ -371,9 +371,9 @@ module _ {Dir : Type 0} (c : Fixed Dir) (given : Held) (asked : List Pair) where
 
     deals : (st : Live Dir) (h : Held) → ((dealer : Dealer) → st.participation.dealer ≡ Some dealer → IsEvent (events.Dealing c.me dealer.public)) → Known st h → Comes (d.deals c st) h
     deals st h is a =
-        rounds st (λ round. option_map_or (λ dealer. d.offers c round dealer.public (s.unsent round dealer) st) st.participation.dealer (Goes st)) h a
-        (λ round. lands_option given asked st.participation.dealer (λ dealer. d.offers c round dealer.public (s.unsent round dealer) st) (Goes st) h
-        (λ dealer e. offers round dealer.public (s.unsent round dealer) st h (is dealer e) a) (λ e. a))
+        rounds st (λ round. option_map_or (λ dealer. d.offers c round dealer.public (s.unsent_of_round round dealer) st) st.participation.dealer (Goes st)) h a
+        (λ round. lands_option given asked st.participation.dealer (λ dealer. d.offers c round dealer.public (s.unsent_of_round round dealer) st) (Goes st) h
+        (λ dealer e. offers round dealer.public (s.unsent_of_round round dealer) st h (is dealer e) a) (λ e. a))
 
     -- A BLOCK that is applied while dealing
     pub deals_at : (block : Block Dir) (st : Live Dir) (h : Held) → asked ≡ (given_itself c st).records.dealings → ((dealer : Dealer) → st.participation.dealer ≡ Some dealer → IsEvent (events.Dealing c.me dealer.public)) → Known st h
@@ -404,7 +404,7 @@ module _ {Dir : Type 0} (c : Fixed Dir) (given : Held) (asked : List Pair) where
         lands_if given asked (is_accepted c round log) (bind (b.records_log round.number block.height log st) (λ now. Goes (b.without_own_log c log.dealer now))) (Goes st) h
         (λ e. lands_bind given asked (b.records_log round.number block.height log st) (λ now. Goes (b.without_own_log c log.dealer now)) h
         (lands_if given asked (is_some (recorded_at st.records.logs round.number log.dealer)) (Goes st)
-        (d.appends round.number (log_event log.dealer block.height log.log) (Goes (b.with_log round.number log.dealer block.height log.log st))) h (λ e. a)
+        (d.appends round.number (carried_log_event log.dealer block.height log.log) (Goes (b.with_log_at round.number log.dealer block.height log.log st))) h (λ e. a)
         (λ e. (
           log_more given asked round.number h log.dealer block.height log.log (fits log carried) st.records a.0,
           log_persists given asked round.number h log.dealer block.height log.log (fits log carried) a.1,
@@ -418,9 +418,9 @@ module _ {Dir : Type 0} (c : Fixed Dir) (given : Held) (asked : List Pair) where
     observes_same round (Some log) st is_asked = by_test (is_accepted c round log)
       where
         by_found : (t : Bool)
-            → Asks (bind (if t then Goes st else d.appends round.number (log_event log.dealer block.height log.log) (Goes (b.with_log round.number log.dealer block.height log.log st))) (λ now. Goes (b.without_own_log c log.dealer now)))
+            → Asks (bind (if t then Goes st else d.appends round.number (carried_log_event log.dealer block.height log.log) (Goes (b.with_log_at round.number log.dealer block.height log.log st))) (λ now. Goes (b.without_own_log c log.dealer now)))
         by_found true = still_asked st (log.dealer == c.me) is_asked
-        by_found false = still_asked (b.with_log round.number log.dealer block.height log.log st) (log.dealer == c.me) is_asked
+        by_found false = still_asked (b.with_log_at round.number log.dealer block.height log.log st) (log.dealer == c.me) is_asked
 
         by_test : (t : Bool) → Asks (if t then bind (b.records_log round.number block.height log st) (λ now. Goes (b.without_own_log c log.dealer now)) else Goes st)
         by_test true = by_found (is_some (recorded_at st.records.logs round.number log.dealer))
@@ -440,7 +440,7 @@ module _ {Dir : Type 0} (c : Fixed Dir) (given : Held) (asked : List Pair) where
   -- A DELIVERED BLOCK, by where it comes to where it is applied
 
   module _ (block : Block Dir) (st : Live Dir) (h : Held) (a : Known st h) (applies : judged_block c block st ≡ Applied → Comes (b.applies c block st) h) where
-    over_tip : (tip : Option Tip) → judged_block c block st ≡ judged_over c block st tip → Comes (b.over_tip_in c block st tip) h
+    over_tip : (tip : Option Tip) → judged_block c block st ≡ judged_over_tip c block st tip → Comes (b.over_tip_in c block st tip) h
     over_tip None r =
         lands_if given asked (b.is_in_window c block st) (b.applies c block st) (Stops (OutOfWindow block.height)) h
         (λ e. applies (r ∙ ap (λ (t : Bool). if t then Applied else Refusal (OutOfWindow block.height)) e)) (λ e. (a.1, tt))
@@ -465,7 +465,7 @@ module _ {Dir : Type 0} (c : Fixed Dir) (given : Held) (asked : List Pair) where
     in_reach : Comes (if s.is_past_range c block.height then Stops HeightRange else b.over_tip c block st) h
     in_reach =
         lands_if given asked (s.is_past_range c block.height) (Stops HeightRange) (b.over_tip c block st) h (λ e. (a.1, tt))
-        (λ e. over_tip st.tip (ap (λ (x : Bool). if x then Refusal HeightRange else judged_over c block st st.tip) e))
+        (λ e. over_tip st.tip (ap (λ (x : Bool). if x then Refusal HeightRange else judged_over_tip c block st st.tip) e))
 
     pub delivered : (stage : Stage) → Comes (b.delivers_in c block st stage) h
     delivered Deals = in_reach

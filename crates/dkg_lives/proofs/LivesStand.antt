@@ -20,7 +20,7 @@ use Rattle.dkg_core.proofs.Setups.{comes_anywhere}
 use Rattle.dkg_core.proofs.Splitting.{came_to}
 use Rattle.dkg_laws.proofs.NodeThrough.{node_openings_through, node_steps_come_through, node_steps_lead_through_over}
 use Rattle.dkg_laws.proofs.Openings.{node_openings_lead, node_openings_lead_over}
-use Rattle.dkg_lives.specs.Epochs.{IsAt, IsLifeInForm, any_shares}
+use Rattle.dkg_lives.specs.Epochs.{IsAtEvent, IsLifeInForm, any_shares}
 use Rattle.dkg_lives.specs.Given.{Lived, at_step, step_of}
 use Rattle.dkg_lives.specs.Ways.{Way, by_lines, by_worlds}
 use Rattle.dkg_lives.proofs.Awaiting.{IsBefore, IsReached}
@@ -68,7 +68,7 @@ worlds_lead = record {
 }
 
 -- what an opening leaves stands where the script says
-pub begun_at : (g : Lived) → IsLifeInForm g → (seen : Seen) (k : Held) (st : Live directory.Unit) → IsNodeBegun (at_step g 0) seen k st → IsAt g 0 st
+pub begun_at : (g : Lived) → IsLifeInForm g → (seen : Seen) (k : Held) (st : Live directory.Unit) → IsNodeBegun (at_step g 0) seen k st → IsAtEvent g 0 st
 begun_at g here seen k st begun =
     let lives = node_openings_through (at_step g 0) any_shares seen k st (form_at g here 0) begun in
     record { live = lives.0; active = lives.1; stands = begun_stands g here seen k st begun }
@@ -76,12 +76,12 @@ begun_at g here seen k st begun =
 module _ {W : Type 0} (way : Way W) (leads : LeadsAlong way) (g : Lived) (here : IsLifeInForm g) where
   -- ONE STEP, in a way
 
-  pub opened_at : (st : Live directory.Unit) (f : Burn) (w new : W) → way.goes (node_opening (at_step g 0)) (went st) f w new → (seen : Seen) × (k : Held) × IsNodeBegun (at_step g 0) seen k st × IsAt g 0 st
+  pub opened_at : (st : Live directory.Unit) (f : Burn) (w new : W) → way.goes (node_opening (at_step g 0)) (went st) f w new → (seen : Seen) × (k : Held) × IsNodeBegun (at_step g 0) seen k st × IsAtEvent g 0 st
   opened_at st f w new goes =
       let its = leads.opens (at_step g 0) st f w new (form_at g here 0) (lacks_nobody g 0) goes in
       (its.0, its.1, its.2, begun_at g here its.0 its.1 st its.2)
 
-  module _ (i : ℕ) (its : Event) (is : slice_get g.life.events i ≡ Some its) (st : Live directory.Unit) (at : IsAt g i st) where
+  module _ (i : ℕ) (its : Event) (is : slice_get g.life.events i ≡ Some its) (st : Live directory.Unit) (at : IsAtEvent g i st) where
     pub message : IsMessage g its
     message = message_in g its (event_in_form g here i its is)
 
@@ -92,7 +92,7 @@ module _ {W : Type 0} (way : Way W) (leads : LeadsAlong way) (g : Lived) (here :
     taken_here = step_taken g its message.message message.brings (at_step g (suc i)) st
 
     pub stepped_at : (reached : IsReached g.life.cut (suc i)) (end : Live directory.Unit) (f : Burn) (w new : W) → way.goes (step_of g (suc i) its st) (went end) f w new
-        → IsStepped (at_step g (suc i)) st message.message end × IsAt g (suc i) end
+        → IsStepped (at_step g (suc i)) st message.message end × IsAtEvent g (suc i) end
     stepped_at reached end f w new goes =
         let led = leads.steps (at_step g (suc i)) st end message.message f w new (through_at g here (suc i)) (lacks_nobody g (suc i)) taken_here live_here at.active
         (subst (λ (course : Course directory.Unit NodeStop (Live directory.Unit)). way.goes course (went end) f w new) (message.course (suc i) st) goes) in

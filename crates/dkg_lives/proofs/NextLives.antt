@@ -21,7 +21,7 @@ use Rattle.dkg_core.specs.Blocks.{is_early, is_in_window, is_in_window_in}
 use Rattle.dkg_core.specs.Dealing.{counts, with_ack}
 use Rattle.dkg_core.specs.Endings.{stage_in, tip_behind}
 use Rattle.dkg_core.specs.Asked.{OfShares}
-use Rattle.dkg_core.specs.Forms.{IsForm, IsLiveIn, Judged, Refusal, Passed, Applied, judged_block, judged_over}
+use Rattle.dkg_core.specs.Forms.{IsForm, IsLiveIn, Judged, Refusal, Passed, Applied, judged_block, judged_over_tip}
 use Rattle.dkg_core.specs.Including.{is_served_at}
 use Rattle.dkg_core.specs.Stepping.{IsHeardBy, dealt_behind, given_itself, with_taken}
 use Rattle.dkg_core.specs.Through.{IsAppliedThrough, IsBlockThrough, IsEndThrough, IsFollowedThrough, IsIncludedThrough, IsLiveThrough, IsNextThrough, IsPassedOn, IsReadFrom, IsStillThrough, PassesNothingOn, asked_by, included, unasked, waits_for}
@@ -141,15 +141,15 @@ module _ {Dir : Type 0} (c : Fixed Dir) (b : Block Dir) (st : Live Dir) where
     pub anew : st.tip ≡ None → is_in_window c b st ≡ true
 
   pub applied_so : judged_block c b st ≡ Applied → IsApplied
-  applied_so e = record { over = λ t is. by_tip t (subst (λ (o : Option Tip). judged_over c b st o ≡ Applied) is judged); anew = λ none. in_window (is_in_window c b st) (subst (λ (o : Option Tip). judged_over c b st o ≡ Applied) none judged) }
+  applied_so e = record { over = λ t is. by_tip t (subst (λ (o : Option Tip). judged_over_tip c b st o ≡ Applied) is judged); anew = λ none. in_window (is_in_window c b st) (subst (λ (o : Option Tip). judged_over_tip c b st o ≡ Applied) none judged) }
     where
-      judged : judged_over c b st st.tip ≡ Applied
-      judged = past_test (is_past_range c b.height) HeightRange (judged_over c b st st.tip) Applied (λ wrong. refusal_apart HeightRange (sym wrong)) e
+      judged : judged_over_tip c b st st.tip ≡ Applied
+      judged = past_test (is_past_range c b.height) HeightRange (judged_over_tip c b st st.tip) Applied (λ wrong. refusal_apart HeightRange (sym wrong)) e
 
       next : (h k : ℕ) → nat_lt (k + 1) h ≡ false → nat_le h k ≡ false → h ≡ k + 1
       next h k skips low = grind (arith, nat_tests)
 
-      by_tip : (t : Tip) → judged_over c b st (Some t) ≡ Applied → b.height ≡ t.height + 1
+      by_tip : (t : Tip) → judged_over_tip c b st (Some t) ≡ Applied → b.height ≡ t.height + 1
       by_tip t over =
           let tests = tests_applied ((b.height == t.height) && not (bytes_eq b.digest t.digest)) (nat_lt (t.height + 1) b.height) ((b.height == t.height + 1) && not (bytes_eq b.parent t.digest)) (nat_le b.height t.height)
           (ConflictingBlock b.height) (SkippedHeight (t.height + 1) b.height) (DetachedBlock b.height) over in
@@ -157,9 +157,9 @@ module _ {Dir : Type 0} (c : Fixed Dir) (b : Block Dir) (st : Live Dir) where
 
   -- one that is passed over stands at the tip or below it
   pub passed_so : judged_block c b st ≡ Passed → (t : Tip) × (st.tip ≡ Some t) × (nat_le b.height t.height ≡ true)
-  passed_so e = by_tip st.tip refl (past_test (is_past_range c b.height) HeightRange (judged_over c b st st.tip) Passed (λ wrong. refusal_passed HeightRange (sym wrong)) e)
+  passed_so e = by_tip st.tip refl (past_test (is_past_range c b.height) HeightRange (judged_over_tip c b st st.tip) Passed (λ wrong. refusal_passed HeightRange (sym wrong)) e)
     where
-      by_tip : (o : Option Tip) → st.tip ≡ o → judged_over c b st o ≡ Passed → (t : Tip) × (st.tip ≡ Some t) × (nat_le b.height t.height ≡ true)
+      by_tip : (o : Option Tip) → st.tip ≡ o → judged_over_tip c b st o ≡ Passed → (t : Tip) × (st.tip ≡ Some t) × (nat_le b.height t.height ≡ true)
       by_tip None is over = absurd (never_passed (is_in_window c b st) over)
       by_tip (Some t) is over = (
         t,

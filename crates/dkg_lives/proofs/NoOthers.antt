@@ -25,7 +25,7 @@ use Rattle.dkg_infos.specs.declared.fault.Fault.{Fault}
 use Rattle.dkg_infos.specs.declared.fault.Fault.TheVariants.{LocalState}
 use Rattle.dkg_infos.specs.declared.fault.LocalCause.TheVariants.{OwnDealing}
 use Rattle.dkg_infos.specs.declared.info.EpochInfo.{EpochInfo}
-use Rattle.dkg_store.specs.Acts.{World, OnDisk, Changes, says, does, notes, Cause, Tears, IsLeft}
+use Rattle.dkg_store.specs.Acts.{World, OnDisk, Changes, says, does, notes, Cause, Tears, IsDiskLeft}
 use Rattle.dkg_store.specs.Events.{event_spelling, IsEvent}
 use Rattle.dkg_store.specs.declared.event.Event.{Event}
 use Rattle.dkg_store.specs.declared.event.Event.TheVariants as events
@@ -144,7 +144,7 @@ module _ (m0 : Pairs) (own : ℕ × ℕ → List ℕ × ℕ → Type 0) where
       upto least is = over w new (from_section least (notes w.held)) w.held.secrets is tears.torn.0 (whole_kept least w.held.secrets w.held.secrets (λ k above. refl) (notes w.held) q.whole)
           (λ key pair got. inl (pruned_before least (notes w.held) w.held.secrets key pair got).1) q
 
-      left : IsLeft (Prunes min) w.held.journaled new.held.journaled → Q new
+      left : IsDiskLeft (Prunes min) w.held.journaled new.held.journaled → Q new
       left (inl is) = stays w new (ap (λ (j : Journaled). j.entries) is) tears.torn.0 q
       left (inr (inl is)) = upto min (ap (λ (j : Journaled). j.entries) is)
       left (inr (inr part)) = upto part.0 (ap (λ (j : Journaled). j.entries) part.2)
@@ -477,13 +477,13 @@ module _ {Dir : Type 0} (c : Fixed Dir) (st : Live Dir) (w : World) (fits_own : 
     (fits : (dealer : Dealer) → st.participation.dealer ≡ Some dealer → IsEvent (events.Dealing c.me dealer.public)) (a : AreAgreed st.records w.held) (m0 : Pairs) where
   pub deals : IsNoOther m0 (IsOwnDealt c st) w → Throughout (IsNoOther m0 (IsOwnDealt c st)) (d.deals c st) w
   deals q =
-      along_option (IsNoOther m0 (IsOwnDealt c st)) w st.participation.round (λ round. option_map_or (λ dealer. d.offers c round dealer.public (s.unsent round dealer) st) st.participation.dealer (Goes st)) (Goes st)
-      (λ round of_epoch. along_option (IsNoOther m0 (IsOwnDealt c st)) w st.participation.dealer (λ dealer. d.offers c round dealer.public (s.unsent round dealer) st) (Goes st)
-      (λ dealer of_dealer. offers c m0 (IsOwnDealt c st) w.out fits_own round dealer.public (fits dealer of_dealer) (s.unsent round dealer) st w
-      (fine_of c st round dealer of_epoch of_dealer (s.unsent round dealer) (are_unsent dealer.acks dealer.privates round.players)) a q) (λ e. q)) (λ e. q)
+      along_option (IsNoOther m0 (IsOwnDealt c st)) w st.participation.round (λ round. option_map_or (λ dealer. d.offers c round dealer.public (s.unsent_of_round round dealer) st) st.participation.dealer (Goes st)) (Goes st)
+      (λ round of_epoch. along_option (IsNoOther m0 (IsOwnDealt c st)) w st.participation.dealer (λ dealer. d.offers c round dealer.public (s.unsent_of_round round dealer) st) (Goes st)
+      (λ dealer of_dealer. offers c m0 (IsOwnDealt c st) w.out fits_own round dealer.public (fits dealer of_dealer) (s.unsent_of_round round dealer) st w
+      (fine_of c st round dealer of_epoch of_dealer (s.unsent_of_round round dealer) (are_unsent dealer.acks dealer.privates round.players)) a q) (λ e. q)) (λ e. q)
 
   pub deals_end : (base : List Line) → TellsAll m0 base w → AtEnd (TellsAll m0 base) (d.deals c st) w
   deals_end base t =
-      end_option (TellsAll m0 base) w st.participation.round (λ round. option_map_or (λ dealer. d.offers c round dealer.public (s.unsent round dealer) st) st.participation.dealer (Goes st)) (Goes st)
-      (λ round of_epoch. end_option (TellsAll m0 base) w st.participation.dealer (λ dealer. d.offers c round dealer.public (s.unsent round dealer) st) (Goes st)
-      (λ dealer of_dealer. offers_end c m0 (IsOwnDealt c st) base fits_own round dealer.public (fits dealer of_dealer) (s.unsent round dealer) st w a t) (λ e. t)) (λ e. t)
+      end_option (TellsAll m0 base) w st.participation.round (λ round. option_map_or (λ dealer. d.offers c round dealer.public (s.unsent_of_round round dealer) st) st.participation.dealer (Goes st)) (Goes st)
+      (λ round of_epoch. end_option (TellsAll m0 base) w st.participation.dealer (λ dealer. d.offers c round dealer.public (s.unsent_of_round round dealer) st) (Goes st)
+      (λ dealer of_dealer. offers_end c m0 (IsOwnDealt c st) base fits_own round dealer.public (fits dealer of_dealer) (s.unsent_of_round round dealer) st w a t) (λ e. t)) (λ e. t)

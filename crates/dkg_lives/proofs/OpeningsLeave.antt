@@ -21,7 +21,7 @@ use Rattle.dkg_infos.specs.declared.entry.Entry.TheVariants.{Opened}
 use Rattle.dkg_infos.specs.declared.fault.Fault.{Fault}
 use Rattle.dkg_infos.specs.declared.fault.Fault.TheVariants.{HeightRange}
 use Rattle.dkg_infos.specs.declared.info.EpochInfo.{EpochInfo}
-use Rattle.dkg_store.specs.Acts.{World, Held, OnDisk, Changes, Ended, went, stopped, broken, says, does, notes, IsLeft}
+use Rattle.dkg_store.specs.Acts.{World, Held, OnDisk, Changes, Ended, went, stopped, broken, says, does, notes, IsDiskLeft}
 use Rattle.dkg_store.specs.Pairs.{Pairs, IsWhole}
 use Rattle.dkg_store.specs.Recorded.{restored_of}
 use Rattle.dkg_store.proofs.Acts.{along_runs}
@@ -48,7 +48,7 @@ use Rattle.dkg_core.proofs.Walking as walk
 use Rattle.dkg_lives.proofs.NoOthers.{IsNoOther, commits, prunes, stays}
 
 -- what is left of an operation that changes no entry
-left_same : (op : of_journal.Operation) (j new : Journaled) → (of_journal.after_operation op j).entries ≡ j.entries → (InPart op j new → new.entries ≡ j.entries) → IsLeft op j new → new.entries ≡ j.entries
+left_same : (op : of_journal.JournalOperation) (j new : Journaled) → (of_journal.after_operation op j).entries ≡ j.entries → (InPart op j new → new.entries ≡ j.entries) → IsDiskLeft op j new → new.entries ≡ j.entries
 left_same op j new kept part (inl is) = ap (λ (x : Journaled). x.entries) is
 left_same op j new kept part (inr (inl is)) = ap (λ (x : Journaled). x.entries) is ∙ kept
 left_same op j new kept part (inr (inr is)) = part is
@@ -57,7 +57,7 @@ left_same op j new kept part (inr (inr is)) = part is
 module _ {Dir : Type 0} (c : Fixed Dir) (form : IsForm c) (P : World → Type 0) (said : (w : World) (line : Line) → P w → P (says w line))
     (same : (w new : World) → notes new.held ≡ notes w.held → new.held.secrets ≡ w.held.secrets → P w → P new)
     (sets_up : (st : Live Dir) (w : World) → epoch_of c.blocks_per_epoch (awaited_height st) ≡ first_epoch c → P w → Throughout P (s.setup c None st) w) where
-  behind : (op : of_journal.Operation) → ((j : Journaled) → (of_journal.after_operation op j).entries ≡ j.entries) → ((j new : Journaled) → InPart op j new → new.entries ≡ j.entries)
+  behind : (op : of_journal.JournalOperation) → ((j : Journaled) → (of_journal.after_operation op j).entries ≡ j.entries) → ((j new : Journaled) → InPart op j new → new.entries ≡ j.entries)
       → (course : Course Dir Fault (Live Dir)) (w : World) → P w → (P (does w (OnDisk op)) → Throughout P course (does w (OnDisk op))) → Throughout P (Do (OnDisk op) course) w
   behind op kept part course w q next = (
     λ cause new tears. same w new (left_same op w.held.journaled new.held.journaled (kept w.held.journaled) (part w.held.journaled new.held.journaled) tears.torn.1) tears.torn.0 q,
@@ -65,7 +65,7 @@ module _ {Dir : Type 0} (c : Fixed Dir) (form : IsForm c) (P : World → Type 0)
   )
 
   abbrev next : Live Dir → Option (Material Dir) → Course Dir Fault (Live Dir)
-  next st found = p.in_range c (p.resolves_plan c (p.starts_from c st) found)
+  next st found = p.stays_in_range c (p.resolves_plan c (p.starts_from c st) found)
 
   goes : (st : Live Dir) (w : World) → P w → Throughout P (next st None) w
   goes st w q = along_if P w (option_map_or (λ t. s.is_past_range c (t.height + 1)) (start c) false) (Stops HeightRange) (p.starts_from c st None) (λ e. q)
@@ -172,7 +172,7 @@ module _ {Dir : Type 0} (c : Fixed Dir) (form : IsForm c) (w : World) where
       let done : L (does x (OnDisk (Prunes min))) = from_logs min low x (does x (OnDisk (Prunes min))) refl q in
       (λ cause new tears. left new tears.torn.1, (λ cause new tears. same_logs (does x (OnDisk (Prunes min))) new (ap (λ (j : Journaled). j.entries) tears.torn.0) done, done))
     where
-      left : (new : World) → IsLeft (Prunes min) x.held.journaled new.held.journaled → L new
+      left : (new : World) → IsDiskLeft (Prunes min) x.held.journaled new.held.journaled → L new
       left new (inl is) = same_logs x new (ap (λ (j : Journaled). j.entries) is) q
       left new (inr (inl is)) = from_logs min low x new (ap (λ (j : Journaled). j.entries) is) q
       left new (inr (inr part)) = let under = part.1 in from_logs part.0 (omega (arith, under, low)) x new (ap (λ (j : Journaled). j.entries) part.2) q

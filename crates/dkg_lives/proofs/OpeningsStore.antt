@@ -199,11 +199,11 @@ module _ {Dir : Type 0} (c : Fixed Dir) (reads : ReadsSecrets c.seen) (most : �
   -- AN OPENING of the form
 
   module _ (form : IsForm c) (low : first_epoch c - 1 ≤ most) where
-    behind : (op : of_journal.Operation) (course : Course Dir Fault (Live Dir)) (w : World) → IsUpkept w → (IsUpkept (does w (OnDisk op)) → Throughout IsUpkept course (does w (OnDisk op))) → Throughout IsUpkept (Do (OnDisk op) course) w
+    behind : (op : of_journal.JournalOperation) (course : Course Dir Fault (Live Dir)) (w : World) → IsUpkept w → (IsUpkept (does w (OnDisk op)) → Throughout IsUpkept course (does w (OnDisk op))) → Throughout IsUpkept (Do (OnDisk op) course) w
     behind op course w q next = (λ cause new tears. unchanged w new tears.torn.0 tears.same q, next (unchanged w (does w (OnDisk op)) refl refl q))
 
     abbrev next : Live Dir → Option (Material Dir) → Course Dir Fault (Live Dir)
-    next st found = p.in_range c (p.resolves_plan c (p.starts_from c st) found)
+    next st found = p.stays_in_range c (p.resolves_plan c (p.starts_from c st) found)
 
     goes : (st : Live Dir) (w : World) → IsUpkept w → Throughout IsUpkept (next st None) w
     goes st w q = along_if IsUpkept w (option_map_or (λ t. s.is_past_range c (t.height + 1)) (start c) false) (Stops HeightRange) (p.starts_from c st None) (λ e. q)

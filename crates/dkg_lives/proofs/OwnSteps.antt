@@ -26,7 +26,7 @@ use Rattle.dkg_core.specs.Courses.{Course, Goes, Say, Stops, Throughout, bind}
 use Rattle.dkg_core.specs.Dealing as d
 use Rattle.dkg_core.specs.Fixed.{Fixed}
 use Rattle.dkg_core.specs.Live.{Dealer, Deals, Ends, Follows, Includes, Live, Plays, Seat, Stage, Watches, recorded_at}
-use Rattle.dkg_core.specs.Logs.{log_event}
+use Rattle.dkg_core.specs.Logs.{carried_log_event}
 use Rattle.dkg_core.specs.Setup as s
 use Rattle.dkg_core.proofs.Running.{along_end, along_next}
 use Rattle.dkg_core.proofs.Upkeep.{along_if, along_option}
@@ -38,7 +38,7 @@ module _ {Dir : Type 0} (c : Fixed Dir) (from : World) where
     pub seeds : w.held.secrets.seeds ≡ from.held.secrets.seeds
     pub shares : w.held.secrets.shares ≡ from.held.secrets.shares
 
-  on_disk : (op : of_journal.Operation) (cause : Cause) (w new : World) → Tears cause (OnDisk op) w new → SameSecrets w → SameSecrets new
+  on_disk : (op : of_journal.JournalOperation) (cause : Cause) (w new : World) → Tears cause (OnDisk op) w new → SameSecrets w → SameSecrets new
   on_disk op cause w new tears q = record { seeds = ap (λ (t : Secrets). t.seeds) tears.torn.0 ∙ q.seeds; shares = ap (λ (t : Secrets). t.shares) tears.torn.0 ∙ q.shares }
 
   half_torn : (epoch dealer private : ℕ) (cause : Cause) (w new : World) → Tears cause (Changes (PutDealing epoch dealer private)) w new → SameSecrets w → SameSecrets new
@@ -89,14 +89,14 @@ module _ {Dir : Type 0} (c : Fixed Dir) (from : World) where
 
   pub deals_same : (st : Live Dir) (w : World) → SameSecrets w → Throughout SameSecrets (d.deals c st) w
   deals_same st w q =
-      along_option SameSecrets w st.participation.round (λ round. option_map_or (λ dealer. d.offers c round dealer.public (s.unsent round dealer) st) st.participation.dealer (Goes st)) (Goes st)
-      (λ round e. along_option SameSecrets w st.participation.dealer (λ dealer. d.offers c round dealer.public (s.unsent round dealer) st) (Goes st)
-      (λ dealer e. offers round dealer.public (s.unsent round dealer) st w q) (λ e. q)) (λ e. q)
+      along_option SameSecrets w st.participation.round (λ round. option_map_or (λ dealer. d.offers c round dealer.public (s.unsent_of_round round dealer) st) st.participation.dealer (Goes st)) (Goes st)
+      (λ round e. along_option SameSecrets w st.participation.dealer (λ dealer. d.offers c round dealer.public (s.unsent_of_round round dealer) st) (Goes st)
+      (λ dealer e. offers round dealer.public (s.unsent_of_round round dealer) st w q) (λ e. q)) (λ e. q)
 
   -- as a log is recorded
   pub logs_same : (height : ℕ) (log : SignedDealerLog) (st : Live Dir) (w : World) → SameSecrets w → (epoch : ℕ) → Throughout SameSecrets (b.records_log epoch height log st) w
   logs_same height log st w q epoch =
-      along_if SameSecrets w (is_some (recorded_at st.records.logs epoch log.dealer)) (Goes st) (d.appends epoch (log_event log.dealer height log.log) (Goes (b.with_log epoch log.dealer height log.log st)))
+      along_if SameSecrets w (is_some (recorded_at st.records.logs epoch log.dealer)) (Goes st) (d.appends epoch (carried_log_event log.dealer height log.log) (Goes (b.with_log_at epoch log.dealer height log.log st)))
       (λ e. q) (λ e. (λ cause new tears. on_disk _ cause w new tears q, record { seeds = q.seeds; shares = q.shares }))
 
   -- AS IT HEARS A PEER

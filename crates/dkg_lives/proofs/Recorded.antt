@@ -9,7 +9,7 @@ use Rattle.std.proofs.lemmas.List.Folds.{find-append}
 use Rattle.dkg_store.specs.Pairs.{Pairs}
 use Rattle.dkg_infos.specs.declared.entry.Restored.{Restored}
 use Rattle.dkg_script.specs.Kept.{Gives}
-use Rattle.dkg_script.specs.Progress.{pair_of, has_pair_key, with_pair}
+use Rattle.dkg_script.specs.Progress.{pair_of, has_pair_key, with_restored}
 
 -- FOUND IN A LIST
 
@@ -36,14 +36,14 @@ found_is P (y ∷ pairs) epoch dealer x all e = by_key (found_is P pairs epoch d
 
 -- the first of a key stays
 pub with_pair_finds : (pairs : List Restored) (x : Restored) (epoch dealer : ℕ)
-    → pair_of (with_pair pairs x) epoch dealer ≡ option_or (pair_of pairs epoch dealer) (pair_of (x ∷ []) epoch dealer)
+    → pair_of (with_restored pairs x) epoch dealer ≡ option_or (pair_of pairs epoch dealer) (pair_of (x ∷ []) epoch dealer)
 with_pair_finds pairs x epoch dealer = by_own (pair_of pairs x.epoch x.dealer) refl
   where
     later : {A : Type 0} (o : Option A) → o ≡ option_or o None
     later None = refl
     later (Some y) = refl
 
-    kept : (y : Restored) → pair_of pairs x.epoch x.dealer ≡ Some y → with_pair pairs x ≡ pairs
+    kept : (y : Restored) → pair_of pairs x.epoch x.dealer ≡ Some y → with_restored pairs x ≡ pairs
     kept y e = rw e refl
 
     by_key : (y : Restored) → pair_of pairs x.epoch x.dealer ≡ Some y → (b : Bool) → has_pair_key epoch dealer x ≡ b
@@ -55,7 +55,7 @@ with_pair_finds pairs x epoch dealer = by_own (pair_of pairs x.epoch x.dealer) r
     by_key y e false is = later (pair_of pairs epoch dealer)
 
     by_own : (o : Option Restored) → pair_of pairs x.epoch x.dealer ≡ o
-        → pair_of (with_pair pairs x) epoch dealer ≡ option_or (pair_of pairs epoch dealer) (pair_of (x ∷ []) epoch dealer)
+        → pair_of (with_restored pairs x) epoch dealer ≡ option_or (pair_of pairs epoch dealer) (pair_of (x ∷ []) epoch dealer)
     by_own (Some y) e = ap (λ (ps : List Restored). pair_of ps epoch dealer) (kept y e) ∙ by_key y e (has_pair_key epoch dealer x) refl
     by_own None e = ap (λ (b : Bool). pair_of (cond b pairs (pairs ++ x ∷ [])) epoch dealer) (ap is_some e) ∙ find-append (has_pair_key epoch dealer) pairs (x ∷ [])
 
@@ -71,14 +71,14 @@ cons_found x xs epoch dealer = by_key (has_pair_key epoch dealer x)
     by_key false = refl
 
 pub with_all_finds : (xs pairs : List Restored) (epoch dealer : ℕ)
-    → pair_of (fold with_pair pairs xs) epoch dealer ≡ option_or (pair_of pairs epoch dealer) (pair_of xs epoch dealer)
+    → pair_of (fold with_restored pairs xs) epoch dealer ≡ option_or (pair_of pairs epoch dealer) (pair_of xs epoch dealer)
 with_all_finds [] pairs epoch dealer = or_none (pair_of pairs epoch dealer)
   where
     or_none : {A : Type 0} (o : Option A) → o ≡ option_or o None
     or_none None = refl
     or_none (Some y) = refl
 with_all_finds (x ∷ xs) pairs epoch dealer =
-    with_all_finds xs (with_pair pairs x) epoch dealer
+    with_all_finds xs (with_restored pairs x) epoch dealer
     ∙ ap (λ (o : Option Restored). option_or o (pair_of xs epoch dealer)) (with_pair_finds pairs x epoch dealer)
     ∙ or_assoc (pair_of pairs epoch dealer) (pair_of (x ∷ []) epoch dealer) (pair_of xs epoch dealer)
     ∙ ap (λ (o : Option Restored). option_or (pair_of pairs epoch dealer) o) (cons_found x xs epoch dealer)
@@ -87,16 +87,16 @@ all_and_one : (P : Restored → Type 0) (pairs : List Restored) (x : Restored) �
 all_and_one P [] x all one = (one, tt)
 all_and_one P (y ∷ pairs) x all one = (all.0, all_and_one P pairs x all.1 one)
 
-pub all_with_pair : (P : Restored → Type 0) (pairs : List Restored) (x : Restored) → AllByRecursion P pairs → P x → AllByRecursion P (with_pair pairs x)
+pub all_with_pair : (P : Restored → Type 0) (pairs : List Restored) (x : Restored) → AllByRecursion P pairs → P x → AllByRecursion P (with_restored pairs x)
 all_with_pair P pairs x all one = by_own (is_some (pair_of pairs x.epoch x.dealer))
   where
     by_own : (b : Bool) → AllByRecursion P (cond b pairs (pairs ++ x ∷ []))
     by_own true = all
     by_own false = all_and_one P pairs x all one
 
-pub all_with_all : (P : Restored → Type 0) (xs pairs : List Restored) → AllByRecursion P pairs → AllByRecursion P xs → AllByRecursion P (fold with_pair pairs xs)
+pub all_with_all : (P : Restored → Type 0) (xs pairs : List Restored) → AllByRecursion P pairs → AllByRecursion P xs → AllByRecursion P (fold with_restored pairs xs)
 all_with_all P [] pairs all more = all
-all_with_all P (x ∷ xs) pairs all more = all_with_all P xs (with_pair pairs x) (all_with_pair P pairs x all more.0) more.1
+all_with_all P (x ∷ xs) pairs all more = all_with_all P xs (with_restored pairs x) (all_with_pair P pairs x all more.0) more.1
 
 -- WHAT A MAP GIVES
 

@@ -22,7 +22,7 @@ use Rattle.dkg_infos.specs.declared.fault.LocalCause.TheVariants as local
 use Rattle.dkg_infos.specs.declared.info.EpochInfo.{EpochInfo}
 use Rattle.dkg_infos.specs.declared.fault.ParticipantsCause.TheVariants.{ProviderAbove, ProviderEmpty}
 use Rattle.dkg_infos.specs.declared.participants.ParticipantsError.{ParticipantsError}
-use Rattle.dkg_store.specs.Acts.{Held, World, after, does, says, stopped}
+use Rattle.dkg_store.specs.Acts.{Held, World, held_after, does, says, stopped}
 use Rattle.dkg_core.specs.Blocks as b
 use Rattle.dkg_core.specs.Core.{begun_life, opening, opens_in}
 use Rattle.dkg_core.specs.Courses.{Ask, Call, Course, Do, EndsSo, Goes, Say, Stops, bind}
@@ -31,7 +31,7 @@ use Rattle.dkg_core.specs.Fixed.{Fixed, Material, OneShot, has, start}
 use Rattle.dkg_core.specs.Forms.{IsForm, committed_by, current_by, held_behind, orchestrator_by, round_for, seed_read, set_up_by, share_read, started}
 use Rattle.dkg_core.specs.Including as inc
 use Rattle.dkg_core.specs.Laws.{start_of}
-use Rattle.dkg_core.specs.Live.{Artifact, Dealer, Deals, Ends, Follows, GaveNone, Includes, Inclusion, Job, Live, Request, Stage, Verified, VerifiedLogs, Watches, awaited_height, is_last_height, of_epoch, phase_of, with_inclusion, with_participation, with_tip, with_told}
+use Rattle.dkg_core.specs.Live.{Artifact, Dealer, Deals, Ends, Follows, GaveNone, Includes, Inclusion, Job, Live, Request, Stage, Verified, VerifiedLogs, Watches, awaited_height, is_last_height, records_of_epoch, phase_of, with_inclusion, with_participation, with_tip, with_told}
 use Rattle.dkg_core.specs.Logs.{canonical, logs_of}
 use Rattle.dkg_core.specs.Plans as p
 use Rattle.dkg_core.specs.Setup as s
@@ -52,7 +52,7 @@ module _ (X : Held → Type 0) where
   -- .. and what it comes to, if it goes to its end
   abbrev pub Leads : {Dir : Type 0} → (Live Dir → Held → Type 0) → Course Dir Fault (Live Dir) → Held → Type 0
   Leads Q (Say line course) h = Leads Q course h
-  Leads Q (Do op course) h = Leads Q course (after op h)
+  Leads Q (Do op course) h = Leads Q course (held_after op h)
   Leads Q (Call outer course) h = Leads Q course h
   Leads Q (Ask f) h = Leads Q (f h) h
   Leads Q (Goes st) h = Q st h
@@ -71,7 +71,7 @@ module _ (X : Held → Type 0) where
   leads_on : {Dir : Type 0} (Q : Live Dir → Held → Type 0) (course : Course Dir Fault (Live Dir)) (next : Live Dir → Course Dir Fault (Live Dir)) (h : Held) → Leads Q course h
       → ((st : Live Dir) (h : Held) → Q st h → Halts (next st) h) → Halts (bind course next) h
   leads_on Q (Say line course) next h l more = leads_on Q course next h l more
-  leads_on Q (Do op course) next h l more = leads_on Q course next (after op h) l more
+  leads_on Q (Do op course) next h l more = leads_on Q course next (held_after op h) l more
   leads_on Q (Call outer course) next h l more = leads_on Q course next h l more
   leads_on Q (Ask f) next h l more = leads_on Q (f h) next h l more
   leads_on Q (Goes st) next h l more = more st h l
@@ -99,7 +99,7 @@ module _ (X : Held → Type 0) where
 
     player : (round : Round) (phase : Phase) (dealer : Option Dealer) (st : Live Dir) (h : Held) → Halts (s.makes_player c round phase dealer st) h
     player round phase dealer st h =
-        halts_if (not (has round.players c.me) || s.is_lost c round (of_epoch round.number st.records.dealings) (logs_of st round.number)) (s.takes_part c round phase dealer Watches st)
+        halts_if (not (has round.players c.me) || s.is_lost c round (records_of_epoch round.number st.records.dealings) (logs_of st round.number)) (s.takes_part c round phase dealer Watches st)
         (s.sits_down c round phase dealer (s.refused_in c round st) st) h (λ e. tt) (λ e. sits round phase dealer (s.refused_in c round st) st h)
 
     dealt : (round : Round) (phase : Phase) (st : Live Dir) (deals : Result (List ℕ × List (ℕ × ℕ)) DealError) (h : Held) → ((why : DealError) → deals ≡ Err why → X h) → Halts (s.dealt_by c round phase st deals) h
@@ -135,7 +135,7 @@ module _ (X : Held → Type 0) where
 
     judged : (standing : Standing) (info : EpochInfo Dir) (st : Live Dir) (valid : Result (Unit {0}) ParticipantsError) (h : Held) → validity c info ≡ valid
         → Refuses info st.participation.epoch (share_read c info h) (seed_read c info h) (set_up_by standing st.participation.epoch info (share_read c info h) (seed_read c info h) h)
-        → Halts (s.judged c None standing info st valid) h
+        → Halts (s.info_judged c None standing info st valid) h
     judged standing info st (Err e) h is x = tt
     judged standing info st (Ok passed) h is x = behind standing info (share_read c info h) (seed_read c info h) st h is x
 
@@ -147,7 +147,7 @@ module _ (X : Held → Type 0) where
         → Refuses info st.participation.epoch (share_read c info h) (seed_read c info h) (set_up_by standing st.participation.epoch info (share_read c info h) (seed_read c info h) h))
         → Halts (s.with_info c None standing info st) h
     by_info standing info st h x =
-        halts_if (info.epoch == st.participation.epoch) (s.judged c None standing info st (validity c info)) (Stops (fault.WrongEpoch st.participation.epoch info.epoch)) h
+        halts_if (info.epoch == st.participation.epoch) (s.info_judged c None standing info st (validity c info)) (Stops (fault.WrongEpoch st.participation.epoch info.epoch)) h
         (λ e. judged standing info st (validity c info) h refl (x (same_number info.epoch st.participation.epoch e))) (λ e. tt)
 
     -- AN OPENING, whose epoch a block begins that carries an info
@@ -169,7 +169,7 @@ module _ (X : Held → Type 0) where
             (by_info Uncommitted info fresh k x))
 
         abbrev next : Option (Material Dir) → Course Dir Fault (Live Dir)
-        next kept = p.in_range c (p.resolves_plan c (p.starts_from c start_of_life) kept)
+        next kept = p.stays_in_range c (p.resolves_plan c (p.starts_from c start_of_life) kept)
 
         starts : Halts (p.starts_from c start_of_life None) k
         starts = halts_if (s.is_past_range c (start_of c)) (Stops fault.HeightRange) (s.sets_up c None (record start_of_life { tip = startup c.source.anchor None })) k (λ e. tt) (λ e. from_boundary)
@@ -188,7 +188,7 @@ module _ (X : Held → Type 0) where
       abbrev with : Inclusion Dir → Live Dir
       with i = with_inclusion i st
 
-      abbrev GoesOn : inc.Next Dir → Type 0
+      abbrev GoesOn : inc.Continuation Dir → Type 0
       GoesOn next = (made : Artifact Dir) (i : Inclusion Dir) → Leads Q (next made (with i)) h
 
       leads_option : {A : Type 0} (f : A → Course Dir Fault (Live Dir)) (o : Option A) (none : Course Dir Fault (Live Dir)) → ((a : A) → Leads Q (f a) h) → Leads Q none h → Leads Q (option_map_or f o none) h
@@ -211,30 +211,30 @@ module _ (X : Held → Type 0) where
           (λ e. leads_if Q (count == 0) (Stops (fault.InvalidParticipants ProviderEmpty)) few h (λ e. tt)
           (λ e. leads_if Q (nat_lt c.limit count) (Stops (fault.InvalidParticipants (ProviderAbove count c.limit))) acts h (λ e. tt) (λ e. a)))
 
-      once : (o : OneShot Dir) (output : Output) (share : Option ℕ) (i : Inclusion Dir) (next : inc.Next Dir) → GoesOn next → Leads Q (inc.oneshot_with c o output share (with i) next) h
+      once : (o : OneShot Dir) (output : Output) (share : Option ℕ) (i : Inclusion Dir) (next : inc.Continuation Dir) → GoesOn next → Leads Q (inc.oneshot_with c o output share (with i) next) h
       once o output None i next so = tt
       once o output (Some share) i next so =
           in_directory (inc.oneshot_made o output) (next (record { info = Some (inc.oneshot_made o output); share = Some share }) (with i)) (so (record { info = Some (inc.oneshot_made o output); share = Some share }) i)
 
-      keeps : (logs : LogMap) (next : inc.Next Dir) → GoesOn next → GoesOn (inc.keeping logs next)
+      keeps : (logs : LogMap) (next : inc.Continuation Dir) → GoesOn next → GoesOn (inc.keeping_artifact logs next)
       keeps logs next so made i = so made (inc.with_cached logs made (with i)).inclusion
 
-      derived : (o : Option (OneShot Dir)) (r : VerifiedLogs) (i : Inclusion Dir) (next : inc.Next Dir) → GoesOn next → Leads Q (inc.derives c o r (with i) next) h
+      derived : (o : Option (OneShot Dir)) (r : VerifiedLogs) (i : Inclusion Dir) (next : inc.Continuation Dir) → GoesOn next → Leads Q (inc.derives c o r (with i) next) h
       derived (Some o) r i next so =
-          leads_option (λ (found : Verified). inc.oneshot_with c o found.output found.share (with i) (inc.keeping r.logs next)) r.result (inc.keeping r.logs next (record { info = None; share = None }) (with i))
-          (λ found. once o found.output found.share i (inc.keeping r.logs next) (keeps r.logs next so)) (keeps r.logs next so (record { info = None; share = None }) i)
+          leads_option (λ (found : Verified). inc.oneshot_with c o found.output found.share (with i) (inc.keeping_artifact r.logs next)) r.result (inc.keeping_artifact r.logs next (record { info = None; share = None }) (with i))
+          (λ found. once o found.output found.share i (inc.keeping_artifact r.logs next) (keeps r.logs next so)) (keeps r.logs next so (record { info = None; share = None }) i)
       derived None r i next so =
-          leads_option (λ (info : EpochInfo Dir). inc.derives_next c info r (with i) (inc.keeping r.logs next)) st.participation.current (Stops fault.HeightRange)
+          leads_option (λ (info : EpochInfo Dir). inc.derives_next c info r (with i) (inc.keeping_artifact r.logs next)) st.participation.current (Stops fault.HeightRange)
           (λ info. let made : EpochInfo Dir = info_by c.provided info (option_map (λ (found : Verified). found.output) r.result) in
-          provided (info.epoch + 2) (inc.share_by c info r.result (λ share. inc.with_directory c made (inc.keeping r.logs next (record { info = Some made; share = share }) (with i))))
-          (shared info r.result (λ share. inc.with_directory c made (inc.keeping r.logs next (record { info = Some made; share = share }) (with i)))
-          (λ share. in_directory made (inc.keeping r.logs next (record { info = Some made; share = share }) (with i)) (keeps r.logs next so (record { info = Some made; share = share }) i)))) tt
+          provided (info.epoch + 2) (inc.share_by c info r.result (λ share. inc.with_directory c made (inc.keeping_artifact r.logs next (record { info = Some made; share = share }) (with i))))
+          (shared info r.result (λ share. inc.with_directory c made (inc.keeping_artifact r.logs next (record { info = Some made; share = share }) (with i)))
+          (λ share. in_directory made (inc.keeping_artifact r.logs next (record { info = Some made; share = share }) (with i)) (keeps r.logs next so (record { info = Some made; share = share }) i)))) tt
 
-      by_artifact : (r : VerifiedLogs) (cached : Option (Artifact Dir)) (i : Inclusion Dir) (next : inc.Next Dir) → GoesOn next → Leads Q (inc.artifact_by c r cached (with i) next) h
+      by_artifact : (r : VerifiedLogs) (cached : Option (Artifact Dir)) (i : Inclusion Dir) (next : inc.Continuation Dir) → GoesOn next → Leads Q (inc.artifact_by c r cached (with i) next) h
       by_artifact r (Some made) i next so = so made i
       by_artifact r None i next so = derived c.oneshot r i next so
 
-      artifact : (r : VerifiedLogs) (i : Inclusion Dir) (next : inc.Next Dir) → GoesOn next → Leads Q (inc.artifact c r (with i) next) h
+      artifact : (r : VerifiedLogs) (i : Inclusion Dir) (next : inc.Continuation Dir) → GoesOn next → Leads Q (inc.artifact c r (with i) next) h
       artifact r i next so = by_artifact r (inc.cached_for i.cached r.logs) i next so
 
     -- A LAST BLOCK that carries an info of the next epoch
@@ -322,7 +322,7 @@ module _ (X : Held → Type 0) where
         verifies round logs job (Some who) i = tt
         verifies round logs job None i = artifact (λ st h. ⊤) st h (inc.verified c job) (inc.retains c (inc.verified c job) (inc.verifying job None (with_inclusion i st))).inclusion (b.concludes c block) concludes
 
-        derives_now : (round : Round) (logs : LogMap) (retained : Option VerifiedLogs) (i : Inclusion Dir) → Halts (b.derives_now c round block logs retained (with_inclusion i st)) h
+        derives_now : (round : Round) (logs : LogMap) (retained : Option VerifiedLogs) (i : Inclusion Dir) → Halts (b.derives_at_block c round block logs retained (with_inclusion i st)) h
         derives_now round logs (Some r) i = artifact (λ st h. ⊤) st h r i (b.concludes c block) concludes
         derives_now round logs None i =
             verifies round logs (inc.job_for c round logs (with_inclusion i st)) (if inc.can_finish c round logs (with_inclusion i st) then s.refused_in c round (with_inclusion i st) else None) i
@@ -334,11 +334,11 @@ module _ (X : Held → Type 0) where
 
         completes : (r : VerifiedLogs) (waiter : Option ℕ) → Leads Beside (inc.completes_in c r st waiter) h
         completes r None = (refl, refl)
-        completes r (Some request) = artifact Beside st h r st.inclusion (λ made now. bind (inc.answers c request made now) (λ now. Goes (inc.retains c r now))) (λ made i. (refl, refl))
+        completes r (Some request) = artifact Beside st h r st.inclusion (λ made now. bind (inc.answers_request c request made now) (λ now. Goes (inc.retains c r now))) (λ made i. (refl, refl))
 
         ends : (running : Option Job) → Leads Beside (inc.ends_verifying_in c None st running) h
         ends None = (refl, refl)
-        ends (Some job) = completes (inc.result_of c None job) st.inclusion.waiter
+        ends (Some job) = completes (inc.job_result_of c None job) st.inclusion.waiter
 
         final : (round : Round) → Halts (b.final_block c round block st) h
         final round =

@@ -21,7 +21,7 @@ use Rattle.dkg_core.specs.Agreeing.{AreAgreed}
 use Rattle.dkg_core.specs.Fixed.{has}
 use Rattle.dkg_core.specs.Forms.{IsSeated}
 use Rattle.dkg_core.specs.Heard.{recovered_in}
-use Rattle.dkg_core.specs.Live.{Live, Plays, Watches, of_epoch}
+use Rattle.dkg_core.specs.Live.{Live, Plays, Watches, records_of_epoch}
 use Rattle.dkg_core.specs.Logs.{logs_of}
 use Rattle.dkg_core.specs.Setup.{Standing, is_lost}
 use Rattle.dkg_lives.specs.Given.{Lived, at_step}
@@ -85,9 +85,9 @@ module _ (g : Lived) (taken : ℕ) (standing : Standing) (info : EpochInfo direc
       → end.participation.seat ≡ Plays
   unfolding at_step
   plays_so key none =
-      let found : is_lost (at_step g taken) seated.round (of_epoch (seated.round).number (pairs_in (recovered_in now))) (bare_logs (of_epoch (seated.round).number (pairs_in (logs_in (notes now))))) ≡ false = none in
-      let lost : is_lost (at_step g taken) seated.round (of_epoch (seated.round).number end.records.dealings) (logs_of end (seated.round).number) ≡ false = rw (agreed.dealings, agreed.logs) found in
-      seated.seat ∙ sits (has (seated.round).players g.script.config.me) (is_lost (at_step g taken) seated.round (of_epoch (seated.round).number end.records.dealings) (logs_of end (seated.round).number)) key lost
+      let found : is_lost (at_step g taken) seated.round (records_of_epoch (seated.round).number (pairs_in (recovered_in now))) (bare_logs (records_of_epoch (seated.round).number (pairs_in (logs_in (notes now))))) ≡ false = none in
+      let lost : is_lost (at_step g taken) seated.round (records_of_epoch (seated.round).number end.records.dealings) (logs_of end (seated.round).number) ≡ false = rw (agreed.dealings, agreed.logs) found in
+      seated.seat ∙ sits (has (seated.round).players g.script.config.me) (is_lost (at_step g taken) seated.round (records_of_epoch (seated.round).number end.records.dealings) (logs_of end (seated.round).number)) key lost
     where
       sits : (key lost : Bool) → key ≡ true → lost ≡ false → (if not key || lost then Watches else Plays) ≡ Plays
       sits key lost a b = rw (a, b) refl

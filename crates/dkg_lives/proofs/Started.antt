@@ -14,38 +14,38 @@ use Rattle.dkg_text.specs.declared.script.Anchor.TheVariants.{Processed, Absent}
 use Rattle.dkg_text.specs.declared.script.BlockLine.{BlockLine}
 use Rattle.dkg_text.specs.declared.script.Event.{Event}
 use Rattle.dkg_text.specs.declared.script.Life.{Life}
-use Rattle.dkg_script.specs.Blocks.{Block, anchor_number, block_at, block_of, blocks, held_at_opening, material_of_line}
+use Rattle.dkg_script.specs.Blocks.{ScriptBlock, anchor_number, numbered_block, block_of, blocks, held_at_opening, material_of_line}
 use Rattle.dkg_script.specs.Epochs.{alone}
-use Rattle.dkg_script.specs.Position.{awaited_epoch, floor_block, height_after_anchor, height_of_floor, lacks_boundary, material, start_height, starts_blind, starts_late, unless_outdated}
-use Rattle.dkg_script.specs.Readings.{Material}
+use Rattle.dkg_script.specs.Position.{awaited_epoch, floor_block, height_after_anchor, height_of_floor, lacks_boundary, material, first_height, starts_blind, starts_late, unless_outdated}
+use Rattle.dkg_script.specs.Readings.{SyncMaterial}
 use Rattle.dkg_script.specs.Setting.{Setting, blocks_per_epoch, found, is_oneshot}
 use Rattle.dkg_core.specs.Sources.{anchored, position}
 use Rattle.dkg_core.specs.Endings.{first_block, first_epoch}
 use Rattle.dkg_lives.specs.Epochs.{IsAnchorAbove, IsLifeInForm}
-use Rattle.dkg_lives.specs.Given.{Lived, anchor_at, anchor_in, at_step, blocks_in, delivered_by, numbered}
+use Rattle.dkg_lives.specs.Given.{Lived, anchor_of_line, anchor_in, at_step, blocks_in, delivered_by, numbered}
 use Rattle.dkg_lives.proofs.Awaiting.{awaited}
 use Rattle.dkg_lives.proofs.Delivered.{starts}
 use Rattle.dkg_lives.proofs.Former.{height_at, life_in}
 
 -- THE SCRIPT'S OWN BLOCKS stand where the made ones do
 
-abbrev heights : List Block → List ℕ
-heights bs = map (λ (b : Block). b.height) bs
+abbrev heights : List ScriptBlock → List ℕ
+heights bs = map (λ (b : ScriptBlock). b.height) bs
 
-of_lines : (s : Setting) (before : List Block) (lines : List BlockLine)
+of_lines : (s : Setting) (before : List ScriptBlock) (lines : List BlockLine)
     → heights (fold (λ before line. before ++ block_of s before line ∷ []) before lines) ≡ heights before ++ map (λ (line : BlockLine). line.height) lines
 of_lines s before [] = sym (append-nil (heights before))
 of_lines s before (line ∷ lines) =
     of_lines s (before ++ block_of s before line ∷ []) lines
-    ∙ ap (λ (hs : List ℕ). hs ++ map (λ (line : BlockLine). line.height) lines) (map-append (λ (b : Block). b.height) before (block_of s before line ∷ []))
+    ∙ ap (λ (hs : List ℕ). hs ++ map (λ (line : BlockLine). line.height) lines) (map-append (λ (b : ScriptBlock). b.height) before (block_of s before line ∷ []))
     ∙ append_assoc (heights before) (line.height ∷ []) (map (λ (line : BlockLine). line.height) lines)
 
-pub same_heights : (s : Setting) (number : ℕ) → option_map (λ (b : made.Block directory.Unit). b.height) (slice_get (blocks_in s.script) number) ≡ option_map (λ (b : Block). b.height) (block_at s number)
+pub same_heights : (s : Setting) (number : ℕ) → option_map (λ (b : made.Block directory.Unit). b.height) (slice_get (blocks_in s.script) number) ≡ option_map (λ (b : ScriptBlock). b.height) (numbered_block s number)
 same_heights s number =
     height_at s.script number
     ∙ sym (slice_get-map (λ (line : BlockLine). line.height) s.script.blocks number)
     ∙ sym (ap (λ (hs : List ℕ). slice_get hs number) (of_lines s [] s.script.blocks))
-    ∙ slice_get-map (λ (b : Block). b.height) (blocks s) number
+    ∙ slice_get-map (λ (b : ScriptBlock). b.height) (blocks s) number
 
 the_height : {x y : ℕ} → Some x ≡ Some y → x ≡ y
 the_height e = cc
@@ -58,45 +58,45 @@ module _ (s : Setting) (l : ℕ) (life : Life) (no_sync : life.sync ≡ None) (n
     where
       by_mode : (oneshot : Bool) → cond oneshot None (unless_outdated s life (option_or (option_and_then (material_of_line s) life.sync) (found s l))) ≡ None
       by_mode true = refl
-      by_mode false = ap (λ (o : Option Material). unless_outdated s life (option_or (option_and_then (material_of_line s) life.sync) o)) none_found
+      by_mode false = ap (λ (o : Option SyncMaterial). unless_outdated s life (option_or (option_and_then (material_of_line s) life.sync) o)) none_found
           ∙ ap (λ o. unless_outdated s life (option_or (option_and_then (material_of_line s) o) None)) no_sync
 
-  pub starts_at_anchor : start_height s l life ≡ height_after_anchor s life.anchor
-  starts_at_anchor = ap (λ (x : Option Material). max (height_after_anchor s life.anchor) (height_of_floor s life x)) no_material ∙ no_more (height_after_anchor s life.anchor)
+  pub starts_at_anchor : first_height s l life ≡ height_after_anchor s life.anchor
+  starts_at_anchor = ap (λ (x : Option SyncMaterial). max (height_after_anchor s life.anchor) (height_of_floor s life x)) no_material ∙ no_more (height_after_anchor s life.anchor)
     where
       no_more : (n : ℕ) → max n 0 ≡ n
       no_more n = omega arith
 
   pub not_late : starts_late s l life ≡ false
-  not_late = ap (λ (x : Option Material). option_map_or (λ b. nat_lt (midpoint (blocks_per_epoch s) (epoch_of (blocks_per_epoch s) b.height)) b.height) (option_and_then (floor_block s life) x) false) no_material
+  not_late = ap (λ (x : Option SyncMaterial). option_map_or (λ b. nat_lt (midpoint (blocks_per_epoch s) (epoch_of (blocks_per_epoch s) b.height)) b.height) (option_and_then (floor_block s life) x) false) no_material
 
   pub blind_is : starts_blind s l life ≡ lacks_boundary s l life
-  blind_is = ap (λ (x : Option Material). is_none x && lacks_boundary s l life) no_material
+  blind_is = ap (λ (x : Option SyncMaterial). is_none x && lacks_boundary s l life) no_material
 
 -- ITS HEIGHT
 
 module _ (s : Setting) where
   pub at_anchor : (at : Option Anchor) → IfSome at (IsAnchorAbove s.script.blocks) → awaited (position (anchor_in (blocks_in s.script) at)) ≡ height_after_anchor s at
   at_anchor None above = refl
-  at_anchor (Some (Processed number)) above = both (slice_get (blocks_in s.script) number) (block_at s number) (same_heights s number)
+  at_anchor (Some (Processed number)) above = both (slice_get (blocks_in s.script) number) (numbered_block s number) (same_heights s number)
     where
       next : (h k : ℕ) → h ≡ k → h + 1 ≡ suc k
       next h k same = omega (arith, same)
 
-      both : (o : Option (made.Block directory.Unit)) (p : Option Block) → option_map (λ (b : made.Block directory.Unit). b.height) o ≡ option_map (λ (b : Block). b.height) p
-          → awaited (position (option_map (anchor_at (Processed number)) o)) ≡ option_map_or (λ b. suc b.height) p 0
+      both : (o : Option (made.Block directory.Unit)) (p : Option ScriptBlock) → option_map (λ (b : made.Block directory.Unit). b.height) o ≡ option_map (λ (b : ScriptBlock). b.height) p
+          → awaited (position (option_map (anchor_of_line (Processed number)) o)) ≡ option_map_or (λ b. suc b.height) p 0
       both None None same = refl
       both None (Some p) same = absurd (let wrong : ◌≡◌ {A = Option ℕ} None (Some p.height) = same in cc)
       both (Some o) None same = absurd (let wrong : ◌≡◌ {A = Option ℕ} (Some o.height) None = same in cc)
       both (Some o) (Some p) same = next o.height p.height (the_height same)
-  at_anchor (Some (Absent number)) above = both (slice_get s.script.blocks number) (slice_get (blocks_in s.script) number) (block_at s number) (height_at s.script number) (same_heights s number) above
+  at_anchor (Some (Absent number)) above = both (slice_get s.script.blocks number) (slice_get (blocks_in s.script) number) (numbered_block s number) (height_at s.script number) (same_heights s number) above
     where
       before : (h k q : ℕ) → h ≡ q → h ≡ k → 0 < q → h - 1 + 1 ≡ k
       before h k q line same some = omega (arith, line, same, some)
 
-      both : (line : Option BlockLine) (o : Option (made.Block directory.Unit)) (p : Option Block) → option_map (λ (b : made.Block directory.Unit). b.height) o ≡ option_map (λ (x : BlockLine). x.height) line
-          → option_map (λ (b : made.Block directory.Unit). b.height) o ≡ option_map (λ (b : Block). b.height) p → IfSome line (λ x. 0 < x.height)
-          → awaited (position (option_map (anchor_at (Absent number)) o)) ≡ option_map_or (λ b. b.height) p 0
+      both : (line : Option BlockLine) (o : Option (made.Block directory.Unit)) (p : Option ScriptBlock) → option_map (λ (b : made.Block directory.Unit). b.height) o ≡ option_map (λ (x : BlockLine). x.height) line
+          → option_map (λ (b : made.Block directory.Unit). b.height) o ≡ option_map (λ (b : ScriptBlock). b.height) p → IfSome line (λ x. 0 < x.height)
+          → awaited (position (option_map (anchor_of_line (Absent number)) o)) ≡ option_map_or (λ b. b.height) p 0
       both line None None lines same some = refl
       both line None (Some p) lines same some = absurd (let wrong : ◌≡◌ {A = Option ℕ} None (Some p.height) = same in cc)
       both line (Some o) None lines same some = absurd (let wrong : ◌≡◌ {A = Option ℕ} (Some o.height) None = same in cc)
@@ -112,14 +112,14 @@ is_at at o = option_map_or (λ (h : ℕ). h == at) o false
 module _ (s : Setting) (at : ℕ) where
   -- whether the block of a number stands there
   abbrev stands : ℕ → Bool
-  stands number = is_at at (option_map (λ (b : Block). b.height) (block_at s number))
+  stands number = is_at at (option_map (λ (b : ScriptBlock). b.height) (numbered_block s number))
 
-  in_script : (numbers : List ℕ) → list_any (λ b. b.height == at) (filter_map (block_at s) numbers) ≡ list_any stands numbers
+  in_script : (numbers : List ℕ) → list_any (λ b. b.height == at) (filter_map (numbered_block s) numbers) ≡ list_any stands numbers
   in_script [] = refl
-  in_script (number ∷ numbers) = by_block (block_at s number) (in_script numbers)
+  in_script (number ∷ numbers) = by_block (numbered_block s number) (in_script numbers)
     where
-      by_block : (o : Option Block) → list_any (λ b. b.height == at) (filter_map (block_at s) numbers) ≡ list_any stands numbers
-          → list_any (λ b. b.height == at) (cons_option o (filter_map (block_at s) numbers)) ≡ (is_at at (option_map (λ (b : Block). b.height) o) || list_any stands numbers)
+      by_block : (o : Option ScriptBlock) → list_any (λ b. b.height == at) (filter_map (numbered_block s) numbers) ≡ list_any stands numbers
+          → list_any (λ b. b.height == at) (cons_option o (filter_map (numbered_block s) numbers)) ≡ (is_at at (option_map (λ (b : ScriptBlock). b.height) o) || list_any stands numbers)
       by_block None rest = rest
       by_block (Some b) rest = ap (λ (t : Bool). (b.height == at) || t) rest
 
@@ -159,12 +159,12 @@ module _ (s : Setting) (at : ℕ) where
   anchored_is None = refl
   anchored_is (Some (Processed number)) = by_block (slice_get (blocks_in s.script) number)
     where
-      by_block : (o : Option (made.Block directory.Unit)) → anchored (option_map (anchor_at (Processed number)) o) ≡ cons_option o []
+      by_block : (o : Option (made.Block directory.Unit)) → anchored (option_map (anchor_of_line (Processed number)) o) ≡ cons_option o []
       by_block None = refl
       by_block (Some b) = refl
   anchored_is (Some (Absent number)) = by_block (slice_get (blocks_in s.script) number)
     where
-      by_block : (o : Option (made.Block directory.Unit)) → anchored (option_map (anchor_at (Absent number)) o) ≡ cons_option o []
+      by_block : (o : Option (made.Block directory.Unit)) → anchored (option_map (anchor_of_line (Absent number)) o) ≡ cons_option o []
       by_block None = refl
       by_block (Some b) = refl
 
@@ -194,7 +194,7 @@ module _ (s : Setting) (at : ℕ) where
 
 module _ (g : Lived) (here : IsLifeInForm g) where
   -- what it awaits at first
-  pub awaits_at_first : awaited (position (anchor_in (blocks_in g.script) g.life.anchor)) ≡ start_height (alone g.script) g.number g.life
+  pub awaits_at_first : awaited (position (anchor_in (blocks_in g.script) g.life.anchor)) ≡ first_height (alone g.script) g.number g.life
   awaits_at_first = at_anchor (alone g.script) g.life.anchor here.anchor ∙ sym (starts_at_anchor (alone g.script) g.number g.life (life_in g here).no_sync refl)
 
   pub first_epoch_is : (taken : ℕ) → first_epoch (at_step g taken) ≡ awaited_epoch (alone g.script) g.number g.life 0

@@ -10,7 +10,7 @@ use Rattle.dkg_infos.specs.declared.info.EpochInfo.{EpochInfo}
 use Rattle.dkg_text.specs.declared.script.Event.{Event}
 use Rattle.dkg_text.specs.declared.script.Event.TheVariants.{Final}
 use Rattle.dkg_script.specs.Epochs.{alone}
-use Rattle.dkg_script.specs.Position.{awaited_epoch, enters_at, follows, lacks_boundary, starts_blind, starts_late}
+use Rattle.dkg_script.specs.Position.{awaited_epoch, enters_blind_at, life_follows, lacks_boundary, starts_blind, starts_late}
 use Rattle.dkg_script.specs.Setting.{Setting, blocks_per_epoch, is_oneshot}
 use Rattle.dkg_store.specs.Acts.{Held}
 use Rattle.dkg_core.specs.Forms.{IsNodeBegun, IsSeated, IsSetUpIn, Judged, Refusal, Passed, Applied, judged_block, share_read, seed_read, started}
@@ -78,8 +78,8 @@ module _ (g : Lived) (here : IsLifeInForm g) where
   is_first e = e == awaited_epoch s g.number g.life 0
 
   -- that in which it starts without the block that begins it, and without a position that of the first block
-  follows_is : (e : ℕ) → follows s g.number g.life e ≡ (blind && (is_first e || enters_at s g.number g.life e))
-  follows_is e = plainly (is_oneshot s) (is_first e) (starts_late s g.number g.life) blind (enters_at s g.number g.life e) reshares (not_late s g.number g.life (life_in g here).no_sync refl)
+  follows_is : (e : ℕ) → life_follows s g.number g.life e ≡ (blind && (is_first e || enters_blind_at s g.number g.life e))
+  follows_is e = plainly (is_oneshot s) (is_first e) (starts_late s g.number g.life) blind (enters_blind_at s g.number g.life e) reshares (not_late s g.number g.life (life_in g here).no_sync refl)
     where
       reshares : is_oneshot s ≡ false
       reshares = ap is_some here.form.reshares
@@ -92,15 +92,15 @@ module _ (g : Lived) (here : IsLifeInForm g) where
       plainly false true false false enters a b = refl
       plainly false false false false enters a b = refl
 
-  is_blind : (e : ℕ) → follows s g.number g.life e ≡ true → blind ≡ true
-  is_blind e is = first_of blind (is_first e || enters_at s g.number g.life e) (sym (follows_is e) ∙ is)
+  is_blind : (e : ℕ) → life_follows s g.number g.life e ≡ true → blind ≡ true
+  is_blind e is = first_of blind (is_first e || enters_blind_at s g.number g.life e) (sym (follows_is e) ∙ is)
     where
       first_of : (a b : Bool) → (a && b) ≡ true → a ≡ true
       first_of true b e = refl
       first_of false b e = absurd (bools_apart false e refl)
 
-  follows_first : (e : ℕ) → blind ≡ true → e ≡ awaited_epoch s g.number g.life 0 → follows s g.number g.life e ≡ true
-  follows_first e sees same = follows_is e ∙ both blind (is_first e) (enters_at s g.number g.life e) sees (itself e (awaited_epoch s g.number g.life 0) same)
+  follows_first : (e : ℕ) → blind ≡ true → e ≡ awaited_epoch s g.number g.life 0 → life_follows s g.number g.life e ≡ true
+  follows_first e sees same = follows_is e ∙ both blind (is_first e) (enters_blind_at s g.number g.life e) sees (itself e (awaited_epoch s g.number g.life 0) same)
     where
       itself : (a b : ℕ) → a ≡ b → (a == b) ≡ true
       itself a b is = grind (arith, nat_tests)
@@ -108,18 +108,18 @@ module _ (g : Lived) (here : IsLifeInForm g) where
       both : (a b c : Bool) → a ≡ true → b ≡ true → (a && (b || c)) ≡ true
       both a b c x y = rw (x, y) refl
 
-  follows_entered : (e : ℕ) → blind ≡ true → enters_at s g.number g.life e ≡ true → follows s g.number g.life e ≡ true
-  follows_entered e sees enters = follows_is e ∙ both blind (is_first e) (enters_at s g.number g.life e) sees enters
+  follows_entered : (e : ℕ) → blind ≡ true → enters_blind_at s g.number g.life e ≡ true → life_follows s g.number g.life e ≡ true
+  follows_entered e sees enters = follows_is e ∙ both blind (is_first e) (enters_blind_at s g.number g.life e) sees enters
     where
       both : (a b c : Bool) → a ≡ true → c ≡ true → (a && (b || c)) ≡ true
       both a true c x y = rw x refl
       both a false c x y = rw (x, y) refl
 
-  sees_all : (e : ℕ) → blind ≡ false → follows s g.number g.life e ≡ false
-  sees_all e sees = follows_is e ∙ ap (λ (t : Bool). t && (is_first e || enters_at s g.number g.life e)) sees
+  sees_all : (e : ℕ) → blind ≡ false → life_follows s g.number g.life e ≡ false
+  sees_all e sees = follows_is e ∙ ap (λ (t : Bool). t && (is_first e || enters_blind_at s g.number g.life e)) sees
 
-  follows_no_other : (e : ℕ) → is_first e ≡ false → enters_at s g.number g.life e ≡ false → follows s g.number g.life e ≡ false
-  follows_no_other e first enters = follows_is e ∙ neither blind (is_first e) (enters_at s g.number g.life e) first enters
+  follows_no_other : (e : ℕ) → is_first e ≡ false → enters_blind_at s g.number g.life e ≡ false → life_follows s g.number g.life e ≡ false
+  follows_no_other e first enters = follows_is e ∙ neither blind (is_first e) (enters_blind_at s g.number g.life e) first enters
     where
       neither : (a b c : Bool) → b ≡ false → c ≡ false → (a && (b || c)) ≡ false
       neither true b c x y = rw (x, y) refl
@@ -265,7 +265,7 @@ module _ (g : Lived) (here : IsLifeInForm g) where
               more : (a b : ℕ) → b ≡ a + 1 → a < b
               more a b e = omega (arith, e)
 
-          unfollowed_then : follows s g.number g.life (epoch_by g (suc i)) ≡ false
+          unfollowed_then : life_follows s g.number g.life (epoch_by g (suc i)) ≡ false
           unfollowed_then = follows_no_other (epoch_by g (suc i))
               (first_not s g.number g.life some i number (the_height number made_it).b at reached (the_height number made_it).there (epoch_by g (suc i)) reaches above)
               (enters_not s g.number g.life some i number (the_height number made_it).b at reached (the_height number made_it).there (epoch_by g (suc i)) (suc_height (awaited_by g (suc i)) height behind) above)
@@ -279,45 +279,45 @@ module _ (g : Lived) (here : IsLifeInForm g) where
           unfolding at_step
           same_epoch = ap (epoch_of n) behind ∙ not_last n height some (subst (λ (h : ℕ). (h == last n (epoch_of n h)) ≡ false) (the_height number made_it).same goes)
 
-          followed_then : follows s g.number g.life (epoch_by g (suc i)) ≡ true
+          followed_then : life_follows s g.number g.life (epoch_by g (suc i)) ≡ true
           followed_then = by_tip st.tip refl
             where
-              by_tip : (o : Option Tip) → st.tip ≡ o → follows s g.number g.life (epoch_by g (suc i)) ≡ true
+              by_tip : (o : Option Tip) → st.tip ≡ o → life_follows s g.number g.life (epoch_by g (suc i)) ≡ true
               by_tip (Some t) tip =
                   let over : made_it.block.height ≡ t.height + 1 = (applied_so (at_step g (suc i)) made_it.block st applied).over t tip in
                   let at_tip : awaited_by g i ≡ height = sym stands.awaits ∙ ap awaited tip ∙ sym over ∙ (the_height number made_it).same in
-                  ap (follows s g.number g.life) (same_epoch ∙ sym (ap (epoch_of n) at_tip)) ∙ stands.blind stage
+                  ap (life_follows s g.number g.life) (same_epoch ∙ sym (ap (epoch_of n) at_tip)) ∙ stands.blind stage
               by_tip None tip =
-                  ap (follows s g.number g.life) same_epoch
+                  ap (life_follows s g.number g.life) same_epoch
                   ∙ follows_entered (epoch_of n height) (is_blind (epoch_by g i) (stands.blind stage))
                   (enters_here s g.number g.life some i number (the_height number made_it).b at reached (the_height number made_it).there (sym stands.awaits ∙ ap awaited tip))
 
       -- the life goes on
       module _ (goes : GoesOn (at_step g (suc i)) st m.message end) where
         parted : (end.participation.stage ≡ Follows → ⊥) → epoch_by g (suc i) ≡ epoch_by g i
-        parted apart = sym end_epoch ∙ sym ((next.live).stands.awaits apart) ∙ (goes.same).epoch ∙ stands.epoch (λ follows. apart (goes.following follows))
+        parted apart = sym end_epoch ∙ sym ((next.live).stands.awaits apart) ∙ (goes.same).epoch ∙ stands.epoch (λ life_follows. apart (goes.following life_follows))
 
-        followed_on : end.participation.stage ≡ Follows → follows s g.number g.life (epoch_by g (suc i)) ≡ true
+        followed_on : end.participation.stage ≡ Follows → life_follows s g.number g.life (epoch_by g (suc i)) ≡ true
         followed_on stage = by_brought (brings_so g its m.message m.brings)
           where
             before : st.participation.stage ≡ Follows
             before = goes.parts stage
 
-            unmoved : end.tip ≡ st.tip → follows s g.number g.life (epoch_by g (suc i)) ≡ true
-            unmoved same = ap (λ (h : ℕ). follows s g.number g.life (epoch_of n h)) (sym end_awaits ∙ ap awaited same ∙ stands.awaits) ∙ stands.blind before
+            unmoved : end.tip ≡ st.tip → life_follows s g.number g.life (epoch_by g (suc i)) ≡ true
+            unmoved same = ap (λ (h : ℕ). life_follows s g.number g.life (epoch_of n h)) (sym end_awaits ∙ ap awaited same ∙ stands.awaits) ∙ stands.blind before
 
-            by_brought : BringsBlock g its m.message ⊎ BringsMail its m.message → follows s g.number g.life (epoch_by g (suc i)) ≡ true
+            by_brought : BringsBlock g its m.message ⊎ BringsMail its m.message → life_follows s g.number g.life (epoch_by g (suc i)) ≡ true
             by_brought (inr mail) = unmoved (tip_is ∙ ap (λ (x : Message directory.Unit). tip_behind x st.tip) mail.1)
             by_brought (inl b) = by_judged (judged_block (at_step g (suc i)) (b.1).block st) refl
               where
                 the_end : IsBlockThrough (at_step g (suc i)) any_shares (b.1).block st devices (judged_block (at_step g (suc i)) (b.1).block st) end left
                 the_end = subst (λ (x : Message directory.Unit). IsEndThrough (at_step g (suc i)) any_shares st x devices end left) b.3 next.is
 
-                by_last : (applied : judged_block (at_step g (suc i)) (b.1).block st ≡ Applied) (t : Bool) → is_last_height (at_step g (suc i)) (b.1).block.height ≡ t → follows s g.number g.life (epoch_by g (suc i)) ≡ true
+                by_last : (applied : judged_block (at_step g (suc i)) (b.1).block st ≡ Applied) (t : Bool) → is_last_height (at_step g (suc i)) (b.1).block.height ≡ t → life_follows s g.number g.life (epoch_by g (suc i)) ≡ true
                 by_last applied true ends = absurd (subst (λ (x : Message directory.Unit). PassesNothingOn (at_step g (suc i)) st x) b.3 goes.nothing applied ends)
                 by_last applied false ends = followed_then b.0 b.1 (is ∙ ap (λ (e : Event). Some e) b.2) b.3 applied ends before
 
-                by_judged : (j : Judged) → judged_block (at_step g (suc i)) (b.1).block st ≡ j → follows s g.number g.life (epoch_by g (suc i)) ≡ true
+                by_judged : (j : Judged) → judged_block (at_step g (suc i)) (b.1).block st ≡ j → life_follows s g.number g.life (epoch_by g (suc i)) ≡ true
                 by_judged (Refusal fault) e = absurd (subst (λ (j : Judged). IsBlockThrough (at_step g (suc i)) any_shares (b.1).block st devices j end left) e the_end)
                 by_judged Passed e =
                     unmoved (ap (λ (x : Live directory.Unit). x.tip) (subst (λ (j : Judged). IsBlockThrough (at_step g (suc i)) any_shares (b.1).block st devices j end left) e the_end).0)
@@ -327,7 +327,7 @@ module _ (g : Lived) (here : IsLifeInForm g) where
         on_stands = record {
           awaits = end_awaits;
           blind = followed_on;
-          parts = λ apart. ap (follows s g.number g.life) (parted apart) ∙ stands.parts (λ follows. apart (goes.following follows));
+          parts = λ apart. ap (life_follows s g.number g.life) (parted apart) ∙ stands.parts (λ life_follows. apart (goes.following life_follows));
           epoch = λ apart. (next.live).stands.awaits apart ∙ end_epoch;
           within = upto end.participation.epoch st.participation.epoch (epoch_by g i) (epoch_by g (suc i)) (goes.same).epoch stands.within later;
         }
@@ -340,10 +340,10 @@ module _ (g : Lived) (here : IsLifeInForm g) where
         apart : end.participation.stage ≡ Follows → ⊥
         apart = parts_behind (at_step g (suc i)) any_shares st m.message devices end left (form_at g here (suc i)) live next over
 
-        unfollowed_over : follows s g.number g.life (epoch_by g (suc i)) ≡ false
+        unfollowed_over : life_follows s g.number g.life (epoch_by g (suc i)) ≡ false
         unfollowed_over = by_brought (brings_so g its m.message m.brings)
           where
-            by_brought : BringsBlock g its m.message ⊎ BringsMail its m.message → follows s g.number g.life (epoch_by g (suc i)) ≡ false
+            by_brought : BringsBlock g its m.message ⊎ BringsMail its m.message → life_follows s g.number g.life (epoch_by g (suc i)) ≡ false
             by_brought (inr mail) = absurd (let wrong : ◌≡◌ {A = Message directory.Unit} (Sent mail.0) (Finalized over.block) = sym mail.1 ∙ over.is in cc)
             by_brought (inl b) =
                 let block_is : over.block ≡ (b.1).block = the_block (sym over.is ∙ b.3) in

@@ -34,7 +34,7 @@ use Rattle.dkg_core.specs.Entering as half
 use Rattle.dkg_core.specs.Entering.{Half, HalfAnswer, Acknowledges, Withholds, active, takes_delivered}
 use Rattle.dkg_core.specs.Fixed.{Fixed, Material, OneShot, has}
 use Rattle.dkg_core.specs.Forms.{Applied, judged_block, share_read}
-use Rattle.dkg_core.specs.Live.{Dealer, Faulted, Finalized, Live, NodeStop, Orchestrator, Waiting, Watches, awaited_height, of_epoch, phase_of}
+use Rattle.dkg_core.specs.Live.{Dealer, Faulted, Finalized, Live, NodeStop, Orchestrator, Waiting, Watches, awaited_height, records_of_epoch, phase_of}
 use Rattle.dkg_core.specs.Logs.{logs_of}
 use Rattle.dkg_core.specs.Node as node
 use Rattle.dkg_core.specs.Node.{node_opening, node_step, unless_once}
@@ -177,7 +177,7 @@ module _ {Dir : Type 0} (c : Fixed Dir) (reshare : c.oneshot ≡ None) where
 
   makes_player : (round : Round) (phase : Phase) (dealer : Option Dealer) (now : Live Dir) → Quiet (s.makes_player c round phase dealer now)
   makes_player round phase dealer now =
-      so_if No (not (has round.players c.me) || s.is_lost c round (of_epoch round.number now.records.dealings) (logs_of now round.number)) (s.takes_part c round phase dealer Watches now)
+      so_if No (not (has round.players c.me) || s.is_lost c round (records_of_epoch round.number now.records.dealings) (logs_of now round.number)) (s.takes_part c round phase dealer Watches now)
       (s.sits_down c round phase dealer (s.refused_in c round now) now) (λ e. (tt, tt)) (λ e. sits_down round phase dealer (s.refused_in c round now) now)
 
   dealt_by : (round : Round) (phase : Phase) (now : Live Dir) (dealt : Result (List ℕ × List (ℕ × ℕ)) DealError) → Quiet (s.dealt_by c round phase now dealt)
@@ -207,13 +207,13 @@ module _ {Dir : Type 0} (c : Fixed Dir) (reshare : c.oneshot ≡ None) where
       (λ st. bind (s.prunes (st.participation.epoch - 1) st) (λ st. if s.is_late_floor c floor then s.follows c st else s.draws_up c (s.participants_of info) (Some info.output) share seed st))
       (commits_new standing info seed share now) (λ end. behind_prune floor info share seed (record end { records = s.records_from (end.participation.epoch - 1) end.records }))
 
-  judged : (floor : Option ℕ) (standing : Standing) (info : EpochInfo Dir) (now : Live Dir) (valid : Result (Unit {0}) ParticipantsError) → Quiet (s.judged c floor standing info now valid)
+  judged : (floor : Option ℕ) (standing : Standing) (info : EpochInfo Dir) (now : Live Dir) (valid : Result (Unit {0}) ParticipantsError) → Quiet (s.info_judged c floor standing info now valid)
   judged floor standing info now (Err e) = tt
   judged floor standing info now (Ok passed) = λ h. with_share_and_seed floor standing info (share_read c info h) (s.seed_for c info.epoch (lookup info.epoch (c.seen h).seeds)) now
 
   with_info : (floor : Option ℕ) (standing : Standing) (info : EpochInfo Dir) (now : Live Dir) → Quiet (s.with_info c floor standing info now)
   with_info floor standing info now =
-      so_if No (info.epoch == now.participation.epoch) (s.judged c floor standing info now (validity c info)) (Stops (WrongEpoch now.participation.epoch info.epoch)) (λ e. judged floor standing info now (validity c info)) (λ e. tt)
+      so_if No (info.epoch == now.participation.epoch) (s.info_judged c floor standing info now (validity c info)) (Stops (WrongEpoch now.participation.epoch info.epoch)) (λ e. judged floor standing info now (validity c info)) (λ e. tt)
 
   from_boundary : (o : Option (Block Dir)) (now : Live Dir) → Quiet (s.from_boundary c o now)
   from_boundary None now = (tt, tt)
@@ -247,7 +247,7 @@ module _ {Dir : Type 0} (c : Fixed Dir) (reshare : c.oneshot ≡ None) where
     resolves (Some m) = so_if No (plans.is_outdated c m) (Do (OnDisk ClearsPlan) (plans.starts_from c now None)) (plans.starts_from c now (Some m)) (λ e. starts_from None now) (λ e. starts_from (Some m) now)
 
     abbrev next : Option (Material Dir) → Course Dir Fault (Live Dir)
-    next found = plans.in_range c (plans.resolves_plan c (plans.starts_from c now) found)
+    next found = plans.stays_in_range c (plans.resolves_plan c (plans.starts_from c now) found)
 
     next_so : (found : Option (Material Dir)) → Quiet (next found)
     next_so found = so_if No _ (Stops HeightRange) (plans.resolves_plan c (plans.starts_from c now) found) (λ e. tt) (λ e. resolves found)

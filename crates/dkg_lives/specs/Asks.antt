@@ -43,8 +43,8 @@ turns request Closed (Cancel number) = if number == request then Cancelled else 
 turns request standing _ = standing
 
 -- .. behind the first j events of a life
-abbrev pub standing_of : Life → (request j : ℕ) → RequestStanding
-standing_of life request j = fold (turns request) Unmade (take j life.events)
+abbrev pub request_standing : Life → (request j : ℕ) → RequestStanding
+request_standing life request j = fold (turns request) Unmade (take j life.events)
 
 -- It was made, and wasn't cancelled.
 abbrev pub IsUncancelled : RequestStanding → Type 0
@@ -96,7 +96,7 @@ pub record IsRefusedAt (script : Script) (life : Life) (epoch request j : ℕ) (
 
 -- it ended too soon
 pub record IsShortAt (script : Script) (life : Life) (epoch request j : ℕ) : Type 0 where
-  pub closed : standing_of life request j ≡ Closed
+  pub closed : request_standing life request j ≡ Closed
   pub path : List (Block U)
   pub fed : fed_in script life request j ≡ reverse path
   pub under_way : IsUnderWay (bounds_in script epoch) (scan_tip script life j) path

@@ -33,7 +33,7 @@ use Rattle.dkg_text.specs.declared.script.Script.{Script}
 use Rattle.dkg_script.specs.Blocks.{anchor_number}
 use Rattle.dkg_script.specs.Epochs.{alone}
 use Rattle.dkg_script.specs.Players.{players_at}
-use Rattle.dkg_script.specs.Position.{awaited_epoch, awaited_height, follows}
+use Rattle.dkg_script.specs.Position.{awaited_epoch, awaited_height_after, life_follows}
 use Rattle.dkg_script.specs.Progress.{AtEachEntry, Progress}
 use Rattle.dkg_script.specs.Setting.{blocks_per_epoch, setting_of}
 use Rattle.dkg_core.specs.Fixed.{has}
@@ -96,7 +96,7 @@ opening_block script l life =
     find (λ b. b.height == boundary (per_epoch script) (first_epoch_in script l life)) (numbered (blocks_in script) (life.held ++ option_to_list (option_map anchor_number life.anchor)))
 
 abbrev pub IsOpeningCause : Script → (l : ℕ) → Life → Fault → Type 0
-IsOpeningCause script l life HeightRange = is_beyond script (awaited_height (alone script) l life 0) ≡ true
+IsOpeningCause script l life HeightRange = is_beyond script (awaited_height_after (alone script) l life 0) ≡ true
 IsOpeningCause script l life (MissingEpochInfo height) = IsSomeAnd (opening_block script l life) (λ b. (height ≡ b.height) × (info_of b.payload ≡ None))
 IsOpeningCause script l life its = OnCarried (opening_block script l life) (λ info. IsInfoCause script (first_epoch_in script l life) info its)
 
@@ -113,7 +113,7 @@ tip_in script life n = fold (tip_over (blocks_in script)) (position (anchor_in (
 -- without a tip the first epoch's early blocks are taken, and any while the life follows
 abbrev pub is_first_taken : Script → (l : ℕ) → Life → Block directory.Unit → Bool
 is_first_taken script l life b =
-    follows (alone script) l life 0 || ((epoch_of (per_epoch script) b.height == 0) && nat_lt b.height (midpoint (per_epoch script) (epoch_of (per_epoch script) b.height)))
+    life_follows (alone script) l life 0 || ((epoch_of (per_epoch script) b.height == 0) && nat_lt b.height (midpoint (per_epoch script) (epoch_of (per_epoch script) b.height)))
 
 -- what it is refused for over a tip: it is another one at the tip's height, it leaves one out, or it has another parent
 abbrev pub refusal_over : Tip → Block directory.Unit → Option Fault
@@ -137,14 +137,14 @@ pub record IsTakenLast (script : Script) (l : ℕ) (life : Life) (j : ℕ) (b : 
   pub above : option_map_or (λ t. nat_le b.height t.height) (tip_in script life j) false ≡ false
   pub ends : (b.height == last (per_epoch script) (epoch_of (per_epoch script) b.height)) ≡ true
 
-abbrev pub next_epoch : Script → Block directory.Unit → ℕ
-next_epoch script b = epoch_of (per_epoch script) b.height + 1
+abbrev pub epoch_behind : Script → Block directory.Unit → ℕ
+epoch_behind script b = epoch_of (per_epoch script) b.height + 1
 
 -- why that setup stops
 abbrev pub IsNextCause : Script → Block directory.Unit → Fault → Type 0
 IsNextCause script b (MissingEpochInfo height) = (height ≡ b.height) × (info_of b.payload ≡ None)
-IsNextCause script b HeightRange = IsSomeAnd (info_of b.payload) (λ info. info.epoch ≡ next_epoch script b) × (is_beyond script (b.height + 1) ≡ true)
-IsNextCause script b its = OnCarried (Some b) (λ info. IsInfoCause script (next_epoch script b) info its)
+IsNextCause script b HeightRange = IsSomeAnd (info_of b.payload) (λ info. info.epoch ≡ epoch_behind script b) × (is_beyond script (b.height + 1) ≡ true)
+IsNextCause script b its = OnCarried (Some b) (λ info. IsInfoCause script (epoch_behind script b) info its)
 
 -- What the provider says of the epoch two above is nobody, or more than the limit. (That epoch is a number of 64 bits, and a directory that says nothing never fails to match.)
 abbrev pub IsProviderCause : Script → (epoch : ℕ) → Fault → Type 0
@@ -156,7 +156,7 @@ IsProviderCause script epoch its = ⊥
 -- why a last block that is taken stops the life: the info that ends its epoch can't be made, where the life takes part in that epoch, or the next epoch can't be set up
 abbrev pub IsLastCause : Script → (l : ℕ) → Life → (j : ℕ) → Block directory.Unit → Fault → Type 0
 IsLastCause script l life j b its =
-    ((follows (alone script) l life (awaited_epoch (alone script) l life j) ≡ false) × IsProviderCause script (epoch_of (per_epoch script) b.height) its) ⊎ IsNextCause script b its
+    ((life_follows (alone script) l life (awaited_epoch (alone script) l life j) ≡ false) × IsProviderCause script (epoch_of (per_epoch script) b.height) its) ⊎ IsNextCause script b its
 
 abbrev pub IsBlockCause : Script → (l : ℕ) → Life → (j : ℕ) → Block directory.Unit → Fault → Type 0
 IsBlockCause script l life j b its = (refusal_in script l life j b ≡ Some its) ⊎ (IsTakenLast script l life j b × IsLastCause script l life j b its)
@@ -184,14 +184,14 @@ IsAskedOwn script life j epoch its = ⊥
 -- what this node deals isn't what is recorded of it in the epoch that it takes part in
 abbrev pub IsOwnDealing : Script → (l : ℕ) → Life → (j : ℕ) → Fault → Type 0
 IsOwnDealing script l life j (LocalState (OwnDealing number kept dealt)) =
-    (number ≡ awaited_epoch (alone script) l life j) × (follows (alone script) l life number ≡ false) × (kept ≢ dealt)
+    (number ≡ awaited_epoch (alone script) l life j) × (life_follows (alone script) l life number ≡ false) × (kept ≢ dealt)
 IsOwnDealing script l life j its = ⊥
 
 -- what of the state stops the life at a last block that is taken: it can't set the next epoch up, or verify the logs of the one that ends
 abbrev pub IsLastOwn : Script → (l : ℕ) → Life → (j : ℕ) → Block directory.Unit → Fault → Type 0
 IsLastOwn script l life j b its =
-    OnCarried (Some b) (λ info. IsOwnCause script (next_epoch script b) info its)
-    ⊎ ((follows (alone script) l life (awaited_epoch (alone script) l life j) ≡ false) × IsAskedOwn script life j (epoch_of (per_epoch script) b.height) its)
+    OnCarried (Some b) (λ info. IsOwnCause script (epoch_behind script b) info its)
+    ⊎ ((life_follows (alone script) l life (awaited_epoch (alone script) l life j) ≡ false) × IsAskedOwn script life j (epoch_of (per_epoch script) b.height) its)
 
 abbrev pub IsBlockOwn : Script → (l : ℕ) → Life → (j : ℕ) → Block directory.Unit → Fault → Type 0
 IsBlockOwn script l life j b its =
@@ -228,8 +228,8 @@ IsReadingEvent _ = ⊥
 -- By the event behind the first j such requests may be read: one was made in the epoch that the life awaits and takes part in, and behind the event a height from its midpoint on is awaited.
 pub record MayRead (script : Script) (l : ℕ) (life : Life) (j : ℕ) : Type 0 where
   pub event : IsSomeAnd (slice_get life.events j) IsReadingEvent
-  pub takes_part : follows (alone script) l life (awaited_epoch (alone script) l life j) ≡ false
-  pub late : midpoint (per_epoch script) (awaited_epoch (alone script) l life j) ≤ awaited_height (alone script) l life (suc j)
+  pub takes_part : life_follows (alone script) l life (awaited_epoch (alone script) l life j) ≡ false
+  pub late : midpoint (per_epoch script) (awaited_epoch (alone script) l life j) ≤ awaited_height_after (alone script) l life (suc j)
   pub at : ℕ
   pub so_far : at ≤ j
   pub request : ℕ

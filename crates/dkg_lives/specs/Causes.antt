@@ -6,14 +6,14 @@ use Rattle.dkg_life.specs.declared.stop.Stop.{Stop}
 use Rattle.dkg_life.specs.declared.stop.Stop.TheVariants.{Cut, Failed, Fault as FaultOf}
 
 -- A device is blamed only where its count rose. (Each count's rise is handed in as a fact.)
-abbrev pub HasCause : Fault → (disk_rose secrets_rose : Type 0) → Type 0
-HasCause fault.Disk disk_rose secrets_rose = disk_rose
-HasCause fault.Secrets disk_rose secrets_rose = secrets_rose
-HasCause its disk_rose secrets_rose = ⊤
+abbrev pub HasDeviceCause : Fault → (disk_rose secrets_rose : Type 0) → Type 0
+HasDeviceCause fault.Disk disk_rose secrets_rose = disk_rose
+HasDeviceCause fault.Secrets disk_rose secrets_rose = secrets_rose
+HasDeviceCause its disk_rose secrets_rose = ⊤
 
 -- .. of a stop: no life ends by a call that failed before
 abbrev pub StopHasCause : Stop → (disk_rose secrets_rose : Type 0) → Type 0
-StopHasCause (FaultOf its) disk_rose secrets_rose = HasCause its disk_rose secrets_rose
+StopHasCause (FaultOf its) disk_rose secrets_rose = HasDeviceCause its disk_rose secrets_rose
 StopHasCause Cut disk_rose secrets_rose = ⊤
 StopHasCause Failed disk_rose secrets_rose = ⊥
 

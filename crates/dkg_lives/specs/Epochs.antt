@@ -12,7 +12,7 @@ use Rattle.dkg_life.specs.Configured.{config_fault}
 use Rattle.dkg_life.specs.Planless.{seen_planless}
 use Rattle.dkg_script.specs.Epochs.{alone}
 use Rattle.dkg_script.specs.Inclusion.{IsFormOfInclusion}
-use Rattle.dkg_script.specs.Position.{awaited_epoch, awaited_height, follows}
+use Rattle.dkg_script.specs.Position.{awaited_epoch, awaited_height_after, life_follows}
 use Rattle.dkg_store.specs.Acts.{Held}
 use Rattle.dkg_core.specs.Asked.{OfShares}
 use Rattle.dkg_core.specs.Live as core
@@ -41,7 +41,7 @@ pub record IsLifeInForm (g : Lived) : Type 0 where
 
 -- what its script says of it, over devices that hold nothing
 abbrev pub awaited_by : Lived → (j : ℕ) → ℕ
-awaited_by g j = awaited_height (alone g.script) g.number g.life j
+awaited_by g j = awaited_height_after (alone g.script) g.number g.life j
 
 abbrev pub epoch_by : Lived → (j : ℕ) → ℕ
 epoch_by g j = awaited_epoch (alone g.script) g.number g.life j
@@ -50,8 +50,8 @@ epoch_by g j = awaited_epoch (alone g.script) g.number g.life j
 -- was set up for is no later one.
 pub record StandsInScript (g : Lived) (j : ℕ) (st : Live directory.Unit) : Type 0 where
   pub awaits : core.awaited_height st ≡ awaited_by g j
-  pub blind : st.participation.stage ≡ Follows → follows (alone g.script) g.number g.life (epoch_by g j) ≡ true
-  pub parts : (st.participation.stage ≡ Follows → ⊥) → follows (alone g.script) g.number g.life (epoch_by g j) ≡ false
+  pub blind : st.participation.stage ≡ Follows → life_follows (alone g.script) g.number g.life (epoch_by g j) ≡ true
+  pub parts : (st.participation.stage ≡ Follows → ⊥) → life_follows (alone g.script) g.number g.life (epoch_by g j) ≡ false
   pub epoch : (st.participation.stage ≡ Follows → ⊥) → st.participation.epoch ≡ epoch_by g j
   pub within : st.participation.epoch ≤ epoch_by g j
 
@@ -60,7 +60,7 @@ abbrev pub any_shares : OfShares
 any_shares epoch share = ⊤
 
 -- A STATE behind the first j events
-pub record IsAt (g : Lived) (j : ℕ) (st : Live directory.Unit) : Type 0 where
+pub record IsAtEvent (g : Lived) (j : ℕ) (st : Live directory.Unit) : Type 0 where
   pub live : IsLiveThrough (at_step g j) any_shares st
   pub active : IsActiveThrough st
   pub stands : StandsInScript g j st

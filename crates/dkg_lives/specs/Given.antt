@@ -65,12 +65,12 @@ block_on config parent line = record {
 }
 
 -- the digest of the block that a line names as its parent, among the blocks of the lines before it
-abbrev pub parent_in : List (Block directory.Unit) → Option ℕ → List ℕ
-parent_in before parent = option_map_or (λ b. b.digest) (option_and_then (slice_get before) parent) zeros
+abbrev pub parent_digest_in : List (Block directory.Unit) → Option ℕ → List ℕ
+parent_digest_in before parent = option_map_or (λ b. b.digest) (option_and_then (slice_get before) parent) zeros
 
 -- these blocks, and that of one line more
 abbrev pub with_block : ScriptConfig → List (Block directory.Unit) → BlockLine → List (Block directory.Unit)
-with_block config before line = before ++ block_on config (parent_in before line.parent) line ∷ []
+with_block config before line = before ++ block_on config (parent_digest_in before line.parent) line ∷ []
 
 -- the blocks of a script, in the order of its lines
 unfoldable pub blocks_in : Script → List (Block directory.Unit)
@@ -90,16 +90,16 @@ numbered blocks numbers = filter_map (slice_get blocks) numbers
 abbrev pub delivered_by : List (Block directory.Unit) → List script.Event → List (Block directory.Unit)
 delivered_by blocks events = numbered blocks (filter_map delivered_number events)
 
-abbrev pub anchor_at : declared.Anchor → Block directory.Unit → Anchor directory.Unit
-anchor_at (anchor.Processed number) b = record { processed = AtBlock b.height; block = b }
-anchor_at (anchor.Absent number) b = record { processed = Absent (b.height - 1); block = b }
+abbrev pub anchor_of_line : declared.Anchor → Block directory.Unit → Anchor directory.Unit
+anchor_of_line (anchor.Processed number) b = record { processed = AtBlock b.height; block = b }
+anchor_of_line (anchor.Absent number) b = record { processed = Absent (b.height - 1); block = b }
 
 abbrev pub anchor_block : List (Block directory.Unit) → declared.Anchor → Option (Block directory.Unit)
 anchor_block blocks (anchor.Processed number) = slice_get blocks number
 anchor_block blocks (anchor.Absent number) = slice_get blocks number
 
 abbrev pub anchor_in : List (Block directory.Unit) → Option declared.Anchor → Option (Anchor directory.Unit)
-anchor_in blocks at = option_and_then (λ its. option_map (anchor_at its) (anchor_block blocks its)) at
+anchor_in blocks at = option_and_then (λ its. option_map (anchor_of_line its) (anchor_block blocks its)) at
 
 -- No finalization is known of a block: no probe is run yet.
 abbrev pub unsealed : Block directory.Unit → Option Finalization
@@ -141,9 +141,9 @@ abbrev pub no_probed : Probed directory.Unit
 no_probed = record { snapshot = None; certifies = λ finalization. false }
 
 -- what its steps read: its opening what is given, and the ones behind it what the devices hold
-abbrev pub seen_at : Lived → (taken : ℕ) → Held → Seen
-seen_at g zero = g.seen
-seen_at g (suc taken) = seen_planless
+abbrev pub seen_in_step : Lived → (taken : ℕ) → Held → Seen
+seen_in_step g zero = g.seen
+seen_in_step g (suc taken) = seen_planless
 
 -- what a step of the life is given
 unfoldable pub at_step : Lived → (taken : ℕ) → Fixed directory.Unit
@@ -159,7 +159,7 @@ at_step g taken = record {
   rules = stand_in;
   directories = unit_directories;
   provided = provided_by g.script;
-  seen = seen_at g taken;
+  seen = seen_in_step g taken;
   inner = no_inner;
   probed = no_probed;
   life = g.number;
@@ -170,21 +170,21 @@ at_step g taken = record {
 }
 
 -- the node's event of a script's
-abbrev pub event_in : List (Block directory.Unit) → script.Event → Option (Event directory.Unit)
-event_in blocks (event.Peer from bytes) = Some (Reshare (Peer from bytes))
-event_in blocks (event.Final number) = option_map Delivers (slice_get blocks number)
-event_in blocks (event.Next request height) = Some (Reshare (NextLog request height))
-event_in blocks (event.Release height) = Some (Reshare (ReleaseLog height))
-event_in blocks (event.Info request) = Some (Reshare (EpochInfoOf request))
-event_in blocks (event.Feed request number) = option_map (λ b. Reshare (Feed request b)) (slice_get blocks number)
-event_in blocks (event.Over request) = Some (Reshare (Over request))
-event_in blocks (event.Cancel request) = Some (Reshare (Cancel request))
-event_in blocks event.Work = Some (Reshare (Work None))
-event_in blocks other = None
+abbrev pub node_event_in : List (Block directory.Unit) → script.Event → Option (Event directory.Unit)
+node_event_in blocks (event.Peer from bytes) = Some (Reshare (Peer from bytes))
+node_event_in blocks (event.Final number) = option_map Delivers (slice_get blocks number)
+node_event_in blocks (event.Next request height) = Some (Reshare (NextLog request height))
+node_event_in blocks (event.Release height) = Some (Reshare (ReleaseLog height))
+node_event_in blocks (event.Info request) = Some (Reshare (EpochInfoOf request))
+node_event_in blocks (event.Feed request number) = option_map (λ b. Reshare (Feed request b)) (slice_get blocks number)
+node_event_in blocks (event.Over request) = Some (Reshare (Over request))
+node_event_in blocks (event.Cancel request) = Some (Reshare (Cancel request))
+node_event_in blocks event.Work = Some (Reshare (Work None))
+node_event_in blocks other = None
 
 -- the course of a step
 abbrev pub step_of : Lived → (number : ℕ) → script.Event → Live directory.Unit → Course directory.Unit NodeStop (Live directory.Unit)
-step_of g number event st = option_map_or (λ its. node_step (at_step g number) its st) (event_in (blocks_in g.script) event) (Goes st)
+step_of g number event st = option_map_or (λ its. node_step (at_step g number) its st) (node_event_in (blocks_in g.script) event) (Goes st)
 
 -- No plan is read.
 abbrev pub IsUnplanned : (Held → Seen) → Type 0

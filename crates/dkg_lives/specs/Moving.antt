@@ -12,7 +12,7 @@ use Rattle.dkg_store.specs.declared.devices.Devices.{Devices}
 use Rattle.dkg_secrets.specs.declared.secrets.SecretOp.{SecretOp}
 use Rattle.dkg_life.specs.Ends.{IsCausedBy}
 use Rattle.dkg_life.specs.declared.stop.Stop.{Stop}
-use Rattle.dkg_lives.specs.Causes.{HasCause, StopHasCause}
+use Rattle.dkg_lives.specs.Causes.{HasDeviceCause, StopHasCause}
 use Rattle.dkg_lives.specs.Stopped.{Stopped}
 
 -- where these devices stand, with this image of the disk
@@ -31,7 +31,7 @@ pub record Went {D X : Type 0} (tells : Bool) (made_disk : D → D → List (Dev
 -- A device that the fault blames has a count that rose.
 abbrev pub Blames : {D X : Type 0} → (D → ℕ) → (X → ℕ) → (old new : Devices D X) → Fault → Type 0
 Blames disk_faults secret_faults old new fault =
-    HasCause fault (Rose (disk_faults old.disk.now) (disk_faults new.disk.now)) (Rose (secret_faults old.secrets.now) (secret_faults new.secrets.now))
+    HasDeviceCause fault (Rose (disk_faults old.disk.now) (disk_faults new.disk.now)) (Rose (secret_faults old.secrets.now) (secret_faults new.secrets.now))
 
 -- .. that the stop blames
 abbrev pub StopBlames : {D X : Type 0} → (D → ℕ) → (X → ℕ) → (old new : Devices D X) → Stop → Type 0

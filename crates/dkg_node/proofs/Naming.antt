@@ -10,7 +10,7 @@ use Rattle.dkg_store.proofs.Acts.{made_broken, made_next, made_stopped}
 use Rattle.dkg_core.specs.Courses.{Course, Say, Do, Call, Ask, Goes, Stops, bind, on_devices, under}
 use Rattle.dkg_core.specs.Live.{NodeStop, Faulted}
 use Rattle.dkg_core.specs.Said.{Said, SaysAll, SaysFirst, SaysUpTo}
-use Rattle.dkg_core.specs.Splitting.{named}
+use Rattle.dkg_core.specs.Splitting.{fault_named}
 use Rattle.dkg_life.specs.Ends.{by_cause, by_stop, cause_in}
 use Rattle.dkg_life.specs.Made.{Burns, MakesAt}
 use Rattle.dkg_life.specs.declared.stop.Stop.{Stop}
@@ -60,23 +60,23 @@ module _ {S : Type 0} where
   breaks_named cause (acts_of.Goes its) w new a = a
   breaks_named cause (acts_of.Stops its) w new a = a
 
-  runs_named : (acts : Acts Fault S) (how : Ended Fault S) (w new : World) → Runs acts how w new → Runs (acts_of.under Faulted acts) (named Faulted how) w new
+  runs_named : (acts : Acts Fault S) (how : Ended Fault S) (w new : World) → Runs acts how w new → Runs (acts_of.under Faulted acts) (fault_named Faulted how) w new
   runs_named acts (went end) w new a = completes_named acts end w new a
   runs_named acts (stopped fault) w new a = faults_named acts fault w new a
   runs_named acts (broken cause) w new a = breaks_named cause acts w new a
 
-  if_went_named : (how : Ended Fault S) (P : Type 0) → IfWent how P → IfWent (named Faulted how) P
+  if_went_named : (how : Ended Fault S) (P : Type 0) → IfWent how P → IfWent (fault_named Faulted how) P
   if_went_named (went end) P a = a
   if_went_named (stopped fault) P a = tt
   if_went_named (broken cause) P a = tt
 
-  burns_named : (how : Ended Fault S) {f g : Burn} → Burns how f g → Burns (named Faulted how) f g
+  burns_named : (how : Ended Fault S) {f g : Burn} → Burns how f g → Burns (fault_named Faulted how) f g
   burns_named (went end) burns = record { call = burns.call; pick = burns.pick; uncut = burns.uncut }
   burns_named (stopped fault) burns = record { call = burns.call; pick = burns.pick; uncut = burns.uncut }
   burns_named (broken cause) burns = record { call = burns.call; pick = burns.pick; uncut = tt }
 
   makes_named : (acts : Acts Fault S) (how : Ended Fault S) {files files_now : Files} {image now : Files → Type 0} {old new : Moment}
-      → MakesAt acts how files image files_now now old new → MakesAt (acts_of.under Faulted acts) (named Faulted how) files image files_now now old new
+      → MakesAt acts how files image files_now now old new → MakesAt (acts_of.under Faulted acts) (fault_named Faulted how) files image files_now now old new
   makes_named acts how {files} {files_now} {image} {now} {old} {new} its = record {
     made = record {
       made = λ stands c here. runs_named acts how (at old files) (at new c) (its.made.made stands c here);
@@ -109,7 +109,7 @@ module _ {S : Type 0} where
   says_first_named (acts_of.Goes end) lines a = a
   says_first_named (acts_of.Stops fault) lines a = a
 
-  said_named : (acts : Acts Fault S) (how : Ended Fault S) {out now : List Line} → Said acts how out now → Said (acts_of.under Faulted acts) (named Faulted how) out now
+  said_named : (acts : Acts Fault S) (how : Ended Fault S) {out now : List Line} → Said acts how out now → Said (acts_of.under Faulted acts) (fault_named Faulted how) out now
   said_named acts (went end) its = record { lines = its.lines; added = its.added; by = says_all_named acts end its.lines its.by }
   said_named acts (stopped fault) its = record { lines = its.lines; added = its.added; by = says_up_to_named acts fault its.lines its.by }
   said_named acts (broken cause) its = record { lines = its.lines; added = its.added; by = says_first_named acts its.lines its.by }
@@ -120,7 +120,7 @@ module _ {S T : Type 0} {before after : Burn} where
   stop_burns : (its : Stop) → Burns (by_node_stop {S = S} its) before after → Burns (by_node_stop {S = T} its) before after
   stop_burns (stop.Fault its) burns = in_cause (cause_in its) its burns
     where
-      in_cause : (cause : Option Cause) (its : Fault) → Burns (named {S = S} Faulted (by_cause cause its)) before after → Burns (named {S = T} Faulted (by_cause cause its)) before after
+      in_cause : (cause : Option Cause) (its : Fault) → Burns (fault_named {S = S} Faulted (by_cause cause its)) before after → Burns (fault_named {S = T} Faulted (by_cause cause its)) before after
       in_cause (Some cause) its burns = record { call = burns.call; pick = burns.pick; uncut = tt }
       in_cause None its burns = record { call = burns.call; pick = burns.pick; uncut = burns.uncut }
   stop_burns stop.Cut burns = record { call = burns.call; pick = burns.pick; uncut = tt }
@@ -130,8 +130,8 @@ module _ {S T : Type 0} {acts : Acts NodeStop S} (next : S → Acts NodeStop T) 
   stop_made : (its : Stop) → MadeAt acts (by_node_stop its) files image files_now now old new → MadeAt (acts_of.bind acts next) (by_node_stop its) files image files_now now old new
   stop_made (stop.Fault its) made = in_cause (cause_in its) its made
     where
-      in_cause : (cause : Option Cause) (its : Fault) → MadeAt acts (named Faulted (by_cause cause its)) files image files_now now old new
-          → MadeAt (acts_of.bind acts next) (named Faulted (by_cause cause its)) files image files_now now old new
+      in_cause : (cause : Option Cause) (its : Fault) → MadeAt acts (fault_named Faulted (by_cause cause its)) files image files_now now old new
+          → MadeAt (acts_of.bind acts next) (fault_named Faulted (by_cause cause its)) files image files_now now old new
       in_cause (Some cause) its made = made_broken next made
       in_cause None its made = made_stopped next made
   stop_made stop.Cut made = made_broken next made
@@ -161,7 +161,7 @@ module _ {S T : Type 0} (next : S → Acts NodeStop T) where
   said_early : {acts : Acts NodeStop S} {out now : List Line} (its : Stop) → Said acts (by_node_stop its) out now → Said (acts_of.bind acts next) (by_node_stop its) out now
   said_early {acts} {out} {now} (stop.Fault its) said = in_cause (cause_in its) its said
     where
-      in_cause : (cause : Option Cause) (its : Fault) → Said acts (named Faulted (by_cause cause its)) out now → Said (acts_of.bind acts next) (named Faulted (by_cause cause its)) out now
+      in_cause : (cause : Option Cause) (its : Fault) → Said acts (fault_named Faulted (by_cause cause its)) out now → Said (acts_of.bind acts next) (fault_named Faulted (by_cause cause its)) out now
       in_cause (Some cause) its said = record { lines = said.lines; added = said.added; by = first_behind acts said.lines said.by }
       in_cause None its said = record { lines = said.lines; added = said.added; by = up_to_behind acts (Faulted its) said.lines said.by }
   said_early {acts} stop.Cut said = record { lines = said.lines; added = said.added; by = first_behind acts said.lines said.by }

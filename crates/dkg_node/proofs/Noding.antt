@@ -78,7 +78,7 @@ use Rattle.dkg_lives.specs.Ended.{by_node_stop, ends_node}
 use Rattle.dkg_lives.specs.Epochs.{MayStep, any_shares}
 use Rattle.dkg_lives.specs.Given.{IsUnplanned, Lived, at_step, blocks_in, step_of}
 use Rattle.dkg_lives.specs.Lives.{never}
-use Rattle.dkg_around.specs.Orchestrator.{HasHalf, IsSettled, MayGoOn, MayPass, with_half}
+use Rattle.dkg_around.specs.Orchestrator.{HasOrchestratorHalf, IsSettled, MayGoOn, MayPass, with_orchestrator_half}
 use Rattle.dkg_node.specs.Nodes.{IsEventHere, IsMail, IsOfLife, IsReadyNode, IsView, Viewed, sent_event}
 use Rattle.dkg_around.specs.declared.half.Half.{Half}
 use Rattle.dkg_around.specs.declared.held.HeldBlocks.{HeldBlocks}
@@ -327,7 +327,7 @@ module _ (n : Node) (half_was : Half) (fence_was : Readiness) (c : Fixed directo
 
   -- .. and behind them
   abbrev end_of : reshare.Life directory.Unit → Live directory.Unit
-  end_of life = with_half n.half n.fence (mid_of life)
+  end_of life = with_orchestrator_half n.half n.fence (mid_of life)
 
   end_view : (life : reshare.Life directory.Unit) (its : NodeInclusion) → n.actor.state ≡ Living life its → IsSeen its beside.inclusion → IsView n (end_of life)
   end_view life its lives seen =
@@ -353,12 +353,12 @@ module _ (n : Node) (half_was : Half) (fence_was : Readiness) (c : Fixed directo
 
   -- .. or it went there, to such a life that its lines say, and the other half answered
   abbrev pub Answers : (Live directory.Unit → Type 0) → Result (Unit {0}) Stop → (mid now : List Line) → Type 0
-  Answers Led result mid now = (end : Live directory.Unit) → HasHalf half_was end → end.orchestrator.fence ≡ fence_was → Led end → Speaks (answered end) (ends_node (with_half n.half n.fence end) result) mid now
+  Answers Led result mid now = (end : Live directory.Unit) → HasOrchestratorHalf half_was end → end.orchestrator.fence ≡ fence_was → Led end → Speaks (answered end) (ends_node (with_orchestrator_half n.half n.fence end) result) mid now
 
   abbrev pub Leads : (Live directory.Unit → Type 0) → Type 0
   Leads Led = (end : Live directory.Unit) → end.orchestrator.fence ≡ fence_was → (out now : List Line) → Said (on_devices (step c (Finalized b) st)) (went end) out now → Led end
 
-  mid_has : (life : reshare.Life directory.Unit) → HasHalf half_was (mid_of life)
+  mid_has : (life : reshare.Life directory.Unit) → HasOrchestratorHalf half_was (mid_of life)
   mid_has life = record { entered = has.entered; halted = has.halted; unawaited = has.unawaited }
 
   module _ (Led : Live directory.Unit → Type 0) (leads : Leads Led) where
@@ -677,8 +677,8 @@ module _ (before n : Node) (g : Lived) (number : ℕ) (st : Live directory.Unit)
     MayGo end = (epoch : ℕ) → before.half.halted ≡ false → before.half.entered ≡ Some epoch → MayGoOn given_at fence b epoch end
 
     abbrev pub Speaking : Result (Unit {0}) Stop → (mid now : List Line) → Type 0
-    Speaking result mid now = (end : Live directory.Unit) → HasHalf before.half end → end.orchestrator.fence ≡ fence → MayGo end
-        → Speaks (bind (takes_delivered given_at b end) (λ half. acked_at b.height half.answer half.live)) (ends_node (with_half n.half n.fence end) result) mid now
+    Speaking result mid now = (end : Live directory.Unit) → HasOrchestratorHalf before.half end → end.orchestrator.fence ≡ fence → MayGo end
+        → Speaks (bind (takes_delivered given_at b end) (λ half. acked_at b.height half.answer half.live)) (ends_node (with_orchestrator_half n.half n.fence end) result) mid now
 
     leads_on : (end : Live directory.Unit) → end.orchestrator.fence ≡ fence → (out now : List Line) → Said (on_devices (step given_at (Finalized b) st)) (went end) out now → MayGo end
     leads_on end is out now said = may_go_on b end out now said fence is

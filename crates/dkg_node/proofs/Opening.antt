@@ -31,7 +31,7 @@ use Rattle.dkg_core.specs.Said.{Said}
 use Rattle.dkg_core.specs.Seen.{Seen}
 use Rattle.dkg_core.specs.Setup.{Uncommitted, scheme_for}
 use Rattle.dkg_core.specs.Sources.{Source, startup}
-use Rattle.dkg_core.specs.Splitting.{named}
+use Rattle.dkg_core.specs.Splitting.{fault_named}
 use Rattle.dkg_core.specs.Forms.{IsOpened, IsSeated, IsSetUpIn, registered_with, seed_read, share_read, started}
 use Rattle.dkg_core.specs.Endings.{OnInfo, first_block, first_epoch}
 use Rattle.dkg_laws.proofs.Openings.{openings_lead}
@@ -53,8 +53,8 @@ use Rattle.dkg_life.specs.declared.stop.Stop.TheVariants as stops
 use Rattle.dkg_life.proofs.Said.{said_of_runs}
 use Rattle.dkg_lives.specs.Ended.{by_node_stop}
 use Rattle.dkg_lives.specs.Epochs.{IsLifeInForm}
-use Rattle.dkg_lives.specs.Given.{Lived, at_step, limits_of, seen_at, source_at}
-use Rattle.dkg_around.specs.Orchestrator.{IsFenceReady, IsHalfGiven, MayEnter, with_half}
+use Rattle.dkg_lives.specs.Given.{Lived, at_step, limits_of, seen_in_step, source_at}
+use Rattle.dkg_around.specs.Orchestrator.{IsFenceReady, IsHalfGiven, MayEnter, with_orchestrator_half}
 use Rattle.dkg_node.specs.Nodes.{IsView, ViewedNew}
 use Rattle.dkg_node.specs.declared.node.Node.{Node}
 use Rattle.dkg_node.proofs.Naming.{node_ends, node_goes, node_says, node_says_early}
@@ -117,7 +117,7 @@ module _ (n : Node) (c : Fixed directory.Unit) (reshare_is : c.oneshot ≡ None)
     (lives : IfIncluding n.actor.state (λ its inclusion. (its ≡ life) × IsSeen inclusion now.inclusion)) (living : IsLiving n.actor.state)
   where
     abbrev pub end_of : Live directory.Unit
-    end_of = with_half n.half n.fence (live_of now fence life)
+    end_of = with_orchestrator_half n.half n.fence (live_of now fence life)
 
     pub opened_view : IsView n end_of
     opened_view = record {
@@ -216,7 +216,7 @@ module _ {C Signer Cfg : Type 0} where
 
 -- UNDER NAMES, and under what is asked of devices
 
-unless_cause : (S T : Type 0) (cause : Option Cause) (its : Fault) (P Q : Type 0) → (P → Q) → UnlessBroken (by_cause {S = S} cause its) P → UnlessBroken (named Faulted (by_cause {S = T} cause its)) Q
+unless_cause : (S T : Type 0) (cause : Option Cause) (its : Fault) (P Q : Type 0) → (P → Q) → UnlessBroken (by_cause {S = S} cause its) P → UnlessBroken (fault_named Faulted (by_cause {S = T} cause its)) Q
 unless_cause S T (Some cause) its P Q so p = tt
 unless_cause S T None its P Q so p = so p
 
@@ -255,7 +255,7 @@ module _ (g : Lived) (terms : Terms) (source : Source directory.Unit) (taken : �
   unfolding at_step
   planless_at = record { reshare = refl; bare = refl }
 
-  pub opening_of : (files : Files) → seen_at g taken ≡ seen_planless → g.calls ≡ length (open_calls files) → IsInGrammar (limits_of g.script).limit files
+  pub opening_of : (files : Files) → seen_in_step g taken ≡ seen_planless → g.calls ≡ length (open_calls files) → IsInGrammar (limits_of g.script).limit files
       → IsOpeningOf terms source g.number g.life.word files (at_step g taken)
   unfolding at_step
   opening_of files reads calls grammar = record { lent = lent_at; bare = planless_at; reads = reads; life_is = number_at; calls_are = calls; grammar = grammar }

@@ -4,7 +4,7 @@ use Rattle.dkg_infos.specs.declared.fault.Fault.{Fault}
 use Rattle.dkg_infos.specs.declared.fault.Fault.TheVariants as fault
 use Rattle.dkg_store.specs.Acts.{stopped}
 use Rattle.dkg_core.specs.Live.{Faulted}
-use Rattle.dkg_core.specs.Splitting.{named}
+use Rattle.dkg_core.specs.Splitting.{fault_named}
 use Rattle.dkg_life.specs.Ends.{by_fault}
 
 -- of a device, a corrupt record, or want of memory: what ends a step from outside
@@ -15,7 +15,7 @@ IsOutside fault.Secrets = Unit {0}
 IsOutside (fault.Corrupt name place) = Unit {0}
 IsOutside its = ⊥
 
-pub own_or_outside : {S : Type 0} (its : Fault) → IsOutside its ⊎ (named {S = S} Faulted (by_fault its) ≡ stopped (Faulted its))
+pub own_or_outside : {S : Type 0} (its : Fault) → IsOutside its ⊎ (fault_named {S = S} Faulted (by_fault its) ≡ stopped (Faulted its))
 own_or_outside fault.NoMemory = inl tt
 own_or_outside fault.Disk = inl tt
 own_or_outside fault.Secrets = inl tt

@@ -11,7 +11,7 @@ use Rattle.dkg_infos.specs.declared.fault.Fault.{Fault}
 use Rattle.dkg_infos.specs.declared.fault.Fault.TheVariants as fault
 use Rattle.dkg_store.specs.Acts.{Ended, Stands, by_cut, by_disk, by_secrets, by_want, held_in, stopped}
 use Rattle.dkg_store.specs.Corrupt.{AreEvents}
-use Rattle.dkg_store.specs.Events.{is_event}
+use Rattle.dkg_store.specs.Events.{is_event_body}
 use Rattle.dkg_secrets.specs.Secrets.{Secrets}
 use Rattle.dkg_core.specs.Courses.{on_devices}
 use Rattle.dkg_core.specs.Fixed.{Fixed}
@@ -47,12 +47,12 @@ grammar_as limit most same files its = subst (λ (n : ℕ). IsInGrammar n files)
 
 events_or : (limit : ℕ) (es : List SectionEntry) → AreEvents limit es ⊎ (AreEvents limit es → ⊥)
 events_or limit [] = inl tt
-events_or limit (e ∷ es) = by_first (is_event limit e.1) refl (events_or limit es)
+events_or limit (e ∷ es) = by_first (is_event_body limit e.1) refl (events_or limit es)
   where
-    apart : is_event limit e.1 ≡ false → is_event limit e.1 ≡ true → ⊥
+    apart : is_event_body limit e.1 ≡ false → is_event_body limit e.1 ≡ true → ⊥
     apart isnt is = let wrong : true ≡ false = sym is ∙ isnt in cc
 
-    by_first : (t : Bool) → is_event limit e.1 ≡ t → AreEvents limit es ⊎ (AreEvents limit es → ⊥) → AreEvents limit (e ∷ es) ⊎ (AreEvents limit (e ∷ es) → ⊥)
+    by_first : (t : Bool) → is_event_body limit e.1 ≡ t → AreEvents limit es ⊎ (AreEvents limit es → ⊥) → AreEvents limit (e ∷ es) ⊎ (AreEvents limit (e ∷ es) → ⊥)
     by_first true is (inl are) = inl (is, are)
     by_first true is (inr not) = inr (λ are. not are.1)
     by_first false is rest = inr (λ are. apart is are.0)

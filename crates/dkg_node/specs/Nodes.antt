@@ -28,9 +28,9 @@ use Rattle.dkg_life.specs.declared.life.Life as reshare
 use Rattle.dkg_life.specs.declared.stop.Stop.{Stop}
 use Rattle.dkg_lives.specs.Ended.{by_node_stop}
 use Rattle.dkg_script.specs.Players.{players_at}
-use Rattle.dkg_lives.specs.Epochs.{IsAt as StandsAt, IsLifeInForm, MayStep}
+use Rattle.dkg_lives.specs.Epochs.{IsAtEvent as StandsAt, IsLifeInForm, MayStep}
 use Rattle.dkg_lives.specs.Given.{AreBytes, Lived, at_step, blocks_in}
-use Rattle.dkg_around.specs.Orchestrator.{HasHalf, IsSettled}
+use Rattle.dkg_around.specs.Orchestrator.{HasOrchestratorHalf, IsSettled}
 use Rattle.dkg_around.specs.declared.half.Half.{Half}
 use Rattle.dkg_around.specs.declared.held.HeldBlocks.{HeldBlocks}
 use Rattle.dkg_node.specs.declared.node.Node.{Node}
@@ -44,7 +44,7 @@ pub record IsView (node : Node) (st : Live directory.Unit) : Type 0 where
   pub lives : IfIncluding node.actor.state (λ its inclusion. (its ≡ life) × IsSeen inclusion beside.inclusion)
   pub living : IsLiving node.actor.state
   pub is : st ≡ live_of beside node.fence life
-  pub half : HasHalf node.half st
+  pub half : HasOrchestratorHalf node.half st
 
 -- It goes on over these devices.
 pub record IsReadyNode {D X : Type 0} (tells : Bool) (files : D → Files) (image : D → Files → Type 0) (node : Node) (devices : Devices D X) : Type 0 where

@@ -4,7 +4,7 @@ use Rattle.std.proofs.lemmas.List.{append-nil}
 use Rattle.dkg_infos.specs.declared.entry.Entry.{Entry as Line}
 use Rattle.dkg_infos.specs.declared.participants.TrackedPeers.{TrackedPeers}
 use Rattle.dkg_types.specs.Tracking.{with_set}
-use Rattle.dkg_probe.specs.Acts.{ProbeActs, Say, Track, Goes, Stops, bind, says_all, ProbeCompletes, ProbeFaults, Speaks, ProbeBreaks, IsFront, Tracks, tracked_after}
+use Rattle.dkg_probe.specs.Acts.{ProbeActs, Say, Track, Goes, Stops, probe_bind, says_all, ProbeCompletes, ProbeFaults, ProbeSpeaks, ProbeBreaks, IsFront, Tracks, tracked_after}
 
 module _ {F S : Type 0} where
   -- nothing was run yet
@@ -30,36 +30,36 @@ module _ {F S : Type 0} where
       inr (tt, some_said (next ∷ lines) acts (out ++ line ∷ []) new (count, omega (arith, lt), e ∙ sym (append_assoc out (line ∷ []) (take count (next ∷ lines)))))
 
   module _ {T : Type 0} (g : S → T) where
-    pub then_completes : (acts : ProbeActs F S) (end : S) (out new : List Line) → ProbeCompletes acts end out new → ProbeCompletes (bind acts (λ s. Goes (g s))) (g end) out new
+    pub then_completes : (acts : ProbeActs F S) (end : S) (out new : List Line) → ProbeCompletes acts end out new → ProbeCompletes (probe_bind acts (λ s. Goes (g s))) (g end) out new
     then_completes (Say line acts) end out new done = then_completes acts end (out ++ line ∷ []) new done
     then_completes (Track epoch peers acts) end out new done = then_completes acts end out new done
     then_completes (Goes its) end out new done = (done.0, ap g done.1)
     then_completes (Stops fault) end out new done = done
 
-    pub then_faults : (acts : ProbeActs F S) (fault : F) (out new : List Line) → ProbeFaults acts fault out new → ProbeFaults (bind acts (λ s. Goes (g s))) fault out new
+    pub then_faults : (acts : ProbeActs F S) (fault : F) (out new : List Line) → ProbeFaults acts fault out new → ProbeFaults (probe_bind acts (λ s. Goes (g s))) fault out new
     then_faults (Say line acts) fault out new done = then_faults acts fault (out ++ line ∷ []) new done
     then_faults (Track epoch peers acts) fault out new done = then_faults acts fault out new done
     then_faults (Goes its) fault out new done = absurd done
     then_faults (Stops its) fault out new done = done
 
-    then_speaks : (acts : ProbeActs F S) → Speaks acts → Speaks (bind acts (λ s. Goes (g s)))
+    then_speaks : (acts : ProbeActs F S) → ProbeSpeaks acts → ProbeSpeaks (probe_bind acts (λ s. Goes (g s)))
     then_speaks (Say line acts) speaks = tt
     then_speaks (Track epoch peers acts) speaks = then_speaks acts speaks
     then_speaks (Goes its) speaks = absurd speaks
     then_speaks (Stops its) speaks = absurd speaks
 
-    pub then_breaks : (acts : ProbeActs F S) (out new : List Line) → ProbeBreaks acts out new → ProbeBreaks (bind acts (λ s. Goes (g s))) out new
+    pub then_breaks : (acts : ProbeActs F S) (out new : List Line) → ProbeBreaks acts out new → ProbeBreaks (probe_bind acts (λ s. Goes (g s))) out new
     then_breaks (Say line acts) out new done = elim done [ inl e ↦ inl e | inr more ↦ inr (then_speaks acts more.0, then_breaks acts (out ++ line ∷ []) new more.1) ]
     then_breaks (Track epoch peers acts) out new done = then_breaks acts out new done
     then_breaks (Goes its) out new done = done
     then_breaks (Stops its) out new done = done
 
-    pub then_tracked : (acts : ProbeActs F S) (sets : ℕ → Option TrackedPeers) (n : ℕ) → tracked_after (bind acts (λ s. Goes (g s))) sets n ≡ tracked_after acts sets n
+    pub then_tracked : (acts : ProbeActs F S) (sets : ℕ → Option TrackedPeers) (n : ℕ) → tracked_after (probe_bind acts (λ s. Goes (g s))) sets n ≡ tracked_after acts sets n
     then_tracked (Say line acts) sets n = then_tracked acts sets n
     then_tracked (Track epoch peers acts) sets n = then_tracked acts (with_set sets epoch peers) n
     then_tracked (Goes its) sets n = refl
     then_tracked (Stops its) sets n = refl
 
-    pub then_tracks : {E : Type 0} (acts : ProbeActs F S) (result : Result (Unit {0}) E) (sets now : ℕ → Option TrackedPeers) → Tracks acts result sets now → Tracks (bind acts (λ s. Goes (g s))) result sets now
+    pub then_tracks : {E : Type 0} (acts : ProbeActs F S) (result : Result (Unit {0}) E) (sets now : ℕ → Option TrackedPeers) → Tracks acts result sets now → Tracks (probe_bind acts (λ s. Goes (g s))) result sets now
     then_tracks acts (Ok u) sets now tracks = λ n. tracks n ∙ sym (then_tracked acts sets n)
     then_tracks acts (Err e) sets now tracks = elim tracks [ inl same ↦ inl same | inr all ↦ inr (λ n. all n ∙ sym (then_tracked acts sets n)) ]

@@ -5,7 +5,7 @@ use Rattle.std.specs.BTreeMap.{is_at}
 use Rattle.std.specs.BTreeSet.{BTreeSet, contains}
 use Rattle.std.specs.Cmp.{nat_cmp_total, eq_by_cmp_equiv}
 use Rattle.std.specs.Ordering.{nat_cmp}
-use Rattle.dkg_probe.specs.Candidates.{Candidate, peers_of, has_peer, are_apart, IsKept}
+use Rattle.dkg_probe.specs.Candidates.{Candidate, candidate_keys, has_peer, are_apart, IsKept}
 
 or_last : (a : Bool) → (a || false) ≡ a
 or_last true = refl
@@ -49,19 +49,19 @@ keys-last : (cs : List Candidate) (c : Candidate) → map (λ (d : Candidate). d
 keys-last [] c = refl
 keys-last (d ∷ ds) c = ap (λ (ps : List ℕ). d.0 ∷ ps) (keys-last ds c)
 
-peers-last : (asked : Option Candidate) (others : List Candidate) (c : Candidate) → peers_of asked (others ++ c ∷ []) ≡ peers_of asked others ++ c.0 ∷ []
+peers-last : (asked : Option Candidate) (others : List Candidate) (c : Candidate) → candidate_keys asked (others ++ c ∷ []) ≡ candidate_keys asked others ++ c.0 ∷ []
 peers-last None others c = keys-last others c
 peers-last (Some d) others c = ap (λ (ps : List ℕ). d.0 ∷ ps) (keys-last others c)
 
-pub kept-last : (asked : Option Candidate) (others : List Candidate) (c : Candidate) (old new : BTreeSet ℕ) → IsKept asked others old → has_peer c.0 (peers_of asked others) ≡ false
+pub kept-last : (asked : Option Candidate) (others : List Candidate) (c : Candidate) (old new : BTreeSet ℕ) → IsKept asked others old → has_peer c.0 (candidate_keys asked others) ≡ false
     → ((q : ℕ) → contains nat_cmp new q ≡ cond (is_at (nat_cmp c.0) q) true (contains nat_cmp old q)) → IsKept asked (others ++ c ∷ []) new
 kept-last asked others c old new kept absent adds = record {
-  apart = ap are_apart (peers-last asked others c) ∙ apart-last (peers_of asked others) c.0 kept.apart absent;
+  apart = ap are_apart (peers-last asked others c) ∙ apart-last (candidate_keys asked others) c.0 kept.apart absent;
   members = λ q.
       adds q
       ∙ ap (λ (b : Bool). cond (is_at (nat_cmp c.0) q) true b) (kept.members q)
-      ∙ or_is (is_at (nat_cmp c.0) q) (has_peer q (peers_of asked others))
-      ∙ ap (λ (b : Bool). has_peer q (peers_of asked others) || b) (tie_symm c.0 q)
-      ∙ sym (has_peer-last q (peers_of asked others) c.0)
+      ∙ or_is (is_at (nat_cmp c.0) q) (has_peer q (candidate_keys asked others))
+      ∙ ap (λ (b : Bool). has_peer q (candidate_keys asked others) || b) (tie_symm c.0 q)
+      ∙ sym (has_peer-last q (candidate_keys asked others) c.0)
       ∙ ap (has_peer q) (sym (peers-last asked others c));
 }

@@ -10,8 +10,8 @@ use Rattle.dkg_types.specs.Tracking.{AnswersTracking, with_set}
 use Rattle.dkg_probe.specs.declared.event.ProbeStop.{ProbeStop}
 use Rattle.dkg_probe.specs.declared.state.State.{State}
 use Rattle.dkg_probe.specs.Acts.{ProbeActs, Goes, says_all, IsFront, ProbeRuns, Tracks, tracked_after}
-use Rattle.dkg_probe.specs.Probing.{Fixed, latest_request, with_sample, one_more, is_done, is_first, tracked_of, activates, subscribes, ended_in, ended_by}
-use Rattle.dkg_probe.specs.Sampling.{forgotten}
+use Rattle.dkg_probe.specs.Probing.{ProbeFixed, latest_request, with_sample, one_more, is_done, is_first, tracked_of, activates, subscribes, ended_in, probe_ended_by}
+use Rattle.dkg_probe.specs.Sampling.{sample_forgotten}
 use Rattle.dkg_probe.specs.Stopping.{stop_for}
 use Rattle.dkg_probe.proofs.Acting.{all_said, some_said, breaks_at_once}
 
@@ -30,7 +30,7 @@ asks_run dealers end st (Ok u) out new same said front = all_said (map latest_re
 asks_run dealers end st (Err e) out new same said front = some_said (map latest_request dealers) (Goes st) out new front
 
 -- the checkpoint was not activated
-pub begin_stops : {Dir : Type 0} (c : Fixed Dir) (lack : Option ℕ) (st left : State Dir) (error : TrackError) (out : List Line) → AnswersTracking {A = Unit {0}} lack (Err error) → ProbeRuns (activates c lack st) (ended_by left (Err (stop_for error))) out out
+pub begin_stops : {Dir : Type 0} (c : ProbeFixed Dir) (lack : Option ℕ) (st left : State Dir) (error : TrackError) (out : List Line) → AnswersTracking {A = Unit {0}} lack (Err error) → ProbeRuns (activates c lack st) (probe_ended_by left (Err (stop_for error))) out out
 begin_stops c lack st left (Missing peer) out named = rw named (refl, refl)
 begin_stops c lack st left NoMemory out named = breaks_at_once (activates c lack st) out
 
@@ -40,10 +40,10 @@ asked_tracks [] acts sets n = refl
 asked_tracks (line ∷ lines) acts sets n = asked_tracks lines acts sets n
 
 -- an activation has the checkpoint's peers tracked
-pub begin_tracks : {Dir : Type 0} (c : Fixed Dir) (lack : Option ℕ) (st : State Dir) (sets now : ℕ → Option TrackedPeers) → lack ≡ None
+pub begin_tracks : {Dir : Type 0} (c : ProbeFixed Dir) (lack : Option ℕ) (st : State Dir) (sets now : ℕ → Option TrackedPeers) → lack ≡ None
     → ((n : ℕ) → now n ≡ with_set sets c.bootstrap.epoch (tracked_of c.bootstrap.participants) n) → (n : ℕ) → now n ≡ tracked_after (activates c lack st) sets n
 begin_tracks c lack st sets now none said n =
-    let e = asked_tracks (map latest_request c.bootstrap.participants.dealers) (Goes (with_sample (forgotten st.sample) st)) (with_set sets c.bootstrap.epoch (tracked_of c.bootstrap.participants)) n in
+    let e = asked_tracks (map latest_request c.bootstrap.participants.dealers) (Goes (with_sample (sample_forgotten st.sample) st)) (with_set sets c.bootstrap.epoch (tracked_of c.bootstrap.participants)) n in
     rw none (said n ∙ sym e)
 
 -- however the step then ends
@@ -52,7 +52,7 @@ tracks_all acts (Ok u) sets now all = all
 tracks_all acts (Err e) sets now all = inr all
 
 -- and so has a first subscriber
-pub subscribe_tracks : {Dir : Type 0} (c : Fixed Dir) (lack : Option ℕ) (st : State Dir) (more : ℕ) (sets now : ℕ → Option TrackedPeers) (result : Result (Unit {0}) ProbeStop) → is_done st ≡ false → is_first st ≡ true → more ≡ st.subscribers + 1
+pub subscribe_tracks : {Dir : Type 0} (c : ProbeFixed Dir) (lack : Option ℕ) (st : State Dir) (more : ℕ) (sets now : ℕ → Option TrackedPeers) (result : Result (Unit {0}) ProbeStop) → is_done st ≡ false → is_first st ≡ true → more ≡ st.subscribers + 1
     → Tracks (activates c lack (record st { subscribers = more })) result sets now → Tracks (subscribes c lack st) result sets now
 subscribe_tracks {Dir} c lack st more sets now result done first is tracks =
     let one : Tracks (activates c lack (one_more st)) result sets now = subst (λ (k : ℕ). Tracks (activates c lack (record st { subscribers = k })) result sets now) is tracks in

@@ -8,10 +8,10 @@ use Rattle.dkg_probe.specs.declared.event.Event.{Event}
 use Rattle.dkg_probe.specs.declared.event.ProbeStop.{ProbeStop}
 use Rattle.dkg_probe.specs.declared.event.ProbeStop.TheVariants.{PeerSet, NoMemory, Failed}
 use Rattle.dkg_probe.specs.declared.state.State.{State}
-use Rattle.dkg_probe.specs.Acts.{Say, Track, Goes, Stops, ProbeCompletes, ProbeFaults, Speaks, ProbeBreaks, ProbeRuns, went, Each}
+use Rattle.dkg_probe.specs.Acts.{Say, Track, Goes, Stops, ProbeCompletes, ProbeFaults, ProbeSpeaks, ProbeBreaks, ProbeRuns, went, Each}
 use Rattle.dkg_probe.specs.OneEpoch.{SaidSince, TellsKnown}
-use Rattle.dkg_probe.specs.Probing.{Fixed, Probes, takes, then_serves, ended_by}
-use Rattle.dkg_probe.specs.Sources.{Source}
+use Rattle.dkg_probe.specs.Probing.{ProbeFixed, Probes, takes, then_serves, probe_ended_by}
+use Rattle.dkg_probe.specs.Sources.{ProbeSource}
 use Rattle.dkg_probe.proofs.Saying.{none_more, one_more_said, takes_fine}
 
 module _ {Dir : Type 0} (spelling : Dir → List ℕ) where
@@ -41,7 +41,7 @@ module _ {Dir : Type 0} (spelling : Dir → List ℕ) where
   free_last line (Stops fault) free = free
 
   -- what isn't the last line is no artifact
-  free_here : (line : Line) (acts : Probes Dir) → Speaks acts → Last line acts → Free line
+  free_here : (line : Line) (acts : Probes Dir) → ProbeSpeaks acts → Last line acts → Free line
   free_here line (Say next acts) speaks last = last
   free_here line (Track epoch peers acts) speaks last = last
   free_here line (Goes end) speaks last = absurd speaks
@@ -83,20 +83,20 @@ module _ {Dir : Type 0} (spelling : Dir → List ℕ) where
     breaking known (Goes its) out new all done = none_more (TellsKnown spelling known) out new done
     breaking known (Stops its) out new all done = none_more (TellsKnown spelling known) out new done
 
-takes_last : {Dir : Type 0} (c : Fixed Dir) (lack : Option ℕ) (source : Source Dir) (event : Event) (st : State Dir) → Each (Last c.spelling) (Unit {0}) (takes c lack source event st)
+takes_last : {Dir : Type 0} (c : ProbeFixed Dir) (lack : Option ℕ) (source : ProbeSource Dir) (event : Event) (st : State Dir) → Each (Last c.spelling) (Unit {0}) (takes c lack source event st)
 takes_last c lack source event st =
     takes_fine c (Last c.spelling) (Unit {0}) (λ to bytes acts. free_last c.spelling (Sent to bytes) acts (sent_free c.spelling to bytes)) (λ peer reason acts. free_last c.spelling (Blocked peer reason) acts (blocked_free c.spelling peer reason))
     (λ known st e. (refl, refl)) (λ floor st e. (refl, refl)) tt lack source event st
 
 -- where the step went, the artifact that it told is known
-pub told_is_known : {Dir : Type 0} (c : Fixed Dir) (lack : Option ℕ) (source : Source Dir) (event : Event) (st mid new : State Dir) (out after : List Line) → new ≡ then_serves mid
+pub told_is_known : {Dir : Type 0} (c : ProbeFixed Dir) (lack : Option ℕ) (source : ProbeSource Dir) (event : Event) (st mid new : State Dir) (out after : List Line) → new ≡ then_serves mid
     → ProbeRuns (takes c lack source event st) (went mid) out after → SaidSince (TellsKnown c.spelling new.known) out after
 told_is_known {Dir} c lack source event st mid new out after is ran =
     subst (λ (s : State Dir). SaidSince (TellsKnown c.spelling s.known) out after) (sym is) (completing c.spelling (Unit {0}) (takes c lack source event st) mid out after (takes_last c lack source event st) ran)
 
 -- where it stopped, it told none
-pub none_is_told : {Dir : Type 0} (c : Fixed Dir) (lack : Option ℕ) (source : Source Dir) (event : Event) (st left : State Dir) (stop : ProbeStop) (known : Option (Known Dir)) (out after : List Line)
-    → ProbeRuns (takes c lack source event st) (ended_by left (Err stop)) out after → SaidSince (TellsKnown c.spelling known) out after
+pub none_is_told : {Dir : Type 0} (c : ProbeFixed Dir) (lack : Option ℕ) (source : ProbeSource Dir) (event : Event) (st left : State Dir) (stop : ProbeStop) (known : Option (Known Dir)) (out after : List Line)
+    → ProbeRuns (takes c lack source event st) (probe_ended_by left (Err stop)) out after → SaidSince (TellsKnown c.spelling known) out after
 none_is_told c lack source event st left (PeerSet peer) known out after ran = faulting c.spelling (Unit {0}) known (takes c lack source event st) peer.0 out after (takes_last c lack source event st) ran
 none_is_told c lack source event st left NoMemory known out after ran = breaking c.spelling (Unit {0}) known (takes c lack source event st) out after (takes_last c lack source event st) ran
 none_is_told c lack source event st left Failed known out after ran = breaking c.spelling (Unit {0}) known (takes c lack source event st) out after (takes_last c lack source event st) ran

@@ -15,18 +15,18 @@ use Rattle.dkg_probe.specs.declared.wire.Message.TheVariants.{BoundaryRequest, B
 use Rattle.dkg_probe.specs.declared.wire.Message.{Message}
 use Rattle.dkg_probe.specs.declared.wire.Request.{Request}
 use Rattle.dkg_probe.specs.declared.wire.Request.TheVariants as request
-use Rattle.dkg_probe.specs.Wire.{tag_after, number_at, found_as, request_of, reply_of, Reply, IsBoundary, IsBlock, IsLatest, block_reply, message_spelling, MessageFits, asked_by, answered_by}
+use Rattle.dkg_probe.specs.Wire.{tag_after, epoch_number_at, found_as, request_of, reply_of, ProbeReply, IsBoundary, IsBlock, IsLatest, block_reply, probe_message_spelling, ProbeMessageFits, request_asked_by, answered_by}
 use Rattle.dkg_probe.specs.WireLaws.{SpellsRequest, SpellsReply, AreRequests, AreReplies, AreReadAgain}
 
-number_whole : (n : ℕ) → n < 2 ^ 64 → whole (number_at (uint n)) ≡ Ok n
-number_whole n small = ap (λ (bytes : List ℕ). whole (number_at bytes)) (sym (append-nil (uint n))) ∙ ap whole (u64_grammar.again n [] small)
+number_whole : (n : ℕ) → n < 2 ^ 64 → whole (epoch_number_at (uint n)) ≡ Ok n
+number_whole n small = ap (λ (bytes : List ℕ). whole (epoch_number_at bytes)) (sym (append-nil (uint n))) ∙ ap whole (u64_grammar.again n [] small)
 
 finalization_whole : (f : Finalization) → FinalizationFits f → whole (finalization_at (finalization_spelling f)) ≡ Ok f
 finalization_whole f fit = ap (λ (bytes : List ℕ). whole (finalization_at bytes)) (sym (append-nil (finalization_spelling f))) ∙ ap whole (finalization_grammar.again f [] fit)
 
 -- ---- messages
 
-requests_again : {Dir Cfg : Type 0} (block_fits : Block Dir → Type 0) (spelling : Dir → List ℕ) (m : Message Dir Cfg) → MessageFits block_fits m → request_of (message_spelling spelling m) ≡ Ok (asked_by m)
+requests_again : {Dir Cfg : Type 0} (block_fits : Block Dir → Type 0) (spelling : Dir → List ℕ) (m : Message Dir Cfg) → ProbeMessageFits block_fits m → request_of (probe_message_spelling spelling m) ≡ Ok (request_asked_by m)
 unfolding byte_at tag_after
 requests_again block_fits spelling (BoundaryRequest epoch) fit = ap (found_as request.Boundary) (number_whole epoch fit)
 requests_again block_fits spelling (BoundaryResponse f) fit = refl
@@ -35,7 +35,7 @@ requests_again block_fits spelling (BlockResponse epoch block) fit = refl
 requests_again block_fits spelling LatestRequest fit = refl
 requests_again block_fits spelling (LatestResponse f) fit = refl
 
-responses_again : {Dir Cfg : Type 0} (block_fits : Block Dir → Type 0) (spelling : Dir → List ℕ) (m : Message Dir Cfg) → MessageFits block_fits m → reply_of (message_spelling spelling m) ≡ Ok (answered_by spelling m)
+responses_again : {Dir Cfg : Type 0} (block_fits : Block Dir → Type 0) (spelling : Dir → List ℕ) (m : Message Dir Cfg) → ProbeMessageFits block_fits m → reply_of (probe_message_spelling spelling m) ≡ Ok (answered_by spelling m)
 unfolding byte_at tag_after
 responses_again block_fits spelling (BoundaryRequest epoch) fit = refl
 responses_again block_fits spelling (BoundaryResponse f) fit = ap (found_as IsBoundary) (finalization_whole f fit)
@@ -54,8 +54,8 @@ found : {A B : Type 0} (f : A → B) (reading : Result A CodecError) (o : Option
 found f (Ok a) o e = (a, refl, cc)
 found f (Err d) o e = absurd cc
 
-number_found : (bytes : List ℕ) (n : ℕ) → IsBytes bytes → whole (number_at bytes) ≡ Ok n → (n < 2 ^ 64) × (bytes ≡ uint n)
-number_found bytes n are e = decoded_found (λ n. n < 2 ^ 64) uint number_at u64_grammar bytes are (Ok n) e
+number_found : (bytes : List ℕ) (n : ℕ) → IsBytes bytes → whole (epoch_number_at bytes) ≡ Ok n → (n < 2 ^ 64) × (bytes ≡ uint n)
+number_found bytes n are e = decoded_found (λ n. n < 2 ^ 64) uint epoch_number_at u64_grammar bytes are (Ok n) e
 
 finalization_found : (bytes : List ℕ) (f : Finalization) → IsBytes bytes → whole (finalization_at bytes) ≡ Ok f → FinalizationFits f × (bytes ≡ finalization_spelling f)
 finalization_found bytes f are e = decoded_found FinalizationFits finalization_spelling finalization_at finalization_grammar bytes are (Ok f) e
@@ -76,12 +76,12 @@ requests_found : (bytes : List ℕ) (asked : Option Request) → IsBytes bytes �
 unfolding byte_at tag_after
 requests_found [] asked are e = absurd cc
 requests_found (zero ∷ rest) asked are e =
-    let f = found request.Boundary (whole (number_at rest)) asked e in
+    let f = found request.Boundary (whole (epoch_number_at rest)) asked e in
     let n = number_found rest f.0 (later zero rest are) f.1 in
     spelled (zero ∷ rest) (Some (request.Boundary f.0)) asked f.2 (n.0, ap (λ (bs : List ℕ). 0 ∷ bs) n.1)
 requests_found (suc zero ∷ rest) asked are e = spelled (1 ∷ rest) None asked (is_none asked e) (inl (rest, refl))
 requests_found (suc (suc zero) ∷ rest) asked are e =
-    let f = found request.Block (whole (number_at rest)) asked e in
+    let f = found request.Block (whole (epoch_number_at rest)) asked e in
     let n = number_found rest f.0 (later 2 rest are) f.1 in
     spelled (2 ∷ rest) (Some (request.Block f.0)) asked f.2 (n.0, ap (λ (bs : List ℕ). 2 ∷ bs) n.1)
 requests_found (suc (suc (suc zero)) ∷ rest) asked are e = spelled (3 ∷ rest) None asked (is_none asked e) (inr (inl (rest, refl)))
@@ -116,10 +116,10 @@ requests_spelled bytes None (inr (inr is)) = at request_of bytes (5 ∷ is.0) No
 pub are_requests : AreRequests
 are_requests bytes asked are = (requests_found bytes asked are, requests_spelled bytes asked)
 
-answers : (bytes : List ℕ) (a b : Option Reply) → b ≡ a → SpellsReply bytes a → SpellsReply bytes b
-answers bytes a b same is = subst (λ (o : Option Reply). SpellsReply bytes o) (sym same) is
+answers : (bytes : List ℕ) (a b : Option ProbeReply) → b ≡ a → SpellsReply bytes a → SpellsReply bytes b
+answers bytes a b same is = subst (λ (o : Option ProbeReply). SpellsReply bytes o) (sym same) is
 
-replies_found : (bytes : List ℕ) (answered : Option Reply) → IsBytes bytes → reply_of bytes ≡ Ok answered → SpellsReply bytes answered
+replies_found : (bytes : List ℕ) (answered : Option ProbeReply) → IsBytes bytes → reply_of bytes ≡ Ok answered → SpellsReply bytes answered
 unfolding byte_at tag_after
 replies_found [] answered are e = absurd cc
 replies_found (zero ∷ rest) answered are e = answers (0 ∷ rest) None answered (is_none answered e) (inl (rest, refl))
@@ -129,7 +129,7 @@ replies_found (suc zero ∷ rest) answered are e =
     answers (1 ∷ rest) (Some (IsBoundary f.0)) answered f.2 (n.0, ap (λ (bs : List ℕ). 1 ∷ bs) n.1)
 replies_found (suc (suc zero) ∷ rest) answered are e = answers (2 ∷ rest) None answered (is_none answered e) (inr (inl (rest, refl)))
 replies_found (suc (suc (suc zero)) ∷ rest) answered are e =
-    let f = found block_reply (number_at rest) answered e in
+    let f = found block_reply (epoch_number_at rest) answered e in
     let n = u64_grammar.found rest f.0.0 f.0.1 (later 3 rest are) f.1 in
     answers (3 ∷ rest) (Some (IsBlock f.0.0 f.0.1)) answered f.2 (n.0, ap (λ (bs : List ℕ). 3 ∷ bs) n.1)
 replies_found (suc (suc (suc (suc zero))) ∷ rest) answered are e = answers (4 ∷ rest) None answered (is_none answered e) (inr (inr (rest, refl)))
@@ -155,7 +155,7 @@ gives_block : (epoch : ℕ) (body : List ℕ) → epoch < 2 ^ 64 → reply_of (3
 unfolding byte_at tag_after
 gives_block epoch body small = ap (found_as block_reply) (u64_grammar.again epoch body small)
 
-replies_spelled : (bytes : List ℕ) (answered : Option Reply) → SpellsReply bytes answered → reply_of bytes ≡ Ok answered
+replies_spelled : (bytes : List ℕ) (answered : Option ProbeReply) → SpellsReply bytes answered → reply_of bytes ≡ Ok answered
 replies_spelled bytes (Some (IsBoundary f)) is = at reply_of bytes (1 ∷ finalization_spelling f) (Some (IsBoundary f)) is.1 (gives_boundary f is.0)
 replies_spelled bytes (Some (IsBlock epoch body)) is = at reply_of bytes (3 ∷ (uint epoch ++ body)) (Some (IsBlock epoch body)) is.1 (gives_block epoch body is.0)
 replies_spelled bytes (Some (IsLatest f)) is = at reply_of bytes (5 ∷ finalization_spelling f) (Some (IsLatest f)) is.1 (gives_latest f is.0)

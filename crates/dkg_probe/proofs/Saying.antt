@@ -18,13 +18,13 @@ use Rattle.dkg_probe.specs.declared.event.Event.TheVariants.{Subscribe, Unsubscr
 use Rattle.dkg_probe.specs.declared.state.State.{State}
 use Rattle.dkg_probe.specs.declared.wire.Request.{Request}
 use Rattle.dkg_probe.specs.Acts.{ProbeActs, Say, Track, Goes, Stops, says_all, ProbeCompletes, ProbeFaults, ProbeBreaks, ProbeEnded, went, stopped, broken, ProbeRuns, Each, tracked_after}
-use Rattle.dkg_probe.specs.Candidates.{Awaiting, Candidate, is_candidate, with_candidate, first_of, next_asked}
+use Rattle.dkg_probe.specs.Candidates.{Awaiting, Candidate, is_candidate, with_candidate, first_candidate, next_asked}
 use Rattle.dkg_probe.specs.OneEpoch.{OfOneEpoch, SaidSince}
 use Rattle.dkg_probe.specs.Probing as probing
-use Rattle.dkg_probe.specs.Probing.{Fixed, Probes, latest_request, with_sample, with_awaited, asks_dealers, asks_for, asks_next, one_more, is_done, is_first, activates, subscribes, retries_in, retries, with_known, artifact_line, of_genesis, resolves, begins_at, awaits_block, from_floor, dealers_in, samples, chooses, is_dealer, hears_latest, adds, hears_boundary, info_for, info_at, found_in, from_body, hears_body, hears_block, hears_in, discovers, response_to, answers, serves, hears, takes}
-use Rattle.dkg_probe.specs.Sampling.{awaits, recorded, selected, floor_of, forgotten}
-use Rattle.dkg_probe.specs.Sources.{Source}
-use Rattle.dkg_probe.specs.Wire.{Reply, IsBoundary, IsBlock, IsLatest, committed, request_of, reply_of}
+use Rattle.dkg_probe.specs.Probing.{ProbeFixed, Probes, latest_request, with_sample, with_awaited, asks_dealers, asks_peer_for, asks_next, one_more, is_done, is_first, activates, subscribes, retries_in, retries, with_known, artifact_line, of_genesis, resolves, begins_at, awaits_block, from_floor, dealers_in, samples, chooses, is_dealer, hears_latest, adds_candidate, hears_boundary, info_for, info_at_height, found_in, from_body, hears_body, hears_block, hears_in, discovers, response_to, answers_peer, serves, hears, takes}
+use Rattle.dkg_probe.specs.Sampling.{awaits, sample_recorded, selected, floor_of, sample_forgotten}
+use Rattle.dkg_probe.specs.Sources.{ProbeSource}
+use Rattle.dkg_probe.specs.Wire.{ProbeReply, IsBoundary, IsBlock, IsLatest, with_commitment, request_of, reply_of}
 
 -- what was said is of P where all that may be said is
 pub none_more : (P : Line → Type 0) (out new : List Line) → new ≡ out → SaidSince P out new
@@ -72,7 +72,7 @@ none_tracked P (Track epoch peers acts) sets n all = absurd all.0
 none_tracked P (Goes its) sets n all = refl
 none_tracked P (Stops its) sets n all = refl
 
-module _ {Dir : Type 0} (c : Fixed Dir) (P : Line → Probes Dir → Type 0) (Q : Type 0) (sent : (to : Option ℕ) (bytes : List ℕ) (acts : Probes Dir) → P (Sent to bytes) acts) (blocked : (peer : ℕ) (reason : BlockedWhy) (acts : Probes Dir) → P (Blocked peer reason) acts)
+module _ {Dir : Type 0} (c : ProbeFixed Dir) (P : Line → Probes Dir → Type 0) (Q : Type 0) (sent : (to : Option ℕ) (bytes : List ℕ) (acts : Probes Dir) → P (Sent to bytes) acts) (blocked : (peer : ℕ) (reason : BlockedWhy) (acts : Probes Dir) → P (Blocked peer reason) acts)
     (found : (known : Known Dir) (st : State Dir) → known.info.epoch ≡ known.floor.epoch → P (artifact_line c.spelling known) (Goes (with_known known st)))
     (genesis : (floor : Finalization) (st : State Dir) → floor.epoch ≡ 0 → P (artifact_line c.spelling (of_genesis c floor)) (Goes (with_known (of_genesis c floor) st))) where
   abbrev Fine : Probes Dir → Type 0
@@ -85,15 +85,15 @@ module _ {Dir : Type 0} (c : Fixed Dir) (P : Line → Probes Dir → Type 0) (Q 
   each_asked [] st = tt
   each_asked (dealer ∷ dealers) st = (sent (Some dealer) (4 ∷ []) _, each_asked dealers st)
 
-  asked_fine : (candidate : Option Candidate) (epoch : ℕ) (st : State Dir) → Fine (asks_for candidate epoch st)
+  asked_fine : (candidate : Option Candidate) (epoch : ℕ) (st : State Dir) → Fine (asks_peer_for candidate epoch st)
   asked_fine None epoch st = (sent None (0 ∷ uint epoch) _, tt)
   asked_fine (Some candidate) epoch st = (sent (Some candidate.0) (2 ∷ uint epoch) _, tt)
 
   next_fine : (a : Awaiting) (st : State Dir) → Fine (asks_next a st)
-  next_fine a st = asked_fine (first_of a.others) a.floor.epoch (with_awaited (next_asked a) st)
+  next_fine a st = asked_fine (first_candidate a.others) a.floor.epoch (with_awaited (next_asked a) st)
 
   dealers_fine : (st : State Dir) → Fine (asks_dealers c st)
-  dealers_fine st = each_asked c.bootstrap.participants.dealers (with_sample (forgotten st.sample) st)
+  dealers_fine st = each_asked c.bootstrap.participants.dealers (with_sample (sample_forgotten st.sample) st)
 
   retries_in_fine : (st : State Dir) (awaited : Option Awaiting) → Fine (retries_in c st awaited)
   retries_in_fine st (Some a) = next_fine a st
@@ -117,7 +117,7 @@ module _ {Dir : Type 0} (c : Fixed Dir) (P : Line → Probes Dir → Type 0) (Q 
       tested true t s = let same : carried ≡ info = cc in subst (λ (i : EpochInfo Dir). i.epoch ≡ epoch) same (eqb-true carried.epoch epoch t)
       tested false t s = absurd cc
 
-  found_at : (height epoch : ℕ) (read : Result (Block Dir) CodecError) (info : EpochInfo Dir) → info_at height epoch read ≡ Some info → info.epoch ≡ epoch
+  found_at : (height epoch : ℕ) (read : Result (Block Dir) CodecError) (info : EpochInfo Dir) → info_at_height height epoch read ≡ Some info → info.epoch ≡ epoch
   found_at height epoch (Err e) info is = absurd cc
   found_at height epoch (Ok b) info is = tested (b.height == height) is
     where
@@ -133,27 +133,27 @@ module _ {Dir : Type 0} (c : Fixed Dir) (P : Line → Probes Dir → Type 0) (Q 
   block_fine a None peer epoch body st = tt
   block_fine a (Some asked) peer epoch body st =
       if_fine ((asked.0 == peer) && (epoch == a.floor.epoch)) (hears_body c a asked body st) (Goes st)
-      (λ e. body_fine a asked st (found_in c a.height a.floor.epoch asked.1.payload body) (found_at a.height a.floor.epoch (committed asked.1.payload (whole (c.read body))))) (λ e. tt)
+      (λ e. body_fine a asked st (found_in c a.height a.floor.epoch asked.1.payload body) (found_at a.height a.floor.epoch (with_commitment asked.1.payload (whole (c.read body))))) (λ e. tt)
 
-  adds_fine : (a : Awaiting) (st : State Dir) → Fine (adds a st)
+  adds_fine : (a : Awaiting) (st : State Dir) → Fine (adds_candidate a st)
   adds_fine a st = if_fine (is_none a.asked) (asks_next a st) (Goes (with_awaited a st)) (λ e. next_fine a st) (λ e. tt)
 
   boundary_fine : (a : Awaiting) (peer : ℕ) (f : Finalization) (st : State Dir) → Fine (hears_boundary c a peer f st)
   boundary_fine a peer f st =
-      let x4 = adds (with_candidate a (peer, f)) st in
-      let x3 : Probes Dir = if not (c.certifies f) then probing.blocks peer why.Boundary st else x4 in
+      let x4 = adds_candidate (with_candidate a (peer, f)) st in
+      let x3 : Probes Dir = if not (c.certifies f) then probing.blocks_peer peer why.Boundary st else x4 in
       let x2 : Probes Dir = if is_candidate a peer then Goes st else x3 in
-      let x1 : Probes Dir = if nat_lt (a.floor.epoch - 1) f.epoch then probing.blocks peer why.Boundary st else x2 in
+      let x1 : Probes Dir = if nat_lt (a.floor.epoch - 1) f.epoch then probing.blocks_peer peer why.Boundary st else x2 in
       if_fine (nat_lt f.epoch (a.floor.epoch - 1)) (Goes st) x1 (λ e. tt)
-      (λ e. if_fine (nat_lt (a.floor.epoch - 1) f.epoch) (probing.blocks peer why.Boundary st) x2 (λ e. (blocked peer why.Boundary _, tt))
+      (λ e. if_fine (nat_lt (a.floor.epoch - 1) f.epoch) (probing.blocks_peer peer why.Boundary st) x2 (λ e. (blocked peer why.Boundary _, tt))
       (λ e. if_fine (is_candidate a peer) (Goes st) x3 (λ e. tt)
-      (λ e. if_fine (not (c.certifies f)) (probing.blocks peer why.Boundary st) x4 (λ e. (blocked peer why.Boundary _, tt)) (λ e. adds_fine (with_candidate a (peer, f)) st))))
+      (λ e. if_fine (not (c.certifies f)) (probing.blocks_peer peer why.Boundary st) x4 (λ e. (blocked peer why.Boundary _, tt)) (λ e. adds_fine (with_candidate a (peer, f)) st))))
 
-  answers_fine : (peer : ℕ) (bytes : Option (List ℕ)) (st : State Dir) → Fine (answers peer bytes st)
+  answers_fine : (peer : ℕ) (bytes : Option (List ℕ)) (st : State Dir) → Fine (answers_peer peer bytes st)
   answers_fine peer None st = tt
   answers_fine peer (Some bytes) st = (sent (Some peer) bytes _, tt)
 
-  serves_fine : (source : Source Dir) (peer : ℕ) (asked : Result (Option Request) CodecError) (st : State Dir) → Fine (serves c source peer asked st)
+  serves_fine : (source : ProbeSource Dir) (peer : ℕ) (asked : Result (Option Request) CodecError) (st : State Dir) → Fine (serves c source peer asked st)
   serves_fine source peer (Err e) st = (blocked peer why.Reply _, tt)
   serves_fine source peer (Ok None) st = tt
   serves_fine source peer (Ok (Some request)) st = answers_fine peer (response_to c source request) st
@@ -166,33 +166,33 @@ module _ {Dir : Type 0} (c : Fixed Dir) (P : Line → Probes Dir → Type 0) (Q 
 
   samples_fine : (peer : ℕ) (f : Finalization) (st : State Dir) → Fine (samples c peer f st)
   samples_fine peer f st =
-      let s = recorded st.sample peer f in
-      if_fine (st.subscribers == 0) (Goes (with_sample (forgotten st.sample) st)) (chooses c s st) (λ e. tt) (λ e. from_fine (with_sample (selected s (dealers_in c)) st) (floor_of s (dealers_in c)))
+      let s = sample_recorded st.sample peer f in
+      if_fine (st.subscribers == 0) (Goes (with_sample (sample_forgotten st.sample) st)) (chooses c s st) (λ e. tt) (λ e. from_fine (with_sample (selected s (dealers_in c)) st) (floor_of s (dealers_in c)))
 
   latest_fine : (peer : ℕ) (f : Finalization) (st : State Dir) → Fine (hears_latest c peer f st)
   latest_fine peer f st =
       let x4 = samples c peer f st in
-      let x3 : Probes Dir = if not (c.certifies f) then probing.blocks peer why.Invalid st else x4 in
+      let x3 : Probes Dir = if not (c.certifies f) then probing.blocks_peer peer why.Invalid st else x4 in
       let x2 : Probes Dir = if nat_lt f.epoch st.sample.minimum then Goes st else x3 in
-      let x1 : Probes Dir = if not (is_dealer c peer) then probing.blocks peer why.Member st else x2 in
+      let x1 : Probes Dir = if not (is_dealer c peer) then probing.blocks_peer peer why.Member st else x2 in
       if_fine (not (awaits st.sample peer)) (Goes st) x1 (λ e. tt)
-      (λ e. if_fine (not (is_dealer c peer)) (probing.blocks peer why.Member st) x2 (λ e. (blocked peer why.Member _, tt))
+      (λ e. if_fine (not (is_dealer c peer)) (probing.blocks_peer peer why.Member st) x2 (λ e. (blocked peer why.Member _, tt))
       (λ e. if_fine (nat_lt f.epoch st.sample.minimum) (Goes st) x3 (λ e. tt)
-      (λ e. if_fine (not (c.certifies f)) (probing.blocks peer why.Invalid st) x4 (λ e. (blocked peer why.Invalid _, tt)) (λ e. samples_fine peer f st))))
+      (λ e. if_fine (not (c.certifies f)) (probing.blocks_peer peer why.Invalid st) x4 (λ e. (blocked peer why.Invalid _, tt)) (λ e. samples_fine peer f st))))
 
-  hears_in_fine : (awaited : Option Awaiting) (peer : ℕ) (reply : Reply) (st : State Dir) → Fine (hears_in c awaited peer reply st)
+  hears_in_fine : (awaited : Option Awaiting) (peer : ℕ) (reply : ProbeReply) (st : State Dir) → Fine (hears_in c awaited peer reply st)
   hears_in_fine awaited peer (IsLatest f) st = latest_fine peer f st
   hears_in_fine None peer (IsBoundary f) st = tt
   hears_in_fine None peer (IsBlock epoch body) st = tt
   hears_in_fine (Some a) peer (IsBoundary f) st = boundary_fine a peer f st
   hears_in_fine (Some a) peer (IsBlock epoch body) st = block_fine a a.asked peer epoch body st
 
-  discovers_fine : (peer : ℕ) (reply : Result (Option Reply) CodecError) (st : State Dir) → Fine (discovers c peer reply st)
+  discovers_fine : (peer : ℕ) (reply : Result (Option ProbeReply) CodecError) (st : State Dir) → Fine (discovers c peer reply st)
   discovers_fine peer (Err e) st = (blocked peer why.Reply _, tt)
   discovers_fine peer (Ok None) st = tt
   discovers_fine peer (Ok (Some reply)) st = hears_in_fine st.awaited peer reply st
 
-  hears_fine : (source : Source Dir) (peer : ℕ) (bytes : List ℕ) (st : State Dir) → Fine (hears c source peer bytes st)
+  hears_fine : (source : ProbeSource Dir) (peer : ℕ) (bytes : List ℕ) (st : State Dir) → Fine (hears c source peer bytes st)
   hears_fine source peer bytes st =
       if_fine st.serving (serves c source peer (request_of bytes) st) (discovers c peer (reply_of bytes) st) (λ e. serves_fine source peer (request_of bytes) st) (λ e. discovers_fine peer (reply_of bytes) st)
 
@@ -206,7 +206,7 @@ module _ {Dir : Type 0} (c : Fixed Dir) (P : Line → Probes Dir → Type 0) (Q 
         if_fine (is_done st) (Goes st) (if is_first st then activates c lack (one_more st) else Goes (one_more st)) (λ e. tt)
         (λ e. if_fine (is_first st) (activates c lack (one_more st)) (Goes (one_more st)) (λ f. activates_fine lack (one_more st)) (λ f. tt))
 
-    pub takes_fine : (lack : Option ℕ) (source : Source Dir) (event : Event) (st : State Dir) → Fine (takes c lack source event st)
+    pub takes_fine : (lack : Option ℕ) (source : ProbeSource Dir) (event : Event) (st : State Dir) → Fine (takes c lack source event st)
     takes_fine lack source Subscribe st = subscribes_fine lack st
     takes_fine lack source Unsubscribe st = tt
     takes_fine lack source Attach st = tt
@@ -216,7 +216,7 @@ module _ {Dir : Type 0} (c : Fixed Dir) (P : Line → Probes Dir → Type 0) (Q 
 -- ---- what follows
 
 -- Each artifact that a step tells is of one epoch, where genesis is of epoch zero.
-pub one_epoch_since : {Dir : Type 0} (c : Fixed Dir) (lack : Option ℕ) (source : Source Dir) (event : Event) (st : State Dir) (ended : ProbeEnded ℕ (State Dir)) (out new : List Line) → c.genesis.epoch ≡ 0
+pub one_epoch_since : {Dir : Type 0} (c : ProbeFixed Dir) (lack : Option ℕ) (source : ProbeSource Dir) (event : Event) (st : State Dir) (ended : ProbeEnded ℕ (State Dir)) (out new : List Line) → c.genesis.epoch ≡ 0
     → ProbeRuns (takes c lack source event st) ended out new → SaidSince (OfOneEpoch c.spelling) out new
 one_epoch_since {Dir} c lack source event st ended out new genesis ran =
     let P : Line → Probes Dir → Type 0 = Said (OfOneEpoch c.spelling) in
@@ -229,18 +229,18 @@ one_epoch_since {Dir} c lack source event st ended out new genesis ran =
 abbrev Any : {F S : Type 0} → Line → ProbeActs F S → Type 0
 Any line acts = Unit {0}
 
-pub hearing_tracks : {Dir : Type 0} (c : Fixed Dir) (source : Source Dir) (peer : ℕ) (bytes : List ℕ) (st : State Dir) (sets : ℕ → Option TrackedPeers) (n : ℕ) → sets n ≡ tracked_after (hears c source peer bytes st) sets n
+pub hearing_tracks : {Dir : Type 0} (c : ProbeFixed Dir) (source : ProbeSource Dir) (peer : ℕ) (bytes : List ℕ) (st : State Dir) (sets : ℕ → Option TrackedPeers) (n : ℕ) → sets n ≡ tracked_after (hears c source peer bytes st) sets n
 hearing_tracks c source peer bytes st sets n =
     sym (none_tracked Any (hears c source peer bytes st) sets n (hears_fine c Any ⊥ (λ to bytes acts. tt) (λ peer reason acts. tt) (λ known st e. tt) (λ floor st e. tt) source peer bytes st))
 
-pub retrying_tracks : {Dir : Type 0} (c : Fixed Dir) (st : State Dir) (sets : ℕ → Option TrackedPeers) (n : ℕ) → sets n ≡ tracked_after (retries c st) sets n
+pub retrying_tracks : {Dir : Type 0} (c : ProbeFixed Dir) (st : State Dir) (sets : ℕ → Option TrackedPeers) (n : ℕ) → sets n ≡ tracked_after (retries c st) sets n
 retrying_tracks c st sets n =
     sym (none_tracked Any (retries c st) sets n (retries_fine c Any ⊥ (λ to bytes acts. tt) (λ peer reason acts. tt) (λ known st e. tt) (λ floor st e. tt) st))
 
 -- so of events that are one of these
-pub peer_tracks : {Dir : Type 0} (c : Fixed Dir) (lack : Option ℕ) (source : Source Dir) (event : Event) (peer : ℕ) (bytes : List ℕ) (st : State Dir) (sets : ℕ → Option TrackedPeers) → event ≡ Peer peer bytes → (n : ℕ)
+pub peer_tracks : {Dir : Type 0} (c : ProbeFixed Dir) (lack : Option ℕ) (source : ProbeSource Dir) (event : Event) (peer : ℕ) (bytes : List ℕ) (st : State Dir) (sets : ℕ → Option TrackedPeers) → event ≡ Peer peer bytes → (n : ℕ)
     → sets n ≡ tracked_after (takes c lack source event st) sets n
 peer_tracks c lack source event peer bytes st sets is n = rw is (hearing_tracks c source peer bytes st sets n)
 
-pub retry_tracks : {Dir : Type 0} (c : Fixed Dir) (lack : Option ℕ) (source : Source Dir) (event : Event) (st : State Dir) (sets : ℕ → Option TrackedPeers) → event ≡ Retry → (n : ℕ) → sets n ≡ tracked_after (takes c lack source event st) sets n
+pub retry_tracks : {Dir : Type 0} (c : ProbeFixed Dir) (lack : Option ℕ) (source : ProbeSource Dir) (event : Event) (st : State Dir) (sets : ℕ → Option TrackedPeers) → event ≡ Retry → (n : ℕ) → sets n ≡ tracked_after (takes c lack source event st) sets n
 retry_tracks c lack source event st sets is n = rw is (retrying_tracks c st sets n)

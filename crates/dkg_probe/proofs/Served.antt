@@ -15,9 +15,9 @@ use Rattle.dkg_probe.specs.declared.wire.Request.{Request}
 use Rattle.dkg_probe.specs.declared.wire.Request.TheVariants as request
 use Rattle.dkg_probe.specs.Acts.{Goes, ProbeEnded, ProbeRuns, Each}
 use Rattle.dkg_probe.specs.OneEpoch.{SaidSince}
-use Rattle.dkg_probe.specs.Probing.{Fixed, one_more, is_done, is_first, activates, retries_in, begins_at, discovers, response_to, answers, serves, takes}
-use Rattle.dkg_probe.specs.Serving.{HoldsFor, Answered, Serves}
-use Rattle.dkg_probe.specs.Sources.{Source}
+use Rattle.dkg_probe.specs.Probing.{ProbeFixed, one_more, is_done, is_first, activates, retries_in, begins_at, discovers, response_to, answers_peer, serves, takes}
+use Rattle.dkg_probe.specs.Serving.{HoldsFor, AnswersAsker, Serves}
+use Rattle.dkg_probe.specs.Sources.{ProbeSource}
 use Rattle.dkg_probe.specs.Wire.{request_of, reply_of}
 use Rattle.dkg_probe.proofs.Saying.{Said, if_each, said_running}
 
@@ -37,7 +37,7 @@ or_first : (a b : Bool) → a ≡ true → (a || b) ≡ true
 or_first true b e = refl
 or_first false b e = absurd cc
 
-module _ {Dir : Type 0} (c : Fixed Dir) (source : Source Dir) where
+module _ {Dir : Type 0} (c : ProbeFixed Dir) (source : ProbeSource Dir) where
   holds_for : (r : Request) (bytes : List ℕ) → response_to c source r ≡ Some bytes → HoldsFor c source r bytes
   holds_for request.Latest bytes e = mapped (λ (f : Finalization). 5 ∷ finalization_spelling f) source.latest bytes e
   holds_for (request.Boundary epoch) bytes e =
@@ -50,11 +50,11 @@ module _ {Dir : Type 0} (c : Fixed Dir) (source : Source Dir) where
       (h.0, m.0, h.1, h.2, m.2)
 
   module _ (peer : ℕ) (asked : List ℕ) (st : State Dir) where
-    answered : (r : Request) (bytes : Option (List ℕ)) → request_of asked ≡ Ok (Some r) → response_to c source r ≡ bytes → Each (Said (Answered c source peer asked)) (Unit {0}) (answers peer bytes st)
+    answered : (r : Request) (bytes : Option (List ℕ)) → request_of asked ≡ Ok (Some r) → response_to c source r ≡ bytes → Each (Said (AnswersAsker c source peer asked)) (Unit {0}) (answers_peer peer bytes st)
     answered r None read e = tt
     answered r (Some bytes) read e = ((refl, (r, read, holds_for r bytes e)), tt)
 
-    served : (reading : Result (Option Request) CodecError) → request_of asked ≡ reading → Each (Said (Answered c source peer asked)) (Unit {0}) (serves c source peer reading st)
+    served : (reading : Result (Option Request) CodecError) → request_of asked ≡ reading → Each (Said (AnswersAsker c source peer asked)) (Unit {0}) (serves c source peer reading st)
     served (Err e) read = ((refl, (e, read)), tt)
     served (Ok None) read = tt
     served (Ok (Some r)) read = answered r (response_to c source r) read refl

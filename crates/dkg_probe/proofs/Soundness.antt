@@ -26,13 +26,13 @@ use Rattle.dkg_probe.specs.declared.event.Event.TheVariants.{Subscribe, Unsubscr
 use Rattle.dkg_probe.specs.declared.state.State.{State}
 use Rattle.dkg_probe.specs.declared.wire.Request.{Request}
 use Rattle.dkg_probe.specs.Acts.{Say, Track, Goes, Stops, says_all, ProbeCompletes}
-use Rattle.dkg_probe.specs.Candidates.{Awaiting, Candidate, all_of, is_candidate, new_awaiting, with_candidate, first_of, later_of, next_asked}
+use Rattle.dkg_probe.specs.Candidates.{Awaiting, Candidate, all_candidates, is_candidate, new_awaiting, with_candidate, first_candidate, later_of, next_asked}
 use Rattle.dkg_probe.specs.Probing as probing
-use Rattle.dkg_probe.specs.Probing.{Fixed, Probes, latest_request, request_line, with_sample, with_awaited, asks_dealers, asks_for, asks_next, one_more, is_done, is_first, activates, subscribes, retries_in, retries, with_known, artifact_line, of_genesis, resolves, begins_at, awaits_block, from_floor, dealers_in, samples, chooses, is_dealer, hears_latest, adds, hears_boundary, info_for, info_at, found_in, refuses, from_body, hears_body, hears_block, hears_in, discovers, response_to, answers, serves, hears, takes, then_serves, new_state}
-use Rattle.dkg_probe.specs.Sampling.{Sampled, Replies, reply_at, awaits, recorded, better, is_higher, highest, is_enough, selected, floor_of, forgotten}
+use Rattle.dkg_probe.specs.Probing.{ProbeFixed, Probes, latest_request, request_line, with_sample, with_awaited, asks_dealers, asks_peer_for, asks_next, one_more, is_done, is_first, activates, subscribes, retries_in, retries, with_known, artifact_line, of_genesis, resolves, begins_at, awaits_block, from_floor, dealers_in, samples, chooses, is_dealer, hears_latest, adds_candidate, hears_boundary, info_for, info_at_height, found_in, refuses, from_body, hears_body, hears_block, hears_in, discovers, response_to, answers_peer, serves, hears, takes, then_serves, new_state}
+use Rattle.dkg_probe.specs.Sampling.{Sampled, Replies, reply_at, awaits, sample_recorded, better, is_higher, highest, is_enough, selected, floor_of, sample_forgotten}
 use Rattle.dkg_probe.specs.Sound.{CountsAsReply, IsFloor, OffersBlock, Waits, FromBlock, FromGenesis, IsFound, IsSoundState, KeepsArtifact}
-use Rattle.dkg_probe.specs.Sources.{Source}
-use Rattle.dkg_probe.specs.Wire.{Reply, IsBoundary, IsBlock, IsLatest, committed, request_of, reply_of}
+use Rattle.dkg_probe.specs.Sources.{ProbeSource}
+use Rattle.dkg_probe.specs.Wire.{ProbeReply, IsBoundary, IsBlock, IsLatest, with_commitment, request_of, reply_of}
 
 -- ---- small things
 
@@ -97,20 +97,20 @@ module _ {Dir : Type 0} (Q : State Dir → Type 0) where
   if_ends true x y p q = p refl
   if_ends false x y p q = q refl
 
-  ends_asking : (candidate : Option Candidate) (epoch : ℕ) (st : State Dir) → Q st → Ends Q (asks_for candidate epoch st)
+  ends_asking : (candidate : Option Candidate) (epoch : ℕ) (st : State Dir) → Q st → Ends Q (asks_peer_for candidate epoch st)
   ends_asking None epoch st q = q
   ends_asking (Some candidate) epoch st q = q
 
-  ends_answering : (peer : ℕ) (bytes : Option (List ℕ)) (st : State Dir) → Q st → Ends Q (answers peer bytes st)
+  ends_answering : (peer : ℕ) (bytes : Option (List ℕ)) (st : State Dir) → Q st → Ends Q (answers_peer peer bytes st)
   ends_answering peer None st q = q
   ends_answering peer (Some bytes) st q = q
 
-  ends_serving : (c : Fixed Dir) (source : Source Dir) (peer : ℕ) (asked : Result (Option Request) CodecError) (st : State Dir) → Q st → Ends Q (serves c source peer asked st)
+  ends_serving : (c : ProbeFixed Dir) (source : ProbeSource Dir) (peer : ℕ) (asked : Result (Option Request) CodecError) (st : State Dir) → Q st → Ends Q (serves c source peer asked st)
   ends_serving c source peer (Err e) st q = q
   ends_serving c source peer (Ok None) st q = q
   ends_serving c source peer (Ok (Some request)) st q = ends_answering peer (response_to c source request) st q
 
-module _ {Dir : Type 0} (c : Fixed Dir) where
+module _ {Dir : Type 0} (c : ProbeFixed Dir) where
   abbrev Held : (minimum : ℕ) → Replies → Type 0
   Held minimum replies = AllByRecursion (λ (reply : ℕ × Finalization). CountsAsReply c minimum reply.0 reply.1) replies
 
@@ -138,8 +138,8 @@ module _ {Dir : Type 0} (c : Fixed Dir) where
     settled = if_none (λ (k : Known Dir). (is_some st.sample.chosen ≡ true) × (st.awaited ≡ None) × (st.subscribers ≡ 0)) st.known known;
   }
 
-  forgets : (st : State Dir) → IsSoundState c st → st.sample.chosen ≡ None → IsSoundState c (with_sample (forgotten st.sample) st)
-  forgets st sound none = blank (with_sample (forgotten st.sample) st) tt refl (none_awaited st.awaited st.sample.chosen sound.waits none) (none_known st st.known sound.settled none)
+  forgets : (st : State Dir) → IsSoundState c st → st.sample.chosen ≡ None → IsSoundState c (with_sample (sample_forgotten st.sample) st)
+  forgets st sound none = blank (with_sample (sample_forgotten st.sample) st) tt refl (none_awaited st.awaited st.sample.chosen sound.waits none) (none_known st st.known sound.settled none)
 
   -- ---- a subscriber
 
@@ -154,7 +154,7 @@ module _ {Dir : Type 0} (c : Fixed Dir) where
   }
 
   dealers_sound : (st : State Dir) → IsSoundState c st → st.sample.chosen ≡ None → Ends (IsSoundState c) (asks_dealers c st)
-  dealers_sound st sound none = ends_after (IsSoundState c) (map latest_request c.bootstrap.participants.dealers) (Goes (with_sample (forgotten st.sample) st)) (forgets st sound none)
+  dealers_sound st sound none = ends_after (IsSoundState c) (map latest_request c.bootstrap.participants.dealers) (Goes (with_sample (sample_forgotten st.sample) st)) (forgets st sound none)
 
   activates_sound : (lack : Option ℕ) (st : State Dir) → IsSoundState c st → st.sample.chosen ≡ None → Ends (IsSoundState c) (activates c lack st)
   activates_sound None st sound none = dealers_sound st sound none
@@ -173,7 +173,7 @@ module _ {Dir : Type 0} (c : Fixed Dir) where
 
   -- ---- the next candidate
 
-  next_offers : (floor : Finalization) (asked : Option Candidate) (others : List Candidate) → AllByRecursion (OffersBlock c floor) (all_of asked others) → AllByRecursion (OffersBlock c floor) (all_of (first_of others) (later_of others))
+  next_offers : (floor : Finalization) (asked : Option Candidate) (others : List Candidate) → AllByRecursion (OffersBlock c floor) (all_candidates asked others) → AllByRecursion (OffersBlock c floor) (all_candidates (first_candidate others) (later_of others))
   next_offers floor None [] all = tt
   next_offers floor None (d ∷ ds) all = all
   next_offers floor (Some a) [] all = tt
@@ -197,7 +197,7 @@ module _ {Dir : Type 0} (c : Fixed Dir) where
 
   next_sound : (st : State Dir) (old a : Awaiting) → IsSoundState c st → st.awaited ≡ Some old → a.floor ≡ old.floor → Waits c st.sample.minimum a → Ends (IsSoundState c) (asks_next a st)
   next_sound st old a sound is floor waits =
-      ends_asking (IsSoundState c) (first_of a.others) a.floor.epoch (with_awaited (next_asked a) st) (awaits_sound st old (next_asked a) sound is floor (next_waits st.sample.minimum a waits))
+      ends_asking (IsSoundState c) (first_candidate a.others) a.floor.epoch (with_awaited (next_asked a) st) (awaits_sound st old (next_asked a) sound is floor (next_waits st.sample.minimum a waits))
 
   retries_in_sound : (st : State Dir) (awaited : Option Awaiting) → IsSoundState c st → st.awaited ≡ awaited → Ends (IsSoundState c) (retries_in c st awaited)
   retries_in_sound st (Some a) sound is = next_sound st a a sound is refl (waits_at st a sound is)
@@ -256,7 +256,7 @@ module _ {Dir : Type 0} (c : Fixed Dir) where
 
   height_sound : (st : State Dir) (floor : Finalization) (height : Option ℕ) → Held st.sample.minimum st.sample.replies → st.sample.chosen ≡ Some floor → st.awaited ≡ None → st.known ≡ None → IsFloor c st.sample.minimum floor
       → begins_at c.blocks_per_epoch floor.epoch ≡ height → Ends (IsSoundState c) (awaits_block floor st height)
-  height_sound st floor None held chosen awaited known is at = blank (with_sample (forgotten st.sample) st) tt refl awaited known
+  height_sound st floor None held chosen awaited known is at = blank (with_sample (sample_forgotten st.sample) st) tt refl awaited known
   height_sound st floor (Some height) held chosen awaited known is at = record {
     replies = held;
     chosen = subst (λ (o : Option Finalization). IfSome o (IsFloor c st.sample.minimum)) (sym chosen) is;
@@ -284,7 +284,7 @@ module _ {Dir : Type 0} (c : Fixed Dir) where
       (λ e. known_sound st (of_genesis c floor) held chosen is (inl (eqb-true floor.epoch 0 e, refl, refl)))
       (λ e. height_sound st floor (begins_at c.blocks_per_epoch floor.epoch) held chosen awaited known is refl)
 
-  recorded_held : (s : Sampled) (peer : ℕ) (f : Finalization) → awaits s peer ≡ true → CountsAsReply c s.minimum peer f → Held s.minimum s.replies → recorded s peer f ≡ record s { replies = insert_entry nat_cmp s.replies peer f }
+  recorded_held : (s : Sampled) (peer : ℕ) (f : Finalization) → awaits s peer ≡ true → CountsAsReply c s.minimum peer f → Held s.minimum s.replies → sample_recorded s peer f ≡ record s { replies = insert_entry nat_cmp s.replies peer f }
   recorded_held s peer f is counts held = rw is refl
 
   chooses_sound : (s : Sampled) (st : State Dir) → Held s.minimum s.replies → s.chosen ≡ None → st.awaited ≡ None → st.known ≡ None → Ends (IsSoundState c) (chooses c s st)
@@ -301,7 +301,7 @@ module _ {Dir : Type 0} (c : Fixed Dir) where
   samples_sound peer f st sound is counts =
       let none : st.sample.chosen ≡ None = none_of st.sample.chosen (both_true (is_none st.sample.chosen) (is_none (reply_at peer st.sample.replies)) is).0 in
       let more = record st.sample { replies = insert_entry nat_cmp st.sample.replies peer f } in
-      if_ends (IsSoundState c) (st.subscribers == 0) (Goes (with_sample (forgotten st.sample) st)) (chooses c (recorded st.sample peer f) st) (λ e. forgets st sound none)
+      if_ends (IsSoundState c) (st.subscribers == 0) (Goes (with_sample (sample_forgotten st.sample) st)) (chooses c (sample_recorded st.sample peer f) st) (λ e. forgets st sound none)
       (λ e. subst (λ (s : Sampled). Ends (IsSoundState c) (chooses c s st)) (sym (recorded_held st.sample peer f is counts sound.replies))
       (chooses_sound more st (held_more st.sample.minimum peer f st.sample.replies counts sound.replies) none (none_awaited st.awaited st.sample.chosen sound.waits none) (none_known st st.known sound.settled none)))
 
@@ -311,20 +311,20 @@ module _ {Dir : Type 0} (c : Fixed Dir) where
   latest_sound : (peer : ℕ) (f : Finalization) (st : State Dir) → IsSoundState c st → Ends (IsSoundState c) (hears_latest c peer f st)
   latest_sound peer f st sound =
       let x4 = samples c peer f st in
-      let x3 : Probes Dir = if not (c.certifies f) then probing.blocks peer why.Invalid st else x4 in
+      let x3 : Probes Dir = if not (c.certifies f) then probing.blocks_peer peer why.Invalid st else x4 in
       let x2 : Probes Dir = if nat_lt f.epoch st.sample.minimum then Goes st else x3 in
-      let x1 : Probes Dir = if not (is_dealer c peer) then probing.blocks peer why.Member st else x2 in
+      let x1 : Probes Dir = if not (is_dealer c peer) then probing.blocks_peer peer why.Member st else x2 in
       if_ends (IsSoundState c) (not (awaits st.sample peer)) (Goes st) x1 (λ e. sound)
-      (λ one. if_ends (IsSoundState c) (not (is_dealer c peer)) (probing.blocks peer why.Member st) x2 (λ e. sound)
+      (λ one. if_ends (IsSoundState c) (not (is_dealer c peer)) (probing.blocks_peer peer why.Member st) x2 (λ e. sound)
       (λ two. if_ends (IsSoundState c) (nat_lt f.epoch st.sample.minimum) (Goes st) x3 (λ e. sound)
-      (λ three. if_ends (IsSoundState c) (not (c.certifies f)) (probing.blocks peer why.Invalid st) x4 (λ e. sound)
+      (λ three. if_ends (IsSoundState c) (not (c.certifies f)) (probing.blocks_peer peer why.Invalid st) x4 (λ e. sound)
       (λ four. samples_sound peer f st sound (was_true (awaits st.sample peer) one)
       (record { dealer = was_true (is_dealer c peer) two; certified = was_true (c.certifies f) four; recent = not_below f.epoch st.sample.minimum three })))))
 
   -- ---- a candidate
 
-  offers_one_more : (floor : Finalization) (asked : Option Candidate) (others : List Candidate) (one : Candidate) → AllByRecursion (OffersBlock c floor) (all_of asked others) → OffersBlock c floor one
-      → AllByRecursion (OffersBlock c floor) (all_of asked (others ++ one ∷ []))
+  offers_one_more : (floor : Finalization) (asked : Option Candidate) (others : List Candidate) (one : Candidate) → AllByRecursion (OffersBlock c floor) (all_candidates asked others) → OffersBlock c floor one
+      → AllByRecursion (OffersBlock c floor) (all_candidates asked (others ++ one ∷ []))
   offers_one_more floor None others one all offers = all_last (OffersBlock c floor) others one all offers
   offers_one_more floor (Some a) others one all offers = (all.0, all_last (OffersBlock c floor) others one all.1 offers)
 
@@ -341,21 +341,21 @@ module _ {Dir : Type 0} (c : Fixed Dir) where
   just_before : (epoch floor : ℕ) → 0 < floor → nat_lt epoch (floor - 1) ≡ false → nat_lt (floor - 1) epoch ≡ false → epoch + 1 ≡ floor
   just_before epoch floor some low high = grind (arith, nat_tests)
 
-  adds_sound : (st : State Dir) (old a : Awaiting) → IsSoundState c st → st.awaited ≡ Some old → a.floor ≡ old.floor → Waits c st.sample.minimum a → Ends (IsSoundState c) (adds a st)
+  adds_sound : (st : State Dir) (old a : Awaiting) → IsSoundState c st → st.awaited ≡ Some old → a.floor ≡ old.floor → Waits c st.sample.minimum a → Ends (IsSoundState c) (adds_candidate a st)
   adds_sound st old a sound is floor waits =
       if_ends (IsSoundState c) (is_none a.asked) (asks_next a st) (Goes (with_awaited a st)) (λ e. next_sound st old a sound is floor waits) (λ e. awaits_sound st old a sound is floor waits)
 
   boundary_sound : (a : Awaiting) (peer : ℕ) (f : Finalization) (st : State Dir) → IsSoundState c st → st.awaited ≡ Some a → Ends (IsSoundState c) (hears_boundary c a peer f st)
   boundary_sound a peer f st sound is =
       let waits = waits_at st a sound is in
-      let x4 = adds (with_candidate a (peer, f)) st in
-      let x3 : Probes Dir = if not (c.certifies f) then probing.blocks peer why.Boundary st else x4 in
+      let x4 = adds_candidate (with_candidate a (peer, f)) st in
+      let x3 : Probes Dir = if not (c.certifies f) then probing.blocks_peer peer why.Boundary st else x4 in
       let x2 : Probes Dir = if is_candidate a peer then Goes st else x3 in
-      let x1 : Probes Dir = if nat_lt (a.floor.epoch - 1) f.epoch then probing.blocks peer why.Boundary st else x2 in
+      let x1 : Probes Dir = if nat_lt (a.floor.epoch - 1) f.epoch then probing.blocks_peer peer why.Boundary st else x2 in
       if_ends (IsSoundState c) (nat_lt f.epoch (a.floor.epoch - 1)) (Goes st) x1 (λ e. sound)
-      (λ low. if_ends (IsSoundState c) (nat_lt (a.floor.epoch - 1) f.epoch) (probing.blocks peer why.Boundary st) x2 (λ e. sound)
+      (λ low. if_ends (IsSoundState c) (nat_lt (a.floor.epoch - 1) f.epoch) (probing.blocks_peer peer why.Boundary st) x2 (λ e. sound)
       (λ high. if_ends (IsSoundState c) (is_candidate a peer) (Goes st) x3 (λ e. sound)
-      (λ new. if_ends (IsSoundState c) (not (c.certifies f)) (probing.blocks peer why.Boundary st) x4 (λ e. sound)
+      (λ new. if_ends (IsSoundState c) (not (c.certifies f)) (probing.blocks_peer peer why.Boundary st) x4 (λ e. sound)
       (λ certified.
       let one : OffersBlock c a.floor (peer, f) = record {
         certified = was_true (c.certifies f) certified;
@@ -383,7 +383,7 @@ module _ {Dir : Type 0} (c : Fixed Dir) where
       tested true t s = let same : one ≡ info = cc in (s, subst (λ (i : EpochInfo Dir). i.epoch ≡ epoch) same (eqb-true one.epoch epoch t))
       tested false t s = absurd cc
 
-  carried_in : (height epoch : ℕ) (commitment body : List ℕ) (reading : Result (Block Dir) CodecError) (info : EpochInfo Dir) → whole (c.read body) ≡ reading → info_at height epoch (committed commitment reading) ≡ Some info
+  carried_in : (height epoch : ℕ) (commitment body : List ℕ) (reading : Result (Block Dir) CodecError) (info : EpochInfo Dir) → whole (c.read body) ≡ reading → info_at_height height epoch (with_commitment commitment reading) ≡ Some info
       → Carried height epoch commitment body info
   carried_in height epoch commitment body (Err e) info read is = absurd cc
   carried_in height epoch commitment body (Ok block) info read is = tested (bytes_eq block.digest commitment) refl is
@@ -393,7 +393,7 @@ module _ {Dir : Type 0} (c : Fixed Dir) where
           record { block = block; read = read; digest = digest; at = eqb-true block.height height h; carries = f.0; of = f.1 }
       at_height false digest h s = absurd cc
 
-      tested : (t : Bool) → bytes_eq block.digest commitment ≡ t → info_at height epoch (if t then Ok block else Err (Invalid what.Commitment)) ≡ Some info → Carried height epoch commitment body info
+      tested : (t : Bool) → bytes_eq block.digest commitment ≡ t → info_at_height height epoch (if t then Ok block else Err (Invalid what.Commitment)) ≡ Some info → Carried height epoch commitment body info
       tested true d s = at_height (block.height == height) (same_bytes block.digest commitment d) refl s
       tested false d s = absurd cc
 
@@ -419,7 +419,7 @@ module _ {Dir : Type 0} (c : Fixed Dir) where
       } in
       known_sound st artifact sound.replies (some_of (λ (b : Awaiting). st.sample.chosen ≡ Some b.floor) st.awaited a sound.waits is) waits.floor (inr from)
 
-  block_sound : (a : Awaiting) (asked : Option Candidate) (peer epoch : ℕ) (body : List ℕ) (st : State Dir) → IsSoundState c st → st.awaited ≡ Some a → AllByRecursion (OffersBlock c a.floor) (all_of asked a.others)
+  block_sound : (a : Awaiting) (asked : Option Candidate) (peer epoch : ℕ) (body : List ℕ) (st : State Dir) → IsSoundState c st → st.awaited ≡ Some a → AllByRecursion (OffersBlock c a.floor) (all_candidates asked a.others)
       → Ends (IsSoundState c) (hears_block c a asked peer epoch body st)
   block_sound a None peer epoch body st sound is offer = sound
   block_sound a (Some asked) peer epoch body st sound is offer =
@@ -428,19 +428,19 @@ module _ {Dir : Type 0} (c : Fixed Dir) where
 
   -- ---- a step
 
-  hears_in_sound : (awaited : Option Awaiting) (peer : ℕ) (reply : Reply) (st : State Dir) → IsSoundState c st → st.awaited ≡ awaited → Ends (IsSoundState c) (hears_in c awaited peer reply st)
+  hears_in_sound : (awaited : Option Awaiting) (peer : ℕ) (reply : ProbeReply) (st : State Dir) → IsSoundState c st → st.awaited ≡ awaited → Ends (IsSoundState c) (hears_in c awaited peer reply st)
   hears_in_sound awaited peer (IsLatest f) st sound is = latest_sound peer f st sound
   hears_in_sound None peer (IsBoundary f) st sound is = sound
   hears_in_sound None peer (IsBlock epoch body) st sound is = sound
   hears_in_sound (Some a) peer (IsBoundary f) st sound is = boundary_sound a peer f st sound is
   hears_in_sound (Some a) peer (IsBlock epoch body) st sound is = block_sound a a.asked peer epoch body st sound is (waits_at st a sound is).candidates
 
-  discovers_sound : (peer : ℕ) (reply : Result (Option Reply) CodecError) (st : State Dir) → IsSoundState c st → Ends (IsSoundState c) (discovers c peer reply st)
+  discovers_sound : (peer : ℕ) (reply : Result (Option ProbeReply) CodecError) (st : State Dir) → IsSoundState c st → Ends (IsSoundState c) (discovers c peer reply st)
   discovers_sound peer (Err e) st sound = sound
   discovers_sound peer (Ok None) st sound = sound
   discovers_sound peer (Ok (Some reply)) st sound = hears_in_sound st.awaited peer reply st sound refl
 
-  hears_sound : (source : Source Dir) (peer : ℕ) (bytes : List ℕ) (st : State Dir) → IsSoundState c st → Ends (IsSoundState c) (hears c source peer bytes st)
+  hears_sound : (source : ProbeSource Dir) (peer : ℕ) (bytes : List ℕ) (st : State Dir) → IsSoundState c st → Ends (IsSoundState c) (hears c source peer bytes st)
   hears_sound source peer bytes st sound =
       if_ends (IsSoundState c) st.serving (serves c source peer (request_of bytes) st) (discovers c peer (reply_of bytes) st) (λ e. ends_serving (IsSoundState c) c source peer (request_of bytes) st sound) (λ e. discovers_sound peer (reply_of bytes) st sound)
 
@@ -448,7 +448,7 @@ module _ {Dir : Type 0} (c : Fixed Dir) where
   fewer st None settled = tt
   fewer st (Some k) settled = (settled.0, settled.1, omega (arith, settled.2))
 
-  takes_sound : (lack : Option ℕ) (source : Source Dir) (event : Event) (st : State Dir) → IsSoundState c st → Ends (IsSoundState c) (takes c lack source event st)
+  takes_sound : (lack : Option ℕ) (source : ProbeSource Dir) (event : Event) (st : State Dir) → IsSoundState c st → Ends (IsSoundState c) (takes c lack source event st)
   takes_sound lack source Subscribe st sound = subscribes_sound lack st sound
   takes_sound lack source Unsubscribe st sound = record { replies = sound.replies; chosen = sound.chosen; awaited = sound.awaited; known = sound.known; waits = sound.waits; settled = fewer st st.known sound.settled }
   takes_sound lack source Attach st sound = record { replies = sound.replies; chosen = sound.chosen; awaited = sound.awaited; known = sound.known; waits = sound.waits; settled = sound.settled }
@@ -468,7 +468,7 @@ module _ {Dir : Type 0} (c : Fixed Dir) where
         or_true true = refl
         or_true false = refl
 
-    hears_kept : (peer : ℕ) (reply : Reply) → Ends (KeepsArtifact st) (hears_in c None peer reply st)
+    hears_kept : (peer : ℕ) (reply : ProbeReply) → Ends (KeepsArtifact st) (hears_in c None peer reply st)
     hears_kept peer (IsLatest f) = let no : awaits st.sample peer ≡ false = not_awaited st.sample.chosen chosen in rw no here
       where
         not_awaited : (o : Option Finalization) → is_some o ≡ true → (is_none o && is_none (reply_at peer st.sample.replies)) ≡ false
@@ -477,12 +477,12 @@ module _ {Dir : Type 0} (c : Fixed Dir) where
     hears_kept peer (IsBoundary f) = here
     hears_kept peer (IsBlock epoch body) = here
 
-    discovers_kept : (peer : ℕ) (reply : Result (Option Reply) CodecError) → Ends (KeepsArtifact st) (discovers c peer reply st)
+    discovers_kept : (peer : ℕ) (reply : Result (Option ProbeReply) CodecError) → Ends (KeepsArtifact st) (discovers c peer reply st)
     discovers_kept peer (Err e) = here
     discovers_kept peer (Ok None) = here
     discovers_kept peer (Ok (Some reply)) = subst (λ (a : Option Awaiting). Ends (KeepsArtifact st) (hears_in c a peer reply st)) (sym awaited) (hears_kept peer reply)
 
-    known_kept : (lack : Option ℕ) (source : Source Dir) (event : Event) → Ends (KeepsArtifact st) (takes c lack source event st)
+    known_kept : (lack : Option ℕ) (source : ProbeSource Dir) (event : Event) → Ends (KeepsArtifact st) (takes c lack source event st)
     known_kept lack source Subscribe = rw done here
     known_kept lack source Unsubscribe = here
     known_kept lack source Attach = here
@@ -490,20 +490,20 @@ module _ {Dir : Type 0} (c : Fixed Dir) where
         if_ends (KeepsArtifact st) st.serving (serves c source from (request_of bytes) st) (discovers c from (reply_of bytes) st) (λ e. ends_serving (KeepsArtifact st) c source from (request_of bytes) st here) (λ e. discovers_kept from (reply_of bytes))
     known_kept lack source Retry = rw done here
 
-  takes_kept_in : (st : State Dir) (known : Option (Known Dir)) → st.known ≡ known → IfSome known (λ _. (is_some st.sample.chosen ≡ true) × (st.awaited ≡ None) × (st.subscribers ≡ 0)) → (lack : Option ℕ) (source : Source Dir) (event : Event)
+  takes_kept_in : (st : State Dir) (known : Option (Known Dir)) → st.known ≡ known → IfSome known (λ _. (is_some st.sample.chosen ≡ true) × (st.awaited ≡ None) × (st.subscribers ≡ 0)) → (lack : Option ℕ) (source : ProbeSource Dir) (event : Event)
       → Ends (KeepsArtifact st) (takes c lack source event st)
   takes_kept_in st None is settled lack source event = ends_any (KeepsArtifact st) (takes c lack source event st) (λ end. inr is)
   takes_kept_in st (Some k) is settled lack source event = known_kept st k is settled.0 settled.1 lack source event
 
   -- ---- what follows
 
-  pub step_sound : (lack : Option ℕ) (source : Source Dir) (event : Event) (st mid new : State Dir) (out after : List Line) → IsSoundState c st → new ≡ then_serves mid → ProbeCompletes (takes c lack source event st) mid out after → IsSoundState c new
+  pub step_sound : (lack : Option ℕ) (source : ProbeSource Dir) (event : Event) (st mid new : State Dir) (out after : List Line) → IsSoundState c st → new ≡ then_serves mid → ProbeCompletes (takes c lack source event st) mid out after → IsSoundState c new
   step_sound lack source event st mid new out after sound is ran =
       let mid_sound = ends_at (IsSoundState c) (takes c lack source event st) mid out after (takes_sound lack source event st sound) ran in
       subst (λ (s : State Dir). IsSoundState c s) (sym is)
       (record { replies = mid_sound.replies; chosen = mid_sound.chosen; awaited = mid_sound.awaited; known = mid_sound.known; waits = mid_sound.waits; settled = mid_sound.settled })
 
-  pub step_keeps : (lack : Option ℕ) (source : Source Dir) (event : Event) (st mid new : State Dir) (out after : List Line) → IsSoundState c st → new ≡ then_serves mid → ProbeCompletes (takes c lack source event st) mid out after → KeepsArtifact st new
+  pub step_keeps : (lack : Option ℕ) (source : ProbeSource Dir) (event : Event) (st mid new : State Dir) (out after : List Line) → IsSoundState c st → new ≡ then_serves mid → ProbeCompletes (takes c lack source event st) mid out after → KeepsArtifact st new
   step_keeps lack source event st mid new out after sound is ran =
       let kept = ends_at (KeepsArtifact st) (takes c lack source event st) mid out after (takes_kept_in st st.known refl sound.settled lack source event) ran in
       subst (λ (s : State Dir). KeepsArtifact st s) (sym is) (elim kept [ inl same ↦ inl same | inr none ↦ inr none ])

@@ -5,17 +5,17 @@ use Rattle.dkg_infos.specs.declared.participants.TrackedPeers.{TrackedPeers}
 use Rattle.dkg_probe.specs.declared.event.ProbeStop.{ProbeStop}
 use Rattle.dkg_probe.specs.declared.event.ProbeStop.TheVariants.{PeerSet, NoMemory, Failed}
 use Rattle.dkg_probe.specs.declared.state.State.{State}
-use Rattle.dkg_probe.specs.Acts.{Goes, bind, ProbeCompletes, ProbeRuns, went, Tracks}
-use Rattle.dkg_probe.specs.Probing.{Probes, then_serves, ended_by}
+use Rattle.dkg_probe.specs.Acts.{Goes, probe_bind, ProbeCompletes, ProbeRuns, went, Tracks}
+use Rattle.dkg_probe.specs.Probing.{Probes, then_serves, probe_ended_by}
 use Rattle.dkg_probe.proofs.Acting.{then_completes, then_faults, then_breaks, then_tracks}
 
-pub goes_run : {Dir : Type 0} (acts : Probes Dir) (mid new : State Dir) (out after : List Line) → new ≡ then_serves mid → ProbeRuns acts (went mid) out after → ProbeRuns (bind acts (λ st. Goes (then_serves st))) (went new) out after
-goes_run {Dir} acts mid new out after e ran = subst (λ (st : State Dir). ProbeCompletes (bind acts (λ st. Goes (then_serves st))) st out after) (sym e) (then_completes then_serves acts mid out after ran)
+pub goes_run : {Dir : Type 0} (acts : Probes Dir) (mid new : State Dir) (out after : List Line) → new ≡ then_serves mid → ProbeRuns acts (went mid) out after → ProbeRuns (probe_bind acts (λ st. Goes (then_serves st))) (went new) out after
+goes_run {Dir} acts mid new out after e ran = subst (λ (st : State Dir). ProbeCompletes (probe_bind acts (λ st. Goes (then_serves st))) st out after) (sym e) (then_completes then_serves acts mid out after ran)
 
-pub stops_run : {Dir : Type 0} (acts : Probes Dir) (mid new : State Dir) (stop : ProbeStop) (out after : List Line) → ProbeRuns acts (ended_by mid (Err stop)) out after → ProbeRuns (bind acts (λ st. Goes (then_serves st))) (ended_by new (Err stop)) out after
+pub stops_run : {Dir : Type 0} (acts : Probes Dir) (mid new : State Dir) (stop : ProbeStop) (out after : List Line) → ProbeRuns acts (probe_ended_by mid (Err stop)) out after → ProbeRuns (probe_bind acts (λ st. Goes (then_serves st))) (probe_ended_by new (Err stop)) out after
 stops_run acts mid new (PeerSet peer) out after ran = then_faults then_serves acts peer.0 out after ran
 stops_run acts mid new NoMemory out after ran = then_breaks then_serves acts out after ran
 stops_run acts mid new Failed out after ran = then_breaks then_serves acts out after ran
 
-pub step_tracks : {Dir : Type 0} (acts : Probes Dir) (result : Result (Unit {0}) ProbeStop) (sets now : ℕ → Option TrackedPeers) → Tracks acts result sets now → Tracks (bind acts (λ st. Goes (then_serves st))) result sets now
+pub step_tracks : {Dir : Type 0} (acts : Probes Dir) (result : Result (Unit {0}) ProbeStop) (sets now : ℕ → Option TrackedPeers) → Tracks acts result sets now → Tracks (probe_bind acts (λ st. Goes (then_serves st))) result sets now
 step_tracks acts result sets now tracks = then_tracks then_serves acts result sets now tracks

@@ -5,7 +5,7 @@ use Rattle.dkg_turn.specs.Passes.{Posted}
 use Rattle.dkg_probe.specs.declared.artifact.Artifact.{Artifact as Found}
 use Rattle.dkg_probe.specs.declared.event.Event.{Event}
 use Rattle.dkg_probe.specs.declared.event.Event.TheVariants.{Subscribe, Unsubscribe, Attach, Peer, Retry}
-use Rattle.dkg_probe.specs.Mailboxes.{Meets, joined, Subscribed}
+use Rattle.dkg_probe.specs.Mailboxes.{Meets, flat_answer, Subscribed}
 
 -- who answers what is known meets every event
 pub meets_known : {Dir : Type 0} (known : Option (Found Dir)) (event : Event) (answer : Option (Found Dir)) → answer ≡ known → Meets known event answer
@@ -25,7 +25,7 @@ module _ {T C R Dir : Type 0} (turns : T → C → R → T → Type 0) (start : 
       → Subscribed turns start same told call answered stopped meets known answer v w
   subscribed said answer v w is posted = record {
     said = said;
-    answer_is = sym (ap joined is);
+    answer_is = sym (ap flat_answer is);
     posted = posted;
     known_is = if_said (λ (a : Option (Found Dir)). a ≡ known posted.called.after) said (λ a here. owes posted.called.after Subscribe a (posted.met a here));
   }

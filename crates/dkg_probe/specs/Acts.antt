@@ -14,11 +14,11 @@ pub data ProbeActs (F S : Type 0) : Type 0 where
   Stops : F → ProbeActs F S
 
 -- these acts, and from what they end in others
-abbrev pub bind : {F S T : Type 0} → ProbeActs F S → (S → ProbeActs F T) → ProbeActs F T
-bind (Say line acts) next = Say line (bind acts next)
-bind (Track epoch peers acts) next = Track epoch peers (bind acts next)
-bind (Goes end) next = next end
-bind (Stops fault) next = Stops fault
+abbrev pub probe_bind : {F S T : Type 0} → ProbeActs F S → (S → ProbeActs F T) → ProbeActs F T
+probe_bind (Say line acts) next = Say line (probe_bind acts next)
+probe_bind (Track epoch peers acts) next = Track epoch peers (probe_bind acts next)
+probe_bind (Goes end) next = next end
+probe_bind (Stops fault) next = Stops fault
 
 -- these lines, and then the acts
 abbrev pub says_all : {F S : Type 0} → List Line → ProbeActs F S → ProbeActs F S
@@ -40,15 +40,15 @@ ProbeFaults (Goes end) fault out new = ⊥
 ProbeFaults (Stops its) fault out new = (new ≡ out) × (fault ≡ its)
 
 -- something is to be said yet
-abbrev pub Speaks : {F S : Type 0} → ProbeActs F S → Type 0
-Speaks (Say line acts) = Unit {0}
-Speaks (Track epoch peers acts) = Speaks acts
-Speaks (Goes end) = ⊥
-Speaks (Stops fault) = ⊥
+abbrev pub ProbeSpeaks : {F S : Type 0} → ProbeActs F S → Type 0
+ProbeSpeaks (Say line acts) = Unit {0}
+ProbeSpeaks (Track epoch peers acts) = ProbeSpeaks acts
+ProbeSpeaks (Goes end) = ⊥
+ProbeSpeaks (Stops fault) = ⊥
 
 -- The first of them were run. The last line is said by nobody who doesn't go through.
 abbrev pub ProbeBreaks : {F S : Type 0} → ProbeActs F S → List Line → List Line → Type 0
-ProbeBreaks (Say line acts) out new = (new ≡ out) ⊎ (Speaks acts × ProbeBreaks acts (out ++ line ∷ []) new)
+ProbeBreaks (Say line acts) out new = (new ≡ out) ⊎ (ProbeSpeaks acts × ProbeBreaks acts (out ++ line ∷ []) new)
 ProbeBreaks (Track epoch peers acts) out new = ProbeBreaks acts out new
 ProbeBreaks (Goes end) out new = new ≡ out
 ProbeBreaks (Stops fault) out new = new ≡ out

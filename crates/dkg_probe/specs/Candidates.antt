@@ -17,18 +17,18 @@ pub record Awaiting : Type 0 where
   pub asked : Option Candidate
   pub others : List Candidate
 
-abbrev pub all_of : Option Candidate → List Candidate → List Candidate
-all_of None others = others
-all_of (Some c) others = c ∷ others
+abbrev pub all_candidates : Option Candidate → List Candidate → List Candidate
+all_candidates None others = others
+all_candidates (Some c) others = c ∷ others
 
-abbrev pub peers_of : Option Candidate → List Candidate → List ℕ
-peers_of asked others = map (λ c. c.0) (all_of asked others)
+abbrev pub candidate_keys : Option Candidate → List Candidate → List ℕ
+candidate_keys asked others = map (λ c. c.0) (all_candidates asked others)
 
 abbrev pub has_peer : (peer : ℕ) → List ℕ → Bool
 has_peer peer peers = list_any (is_at (nat_cmp peer)) peers
 
 abbrev pub is_candidate : Awaiting → (peer : ℕ) → Bool
-is_candidate a peer = has_peer peer (peers_of a.asked a.others)
+is_candidate a peer = has_peer peer (candidate_keys a.asked a.others)
 
 -- no peer twice
 abbrev pub are_apart : List ℕ → Bool
@@ -37,8 +37,8 @@ are_apart (peer ∷ peers) = not (has_peer peer peers) && are_apart peers
 
 -- what a floor that waits keeps: each peer is a candidate once, and the set has just these peers
 pub record IsKept (asked : Option Candidate) (others : List Candidate) (peers : BTreeSet ℕ) : Type 0 where
-  pub apart : are_apart (peers_of asked others) ≡ true
-  pub members : (peer : ℕ) → contains nat_cmp peers peer ≡ has_peer peer (peers_of asked others)
+  pub apart : are_apart (candidate_keys asked others) ≡ true
+  pub members : (peer : ℕ) → contains nat_cmp peers peer ≡ has_peer peer (candidate_keys asked others)
 
 abbrev pub new_awaiting : (height : ℕ) → Finalization → Awaiting
 new_awaiting height floor = record { height = height; floor = floor; asked = None; others = [] }
@@ -46,9 +46,9 @@ new_awaiting height floor = record { height = height; floor = floor; asked = Non
 abbrev pub with_candidate : Awaiting → Candidate → Awaiting
 with_candidate a c = record a { others = a.others ++ c ∷ [] }
 
-abbrev pub first_of : List Candidate → Option Candidate
-first_of [] = None
-first_of (c ∷ cs) = Some c
+abbrev pub first_candidate : List Candidate → Option Candidate
+first_candidate [] = None
+first_candidate (c ∷ cs) = Some c
 
 abbrev pub later_of : List Candidate → List Candidate
 later_of [] = []
@@ -56,4 +56,4 @@ later_of (c ∷ cs) = cs
 
 -- the asked candidate is dropped, and the next one is asked
 abbrev pub next_asked : Awaiting → Awaiting
-next_asked a = record a { asked = first_of a.others; others = later_of a.others }
+next_asked a = record a { asked = first_candidate a.others; others = later_of a.others }

@@ -15,15 +15,15 @@ Meets known (Peer from bytes) answer = Unit {0}
 Meets known Retry answer = Unit {0}
 
 -- an answer that may be none
-abbrev pub joined : {A : Type 0} → Option (Option A) → Option A
-joined None = None
-joined (Some answer) = answer
+abbrev pub flat_answer : {A : Type 0} → Option (Option A) → Option A
+flat_answer None = None
+flat_answer (Some answer) = answer
 
 -- An answer to a subscriber: none where its turn ended by a stop, else what is known behind that turn.
 module _ {T C R Dir : Type 0} (turns : T → C → R → T → Type 0) (start : T) (same : R → R → Type 0) (told : T → ℕ → Option R) (call : C) (answered : R → Option (Option (Found Dir))) (stopped : T → C → R → T → Type 0)
     (meets : T → Event → Option (Found Dir) → Type 0) (known : T → Option (Found Dir)) where
   pub record Subscribed (answer : Option (Found Dir)) (v w : Known T C R) : Type 0 where
     pub said : Option (Option (Found Dir))
-    pub answer_is : answer ≡ joined said
+    pub answer_is : answer ≡ flat_answer said
     pub posted : Posted turns start same told call answered stopped meets Subscribe said v w
     pub known_is : IfSome said (λ artifact. artifact ≡ known posted.called.after)

@@ -26,8 +26,8 @@ reply_at peer replies = lookup (is_at (nat_cmp peer)) replies
 abbrev pub awaits : Sampled → (peer : ℕ) → Bool
 awaits s peer = is_none s.chosen && is_none (reply_at peer s.replies)
 
-abbrev pub recorded : Sampled → (peer : ℕ) → Finalization → Sampled
-recorded s peer f = if awaits s peer then record s { replies = insert_entry nat_cmp s.replies peer f } else s
+abbrev pub sample_recorded : Sampled → (peer : ℕ) → Finalization → Sampled
+sample_recorded s peer f = if awaits s peer then record s { replies = insert_entry nat_cmp s.replies peer f } else s
 
 -- by epoch, then by view
 abbrev pub is_higher : Finalization → Finalization → Bool
@@ -51,8 +51,8 @@ floor_of s dealers = if is_enough s dealers then highest s.replies else None
 abbrev pub selected : Sampled → (dealers : ℕ) → Sampled
 selected s dealers = if is_enough s dealers then record s { chosen = highest s.replies } else s
 
-abbrev pub forgotten : Sampled → Sampled
-forgotten s = new_sample s.minimum
+abbrev pub sample_forgotten : Sampled → Sampled
+sample_forgotten s = new_sample s.minimum
 
 -- It is held, no reply is higher, and of equally high ones it is that of the least key.
 pub record IsHighest (replies : Replies) (f : Finalization) : Type 0 where

@@ -53,8 +53,8 @@ tag_at = tagged_at tag_after
 
 -- ---- what is read
 
-abbrev pub number_at : List ℕ → Reading ℕ
-number_at = uint_at (2 ^ 64 - 1)
+abbrev pub epoch_number_at : List ℕ → Reading ℕ
+epoch_number_at = uint_at (2 ^ 64 - 1)
 
 -- a value that was read, as one of those that are looked for
 abbrev pub found_as : {A B : Type 0} → (A → B) → Result A CodecError → Result (Option B) CodecError
@@ -62,9 +62,9 @@ found_as f (Ok a) = Ok (Some (f a))
 found_as f (Err e) = Err e
 
 abbrev pub request_after : Tag → List ℕ → Result (Option Request) CodecError
-request_after tag.BoundaryRequest rest = found_as request.Boundary (whole (number_at rest))
+request_after tag.BoundaryRequest rest = found_as request.Boundary (whole (epoch_number_at rest))
 request_after tag.BoundaryResponse rest = Ok None
-request_after tag.BlockRequest rest = found_as request.Block (whole (number_at rest))
+request_after tag.BlockRequest rest = found_as request.Block (whole (epoch_number_at rest))
 request_after tag.BlockResponse rest = Ok None
 request_after tag.LatestRequest rest = Ok (Some request.Latest)
 request_after tag.LatestResponse rest = Ok None
@@ -74,73 +74,73 @@ abbrev pub request_of : List ℕ → Result (Option Request) CodecError
 request_of bytes = tag_at bytes >>= λ t. request_after t.0 t.1
 
 -- what a response says, as lists
-pub data Reply : Type 0 where
-  IsBoundary : Finalization → Reply
-  IsBlock : (epoch : ℕ) → (body : List ℕ) → Reply
-  IsLatest : Finalization → Reply
+pub data ProbeReply : Type 0 where
+  IsBoundary : Finalization → ProbeReply
+  IsBlock : (epoch : ℕ) → (body : List ℕ) → ProbeReply
+  IsLatest : Finalization → ProbeReply
 
-abbrev pub block_reply : ℕ × List ℕ → Reply
+abbrev pub block_reply : ℕ × List ℕ → ProbeReply
 block_reply p = IsBlock p.0 p.1
 
-abbrev pub reply_after : Tag → List ℕ → Result (Option Reply) CodecError
+abbrev pub reply_after : Tag → List ℕ → Result (Option ProbeReply) CodecError
 reply_after tag.BoundaryRequest rest = Ok None
 reply_after tag.BoundaryResponse rest = found_as IsBoundary (whole (finalization_at rest))
 reply_after tag.BlockRequest rest = Ok None
-reply_after tag.BlockResponse rest = found_as block_reply (number_at rest)
+reply_after tag.BlockResponse rest = found_as block_reply (epoch_number_at rest)
 reply_after tag.LatestRequest rest = Ok None
 reply_after tag.LatestResponse rest = found_as IsLatest (whole (finalization_at rest))
 
 -- what some bytes answer; none where they are a request's
-abbrev pub reply_of : List ℕ → Result (Option Reply) CodecError
+abbrev pub reply_of : List ℕ → Result (Option ProbeReply) CodecError
 reply_of bytes = tag_at bytes >>= λ t. reply_after t.0 t.1
 
 -- a block of this digest
-abbrev pub committed : {Dir : Type 0} → (commitment : List ℕ) → Result (Block Dir) CodecError → Result (Block Dir) CodecError
-committed commitment (Ok b) = if bytes_eq b.digest commitment then Ok b else Err (Invalid what.Commitment)
-committed commitment (Err e) = Err e
+abbrev pub with_commitment : {Dir : Type 0} → (commitment : List ℕ) → Result (Block Dir) CodecError → Result (Block Dir) CodecError
+with_commitment commitment (Ok b) = if bytes_eq b.digest commitment then Ok b else Err (Invalid what.Commitment)
+with_commitment commitment (Err e) = Err e
 
-abbrev pub said_by : Response → Reply
+abbrev pub said_by : Response → ProbeReply
 said_by (response.Boundary f) = IsBoundary f
 said_by (response.Block epoch body) = IsBlock epoch body.now
 said_by (response.Latest f) = IsLatest f
 
 -- what a call answered is what reading gives, unless memory ran out
-abbrev pub AnswersReply : Result (Option Reply) CodecError → Result (Option Response) CodecError → Type 0
+abbrev pub AnswersReply : Result (Option ProbeReply) CodecError → Result (Option Response) CodecError → Type 0
 AnswersReply reading (Ok None) = reading ≡ Ok None
 AnswersReply reading (Ok (Some r)) = reading ≡ Ok (Some (said_by r))
 AnswersReply reading (Err e) = Fails e reading
 
 -- ---- what is written
 
-abbrev pub message_tag : {Dir Cfg : Type 0} → Message Dir Cfg → ℕ
-message_tag (BoundaryRequest epoch) = 0
-message_tag (BoundaryResponse f) = 1
-message_tag (BlockRequest epoch) = 2
-message_tag (BlockResponse epoch block) = 3
-message_tag LatestRequest = 4
-message_tag (LatestResponse f) = 5
+abbrev pub probe_message_tag : {Dir Cfg : Type 0} → Message Dir Cfg → ℕ
+probe_message_tag (BoundaryRequest epoch) = 0
+probe_message_tag (BoundaryResponse f) = 1
+probe_message_tag (BlockRequest epoch) = 2
+probe_message_tag (BlockResponse epoch block) = 3
+probe_message_tag LatestRequest = 4
+probe_message_tag (LatestResponse f) = 5
 
-abbrev pub message_body : {Dir Cfg : Type 0} → (Dir → List ℕ) → Message Dir Cfg → List ℕ
-message_body spelling (BoundaryRequest epoch) = uint epoch
-message_body spelling (BoundaryResponse f) = finalization_spelling f
-message_body spelling (BlockRequest epoch) = uint epoch
-message_body spelling (BlockResponse epoch block) = uint epoch ++ block_spelling spelling block
-message_body spelling LatestRequest = []
-message_body spelling (LatestResponse f) = finalization_spelling f
+abbrev pub probe_message_body : {Dir Cfg : Type 0} → (Dir → List ℕ) → Message Dir Cfg → List ℕ
+probe_message_body spelling (BoundaryRequest epoch) = uint epoch
+probe_message_body spelling (BoundaryResponse f) = finalization_spelling f
+probe_message_body spelling (BlockRequest epoch) = uint epoch
+probe_message_body spelling (BlockResponse epoch block) = uint epoch ++ block_spelling spelling block
+probe_message_body spelling LatestRequest = []
+probe_message_body spelling (LatestResponse f) = finalization_spelling f
 
-abbrev pub message_spelling : {Dir Cfg : Type 0} → (Dir → List ℕ) → Message Dir Cfg → List ℕ
-message_spelling spelling = tagged message_tag (message_body spelling)
+abbrev pub probe_message_spelling : {Dir Cfg : Type 0} → (Dir → List ℕ) → Message Dir Cfg → List ℕ
+probe_message_spelling spelling = tagged probe_message_tag (probe_message_body spelling)
 
 -- what it carries fits
-abbrev pub MessageFits : {Dir Cfg : Type 0} → (Block Dir → Type 0) → Message Dir Cfg → Type 0
-MessageFits block_fits (BoundaryRequest epoch) = epoch < 2 ^ 64
-MessageFits block_fits (BoundaryResponse f) = FinalizationFits f
-MessageFits block_fits (BlockRequest epoch) = epoch < 2 ^ 64
-MessageFits block_fits (BlockResponse epoch block) = (epoch < 2 ^ 64) × block_fits block
-MessageFits block_fits LatestRequest = Unit {0}
-MessageFits block_fits (LatestResponse f) = FinalizationFits f
+abbrev pub ProbeMessageFits : {Dir Cfg : Type 0} → (Block Dir → Type 0) → Message Dir Cfg → Type 0
+ProbeMessageFits block_fits (BoundaryRequest epoch) = epoch < 2 ^ 64
+ProbeMessageFits block_fits (BoundaryResponse f) = FinalizationFits f
+ProbeMessageFits block_fits (BlockRequest epoch) = epoch < 2 ^ 64
+ProbeMessageFits block_fits (BlockResponse epoch block) = (epoch < 2 ^ 64) × block_fits block
+ProbeMessageFits block_fits LatestRequest = Unit {0}
+ProbeMessageFits block_fits (LatestResponse f) = FinalizationFits f
 
-message_within : {Dir Cfg : Type 0} (block_fits : Block Dir → Type 0) (spelling : Dir → List ℕ) (bound most : ℕ) → 71 ≤ most → 11 + bound ≤ most → IsBound block_fits (block_spelling spelling) bound → (m : Message Dir Cfg) → MessageFits block_fits m → length (message_spelling spelling m) ≤ most
+message_within : {Dir Cfg : Type 0} (block_fits : Block Dir → Type 0) (spelling : Dir → List ℕ) (bound most : ℕ) → 71 ≤ most → 11 + bound ≤ most → IsBound block_fits (block_spelling spelling) bound → (m : Message Dir Cfg) → ProbeMessageFits block_fits m → length (probe_message_spelling spelling m) ≤ most
 message_within block_fits spelling bound most long wide b (BoundaryRequest epoch) fit = omega (arith, uint_short epoch)
 message_within block_fits spelling bound most long wide b (BoundaryResponse f) fit = omega (arith, finalization_bound.within f fit)
 message_within block_fits spelling bound most long wide b (BlockRequest epoch) fit = omega (arith, uint_short epoch)
@@ -149,19 +149,19 @@ message_within block_fits spelling bound most long wide b LatestRequest fit = om
 message_within block_fits spelling bound most long wide b (LatestResponse f) fit = omega (arith, finalization_bound.within f fit)
 
 -- no message is longer than a finalization's, or a block's, with what stands before
-pub message_bound : {Dir Cfg : Type 0} (block_fits : Block Dir → Type 0) (spelling : Dir → List ℕ) (bound most : ℕ) → 71 ≤ most → 11 + bound ≤ most → IsBound block_fits (block_spelling spelling) bound → IsBound (MessageFits {Cfg = Cfg} block_fits) (message_spelling spelling) most
-message_bound block_fits spelling bound most long wide b = record { within = message_within block_fits spelling bound most long wide b }
+pub probe_message_bound : {Dir Cfg : Type 0} (block_fits : Block Dir → Type 0) (spelling : Dir → List ℕ) (bound most : ℕ) → 71 ≤ most → 11 + bound ≤ most → IsBound block_fits (block_spelling spelling) bound → IsBound (ProbeMessageFits {Cfg = Cfg} block_fits) (probe_message_spelling spelling) most
+probe_message_bound block_fits spelling bound most long wide b = record { within = message_within block_fits spelling bound most long wide b }
 
 -- a message that was written is read as what it asks or answers
-abbrev pub asked_by : {Dir Cfg : Type 0} → Message Dir Cfg → Option Request
-asked_by (BoundaryRequest epoch) = Some (request.Boundary epoch)
-asked_by (BoundaryResponse f) = None
-asked_by (BlockRequest epoch) = Some (request.Block epoch)
-asked_by (BlockResponse epoch block) = None
-asked_by LatestRequest = Some request.Latest
-asked_by (LatestResponse f) = None
+abbrev pub request_asked_by : {Dir Cfg : Type 0} → Message Dir Cfg → Option Request
+request_asked_by (BoundaryRequest epoch) = Some (request.Boundary epoch)
+request_asked_by (BoundaryResponse f) = None
+request_asked_by (BlockRequest epoch) = Some (request.Block epoch)
+request_asked_by (BlockResponse epoch block) = None
+request_asked_by LatestRequest = Some request.Latest
+request_asked_by (LatestResponse f) = None
 
-abbrev pub answered_by : {Dir Cfg : Type 0} → (Dir → List ℕ) → Message Dir Cfg → Option Reply
+abbrev pub answered_by : {Dir Cfg : Type 0} → (Dir → List ℕ) → Message Dir Cfg → Option ProbeReply
 answered_by spelling (BoundaryRequest epoch) = None
 answered_by spelling (BoundaryResponse f) = Some (IsBoundary f)
 answered_by spelling (BlockRequest epoch) = None

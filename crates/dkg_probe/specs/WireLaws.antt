@@ -6,7 +6,7 @@ use Rattle.dkg_types.specs.FinalizationCodes.{finalization_spelling, Finalizatio
 use Rattle.dkg_probe.specs.declared.wire.Message.{Message}
 use Rattle.dkg_probe.specs.declared.wire.Request.{Request}
 use Rattle.dkg_probe.specs.declared.wire.Request.TheVariants as request
-use Rattle.dkg_probe.specs.Wire.{Reply, IsBoundary, IsBlock, IsLatest, request_of, reply_of, message_spelling, MessageFits, asked_by, answered_by}
+use Rattle.dkg_probe.specs.Wire.{ProbeReply, IsBoundary, IsBlock, IsLatest, request_of, reply_of, probe_message_spelling, ProbeMessageFits, request_asked_by, answered_by}
 
 abbrev pub BeginsWith : ℕ → List ℕ → Type 0
 BeginsWith first bytes = (rest : List ℕ) × (bytes ≡ first ∷ rest)
@@ -19,7 +19,7 @@ SpellsRequest bytes (Some request.Latest) = BeginsWith 4 bytes
 SpellsRequest bytes None = BeginsWith 1 bytes ⊎ (BeginsWith 3 bytes ⊎ BeginsWith 5 bytes)
 
 -- The bytes that answer this. What answers nothing is a request's, by its first byte.
-abbrev pub SpellsReply : List ℕ → Option Reply → Type 0
+abbrev pub SpellsReply : List ℕ → Option ProbeReply → Type 0
 SpellsReply bytes (Some (IsBoundary f)) = FinalizationFits f × (bytes ≡ 1 ∷ finalization_spelling f)
 SpellsReply bytes (Some (IsBlock epoch body)) = (epoch < 2 ^ 64) × (bytes ≡ 3 ∷ (uint epoch ++ body))
 SpellsReply bytes (Some (IsLatest f)) = FinalizationFits f × (bytes ≡ 5 ∷ finalization_spelling f)
@@ -31,11 +31,11 @@ AreRequests = (bytes : List ℕ) (asked : Option Request) → IsBytes bytes → 
 
 -- some bytes are read as a response exactly where they spell it
 abbrev pub AreReplies : Type 0
-AreReplies = (bytes : List ℕ) (answered : Option Reply) → IsBytes bytes → (reply_of bytes ≡ Ok answered) ↔ SpellsReply bytes answered
+AreReplies = (bytes : List ℕ) (answered : Option ProbeReply) → IsBytes bytes → (reply_of bytes ≡ Ok answered) ↔ SpellsReply bytes answered
 
 -- a message is read as what it asks, and as what it answers
-abbrev pub IsReadAgain : {Dir Cfg : Type 0} → (Dir → List ℕ) → Message Dir Cfg → Type 0
-IsReadAgain spelling m = (request_of (message_spelling spelling m) ≡ Ok (asked_by m)) × (reply_of (message_spelling spelling m) ≡ Ok (answered_by spelling m))
+abbrev pub IsMessageReadAgain : {Dir Cfg : Type 0} → (Dir → List ℕ) → Message Dir Cfg → Type 0
+IsMessageReadAgain spelling m = (request_of (probe_message_spelling spelling m) ≡ Ok (request_asked_by m)) × (reply_of (probe_message_spelling spelling m) ≡ Ok (answered_by spelling m))
 
 abbrev pub AreReadAgain : {Dir : Type 0} → (Cfg : Type 0) → (Dir → List ℕ) → Type 0
-AreReadAgain {Dir} Cfg spelling = (m : Message Dir Cfg) → MessageFits (λ _. Unit {0}) m → IsReadAgain spelling m
+AreReadAgain {Dir} Cfg spelling = (m : Message Dir Cfg) → ProbeMessageFits (λ _. Unit {0}) m → IsMessageReadAgain spelling m

@@ -3,9 +3,9 @@ ghost use Rattle.std.specs.Prelude.{◌≡◌, ◌+◌, ◌<◌, ◌^◌, true, 
 ghost use Rattle.std.specs.Option.{option_copied, option_map_or};
 ghost use Rattle.std.specs.Int.NonZero.{non_zero_u64_get};
 ghost use Rattle.dkg_probe.specs.Acts.{ProbeRuns, Tracks};
-ghost use Rattle.dkg_probe.specs.Candidates.{are_apart, peers_of};
+ghost use Rattle.dkg_probe.specs.Candidates.{are_apart, candidate_keys};
 ghost use Rattle.dkg_probe.specs.OneEpoch.{OfOneEpoch, SaidSince, TellsKnown};
-ghost use Rattle.dkg_probe.specs.Probing.{ended_by, ended_in, fixed, hears, new_state, steps, takes, then_serves, tracked_of};
+ghost use Rattle.dkg_probe.specs.Probing.{probe_ended_by, ended_in, fixed, hears, new_state, steps, takes, then_serves, tracked_of};
 ghost use Rattle.dkg_probe.specs.Serving.{Serves};
 ghost use Rattle.dkg_probe.specs.Sound.{IsSoundState, KeepsArtifact};
 
@@ -101,7 +101,7 @@ where
     requires { length terms.now.bootstrap.participants.players + length terms.now.bootstrap.participants.next_players < 2 ^ 32 }
     ensures acts { let c = fixed S.verifies Dir.spelling ⟦<Block<Dir> as Read>⟧.read_of terms.now.limits terms.now in
         let lack = M.lacks terms.now.bootstrap.directory (tracked_of terms.now.bootstrap.participants) in
-        ProbeRuns (takes c lack (B.source source.now) event state.old) (ended_by state.new result) out.old.entries out.new.entries }
+        ProbeRuns (takes c lack (B.source source.now) event state.old) (probe_ended_by state.new result) out.old.entries out.new.entries }
     ensures tracked { let c = fixed S.verifies Dir.spelling ⟦<Block<Dir> as Read>⟧.read_of terms.now.limits terms.now in
         let lack = M.lacks terms.now.bootstrap.directory (tracked_of terms.now.bootstrap.participants) in
         IsTrue M.tells → Tracks (takes c lack (B.source source.now) event state.old) result (M.sets manager.old) (M.sets manager.new) }
@@ -132,7 +132,7 @@ where
 /// With a source attached and nobody waiting, others are served from now on. No peer is a candidate twice.
 fn turn_to_service<Dir>(state: &mut State<Dir>)
     ensures serves { state.new ≡ then_serves state.old }
-    ensures apart { IfSome state.new.awaited (λ a. are_apart (peers_of a.asked a.others) ≡ true) }
+    ensures apart { IfSome state.new.awaited (λ a. are_apart (candidate_keys a.asked a.others) ≡ true) }
 {
     if let Some(awaited) = &state.awaited {
         awaited.apart();
@@ -204,7 +204,7 @@ where
         ensures acts { let c = fixed S.verifies Dir.spelling ⟦<Block<Dir> as Read>⟧.read_of self.old.terms.limits self.old.terms in
             let lack = M.lacks self.old.terms.bootstrap.directory (tracked_of self.old.terms.bootstrap.participants) in
             self.old.failed ≡ false
-            → ProbeRuns (steps c lack (B.source source.now) event self.old.state) (ended_by self.new.state result) out.old.entries out.new.entries }
+            → ProbeRuns (steps c lack (B.source source.now) event self.old.state) (probe_ended_by self.new.state result) out.old.entries out.new.entries }
         ensures stopped { self.old.failed ≡ true → (result ≡ Err ProbeStop.Failed) × (self.new ≡ self.old) × (out.new.entries ≡ out.old.entries) }
         ensures failed { IsErrOf result ProbeStop.Failed → self.old.failed ≡ true }
         ensures stops { self.new.failed ≡ is_err result }
@@ -226,7 +226,7 @@ where
         // Info and floor of each artifact told are of one epoch, where genesis is of epoch zero.
         ensures one_epoch { self.old.terms.genesis.epoch ≡ 0 → SaidSince (OfOneEpoch Dir.spelling) out.old.entries out.new.entries }
         // No peer is a candidate twice.
-        ensures apart { OnOk result (IfSome self.new.state.awaited (λ a. are_apart (peers_of a.asked a.others) ≡ true)) }
+        ensures apart { OnOk result (IfSome self.new.state.awaited (λ a. are_apart (candidate_keys a.asked a.others) ≡ true)) }
     {
         if self.failed {
             return Err(ProbeStop::Failed);

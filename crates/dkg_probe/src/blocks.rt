@@ -9,10 +9,10 @@ use std::alloc::Global;
 pub trait Blocks<Dir: Directory> {
     ghost use Rattle.std.specs.Prelude.{◌≡◌, IfOk};
     ghost use Rattle.std.specs.Option.{option_copied};
-    ghost use Rattle.dkg_probe.specs.Sources.{Source};
+    ghost use Rattle.dkg_probe.specs.Sources.{ProbeSource};
 
     /// What it holds.
-    ghost source: { Self → Source Dir };
+    ghost source: { Self → ProbeSource Dir };
 
     /// The block at a height.
     fn block(&self, height: Height) -> Option<&Block<Dir>>

@@ -3,7 +3,7 @@
 //! Peers who gave a certified finalization of that block are candidates, each once. One at a time is asked for the block itself.
 ghost use Rattle.std.specs.Prelude.{◌≡◌, false, true, OnOk, OnErr, None, option_map};
 ghost use Rattle.std.specs.Option.{option_copied};
-ghost use Rattle.dkg_probe.specs.Candidates.{are_apart, first_of, is_candidate, new_awaiting, next_asked, peers_of, with_candidate};
+ghost use Rattle.dkg_probe.specs.Candidates.{are_apart, first_candidate, is_candidate, new_awaiting, next_asked, candidate_keys, with_candidate};
 
 use dkg_ceremony::{Height, Key, Mem};
 use dkg_types::Finalization;
@@ -77,7 +77,7 @@ impl Awaited {
 
     /// No peer is a candidate twice.
     pub fn apart(&self)
-        ensures { are_apart (peers_of self.now.asked self.now.others) ≡ true }
+        ensures { are_apart (candidate_keys self.now.asked self.now.others) ≡ true }
     {
         let _height = self.height;
     }
@@ -98,7 +98,7 @@ impl Awaited {
     /// Drops the candidate that was asked, and gives the next one, which is asked now.
     pub fn next(&mut self) -> Option<Key>
         ensures next { self.new ≡ next_asked self.old }
-        ensures peer { result ≡ option_map (λ c. c.0) (first_of self.old.others) }
+        ensures peer { result ≡ option_map (λ c. c.0) (first_candidate self.old.others) }
     {
         if let Some((peer, _)) = self.asked {
             self.peers.remove(&peer.0);

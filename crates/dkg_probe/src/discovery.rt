@@ -5,9 +5,9 @@ ghost use Rattle.dkg_types.specs.FinalizationCodes.{finalization_spelling};
 ghost use Rattle.dkg_types.specs.PayloadCodes.{payload_spelling, info_payload};
 ghost use Rattle.dkg_types.specs.Tracking.{AnswersTracking, with_set};
 ghost use Rattle.dkg_probe.specs.Acts.{IsFront, ProbeRuns, Tracks};
-ghost use Rattle.dkg_probe.specs.Candidates.{first_of, next_asked};
-ghost use Rattle.dkg_probe.specs.Probing.{activates, asks_dealers, begins_at, discovers, ended_by, ended_in, fixed, from_floor, hears_body, hears_in, hears_latest, info_at, is_done, is_first, latest_request, refuses, request_line, resolves, retries, samples, subscribes, tracked_of};
-ghost use Rattle.dkg_probe.specs.Wire.{IsBlock, IsBoundary, committed, reply_of, said_by};
+ghost use Rattle.dkg_probe.specs.Candidates.{first_candidate, next_asked};
+ghost use Rattle.dkg_probe.specs.Probing.{activates, asks_dealers, begins_at, discovers, probe_ended_by, ended_in, fixed, from_floor, hears_body, hears_in, hears_latest, info_at_height, is_done, is_first, latest_request, refuses, request_line, resolves, retries, samples, subscribes, tracked_of};
+ghost use Rattle.dkg_probe.specs.Wire.{IsBlock, IsBoundary, with_commitment, reply_of, said_by};
 
 use crate::artifact::Artifact;
 use crate::candidates::Awaited;
@@ -87,7 +87,7 @@ fn ask_next<Dir: Directory + Drop>(
     out: &mut Transcript,
 ) -> Mem<()>
     ensures next { awaited.new ≡ next_asked awaited.old }
-    ensures ok { OnOk result (out.new.entries ≡ out.old.entries ++ request_line (first_of awaited.old.others) awaited.old.floor.epoch ∷ []) }
+    ensures ok { OnOk result (out.new.entries ≡ out.old.entries ++ request_line (first_candidate awaited.old.others) awaited.old.floor.epoch ∷ []) }
     ensures err { OnErr result (out.new.entries ≡ out.old.entries) }
 {
     let epoch = awaited.floor().epoch;
@@ -137,7 +137,7 @@ where
     requires { length terms.now.bootstrap.participants.players + length terms.now.bootstrap.participants.next_players < 2 ^ 32 }
     ensures acts { let c = fixed S.verifies Dir.spelling ⟦<Block<Dir> as Read>⟧.read_of terms.now.limits terms.now in
         let lack = M.lacks terms.now.bootstrap.directory (tracked_of terms.now.bootstrap.participants) in
-        ProbeRuns (activates c lack state.old) (ended_by state.new result) out.old.entries out.new.entries }
+        ProbeRuns (activates c lack state.old) (probe_ended_by state.new result) out.old.entries out.new.entries }
     ensures tracked { let c = fixed S.verifies Dir.spelling ⟦<Block<Dir> as Read>⟧.read_of terms.now.limits terms.now in
         let lack = M.lacks terms.now.bootstrap.directory (tracked_of terms.now.bootstrap.participants) in
         IsTrue M.tells → Tracks (activates c lack state.old) result (M.sets manager.old) (M.sets manager.new) }
@@ -176,7 +176,7 @@ where
     requires { length terms.now.bootstrap.participants.players + length terms.now.bootstrap.participants.next_players < 2 ^ 32 }
     ensures acts { let c = fixed S.verifies Dir.spelling ⟦<Block<Dir> as Read>⟧.read_of terms.now.limits terms.now in
         let lack = M.lacks terms.now.bootstrap.directory (tracked_of terms.now.bootstrap.participants) in
-        ProbeRuns (subscribes c lack state.old) (ended_by state.new result) out.old.entries out.new.entries }
+        ProbeRuns (subscribes c lack state.old) (probe_ended_by state.new result) out.old.entries out.new.entries }
     ensures tracked { let c = fixed S.verifies Dir.spelling ⟦<Block<Dir> as Read>⟧.read_of terms.now.limits terms.now in
         let lack = M.lacks terms.now.bootstrap.directory (tracked_of terms.now.bootstrap.participants) in
         IsTrue M.tells → Tracks (subscribes c lack state.old) result (M.sets manager.old) (M.sets manager.new) }
@@ -406,7 +406,7 @@ fn find_info<Dir: Directory + Drop>(
 ) -> Mem<Option<EpochInfo<Dir>>>
 where
     Dir::Cfg: Drop,
-    ensures { IfOk result (λ found. found ≡ info_at height epoch (committed commitment.now (whole (⟦<Block<Dir> as Read>⟧.read_of limits.now body.now)))) }
+    ensures { IfOk result (λ found. found ≡ info_at_height height epoch (with_commitment commitment.now (whole (⟦<Block<Dir> as Read>⟧.read_of limits.now body.now)))) }
 {
     let block = match read_block::<Dir>(alloc, body, commitment, limits) {
         Ok(block) => block,

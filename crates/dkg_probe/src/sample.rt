@@ -4,7 +4,7 @@
 ghost use Rattle.std.specs.Prelude.{◌≡◌, ◌<◌, length, OnOk, OnErr, IfSome};
 ghost use Rattle.std.specs.Option.{option_copied};
 ghost use Rattle.dkg_ceremony.specs.Thresholds.{max_faults_of};
-ghost use Rattle.dkg_probe.specs.Sampling.{IsHighest, awaits, better, highest, floor_of, forgotten, is_enough, is_higher, new_sample, recorded, reply_at, selected};
+ghost use Rattle.dkg_probe.specs.Sampling.{IsHighest, awaits, better, highest, floor_of, sample_forgotten, is_enough, is_higher, new_sample, sample_recorded, reply_at, selected};
 
 use dkg_ceremony::{Epoch, Key, Mem, max_faults};
 use dkg_types::Finalization;
@@ -98,7 +98,7 @@ impl Sample {
 
     /// Adds the reply of a peer that is awaited, and does nothing for any other.
     pub fn record(&mut self, peer: Key, finalization: Finalization) -> Mem<()>
-        ensures ok { OnOk result (self.new ≡ recorded self.old peer finalization) }
+        ensures ok { OnOk result (self.new ≡ sample_recorded self.old peer finalization) }
         ensures err { OnErr result (self.new ≡ self.old) }
     {
         if self.awaits(peer) {
@@ -123,7 +123,7 @@ impl Sample {
 
     /// Forgets the replies and the floor.
     pub fn reset(&mut self)
-        ensures { self.new ≡ forgotten self.old }
+        ensures { self.new ≡ sample_forgotten self.old }
     {
         self.replies.clear();
         self.chosen = None;

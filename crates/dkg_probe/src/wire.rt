@@ -6,7 +6,7 @@ ghost use Rattle.dkg_values.specs.Uint.{uint};
 ghost use Rattle.dkg_infos.specs.InfoBounds.{IsBound};
 ghost use Rattle.dkg_types.specs.BlockCodes.{BlockFits, block_spelling};
 ghost use Rattle.dkg_types.specs.PayloadCodes.{PayloadFits};
-ghost use Rattle.dkg_probe.specs.Wire.{tag_at, tag_byte, request_of, reply_of, number_at, committed, AnswersReply, MessageFits, message_spelling};
+ghost use Rattle.dkg_probe.specs.Wire.{tag_at, tag_byte, request_of, reply_of, epoch_number_at, with_commitment, AnswersReply, ProbeMessageFits, probe_message_spelling};
 
 use bytes::{BufMut, BytesMut};
 use dkg_ceremony::{
@@ -94,7 +94,7 @@ fn read_tag(input: &mut Reader<'_>) -> Result<Tag, CodecError>
 
 /// An epoch, and no bytes after it.
 fn read_last_epoch(input: &mut Reader<'_>) -> Result<Epoch, CodecError>
-    ensures exact { Decodes (whole (number_at input.old)) result }
+    ensures exact { Decodes (whole (epoch_number_at input.old)) result }
     ensures sure { IsErrOf result CodecError.NoMemory → ⊥ }
 {
     let epoch = read_u64(input)?;
@@ -158,7 +158,7 @@ pub fn read_block<Dir: Directory + Drop>(
 where
     Dir::Cfg: Drop,
     ensures found { IfOk result (λ b. (body.now ≡ block_spelling Dir.spelling b) × (b.digest ≡ commitment.now)) }
-    ensures exact { Decodes (committed commitment.now (whole (⟦<Block<Dir> as Read>⟧.read_of cfg.now body.now))) result }
+    ensures exact { Decodes (with_commitment commitment.now (whole (⟦<Block<Dir> as Read>⟧.read_of cfg.now body.now))) result }
 {
     let block = decode_cfg::<Block<Dir>>(alloc, body, cfg)?;
     if block.digest() != *commitment {
@@ -187,7 +187,7 @@ impl<Dir: Directory> Message<Dir> {
     pub fn max_encode_size(_participants: u32, application: usize) -> usize
         requires { application ≤ 2 ^ 62 }
         ensures bound { result ≡ 1 + max 70 (10 + application) }
-        ensures enough { IsBound (MessageFits {Cfg = Dir.Cfg} (λ b. length (block_spelling Dir.spelling b) ≤ application)) (message_spelling Dir.spelling) result }
+        ensures enough { IsBound (ProbeMessageFits {Cfg = Dir.Cfg} (λ b. length (block_spelling Dir.spelling b) ≤ application)) (probe_message_spelling Dir.spelling) result }
     {
         1 + (10 + application).max(70)
     }
@@ -198,7 +198,7 @@ pub fn max_payload_size<Dir: Directory>(participants: NonZeroU32) -> usize
     ensures bound { result ≡ 1 + max 70 (10 + (165 + 22 * non_zero_u32_get participants + Dir.bound_of (3 * non_zero_u32_get participants))) }
     ensures enough { (version : ℕ)
         → let fits = PayloadFits (λ peers. Dir.fits (Dir.config_of peers)) Dir.matches_of (non_zero_u32_get participants) version in
-        IsBound (MessageFits {Cfg = Dir.Cfg} (BlockFits fits Dir.spelling)) (message_spelling Dir.spelling) result }
+        IsBound (ProbeMessageFits {Cfg = Dir.Cfg} (BlockFits fits Dir.spelling)) (probe_message_spelling Dir.spelling) result }
 {
     let most = participants.get();
     // A directory takes at most 2^61 bytes, so a block at most 2^62.
@@ -208,9 +208,9 @@ pub fn max_payload_size<Dir: Directory>(participants: NonZeroU32) -> usize
 }
 
 impl<Dir: Directory> Spelled for Message<Dir> {
-    ghost use Rattle.dkg_probe.specs.Wire.{message_spelling};
+    ghost use Rattle.dkg_probe.specs.Wire.{probe_message_spelling};
 
-    ghost spelling = { message_spelling Dir.spelling };
+    ghost spelling = { probe_message_spelling Dir.spelling };
 }
 
 impl<Dir: Directory> EncodeSize for Message<Dir> {

@@ -21,10 +21,10 @@ use Rattle.dkg_types.specs.Paths.{log_counts, log_of_block, logs_from, logs_of_p
 use Rattle.dkg_types.specs.PayloadCodes.{its_log}
 use Rattle.dkg_infos.specs.declared.directory.Unit as directory
 use Rattle.dkg_artifact.specs.Ancestries.{BeginsBelow, CompletesPath, IsLinked}
-use Rattle.dkg_artifact.specs.Scans.{above, is_above}
+use Rattle.dkg_artifact.specs.Scans.{above, is_above_tip}
 use Rattle.dkg_artifact.specs.declared.scan.Tip as scan
 use Rattle.dkg_text.specs.declared.script.Life.{Life}
-use Rattle.dkg_script.specs.Blocks.{Block, chain, chain_below}
+use Rattle.dkg_script.specs.Blocks.{ScriptBlock, chain, chain_below}
 use Rattle.dkg_script.specs.Consistent.{IsConsistentScript}
 use Rattle.dkg_script.specs.History.{IsOneDigest}
 use Rattle.dkg_script.specs.Inclusion.{IsFormOfInclusion}
@@ -228,10 +228,10 @@ module _ (s : Setting) (ends : List (Option CutAt)) (consistent : IsConsistentSc
 
   on_block : (low height : ℕ) (parent : List ℕ) (b : made.Block U) → height ≡ low + 1 → chain s low ≡ Some (seen b) → IsOnIt height parent → parent ≡ b.digest
   on_block low height parent b next there on =
-      subst (λ (o : Option Block). IfSome o (λ below. parent ≡ below.digest)) there (subst (λ (h : ℕ). IsOnIt h parent) (next ∙ add-one low) on)
+      subst (λ (o : Option ScriptBlock). IfSome o (λ below. parent ≡ below.digest)) there (subst (λ (h : ℕ). IsOnIt h parent) (next ∙ add-one low) on)
 
   chain_links : (height : ℕ) (b : made.Block U) → chain s height ≡ Some (seen b) → IsOnIt b.height b.parent
-  chain_links height b there = (in_chain s (λ (c : Block). IfSome (chain_below s c.height) (λ below. c.parent ≡ below.digest)) height (seen b) consistent.linked there).0
+  chain_links height b there = (in_chain s (λ (c : ScriptBlock). IfSome (chain_below s c.height) (λ below. c.parent ≡ below.digest)) height (seen b) consistent.linked there).0
 
   -- a linked path over the chain's blocks
   linked_over : (low : ℕ) (bs : List (made.Block U)) → IsChain low bs → (b : made.Block U) (path : List (made.Block U)) → IsLinked (b ∷ path) → b.height ≡ low + length bs → IsOnIt b.height b.parent → IsLinked (bs ++ b ∷ path)
@@ -373,7 +373,7 @@ module _ (s : Setting) (ends : List (Option CutAt)) (consistent : IsConsistentSc
       early_tip low =
           no_lower bound
           (filled [] (lowest ∷ path) (t.height + 1) tt (none (t.height + 1)) (λ at p under. none_below s epoch round at p (up at under))
-          (found_is (Some t) is ∙ path_kept middle end round (is_above (Some its_tip)) dropped (lowest ∷ path)))
+          (found_is (Some t) is ∙ path_kept middle end round (is_above_tip (Some its_tip)) dropped (lowest ∷ path)))
         where
           none : (a : ℕ) → a + 0 ≡ a
           none a = omega arith
@@ -453,7 +453,7 @@ module _ (s : Setting) (ends : List (Option CutAt)) (consistent : IsConsistentSc
             on : IsOnIt lowest.height lowest.parent
             on = subst (λ (h : ℕ). IsOnIt h lowest.parent) (sym (next ∙ add-one t.height)) (by_block (chain s t.height) on_tip.here)
               where
-                by_block : (o : Option Block) → IfSome o (λ b. b.digest ≡ t.digest) → IfSome o (λ below. lowest.parent ≡ below.digest)
+                by_block : (o : Option ScriptBlock) → IfSome o (λ b. b.digest ≡ t.digest) → IfSome o (λ below. lowest.parent ≡ below.digest)
                 by_block None same = tt
                 by_block (Some b) same = sym (same ∙ parent)
 
@@ -489,16 +489,16 @@ module _ (s : Setting) (ends : List (Option CutAt)) (consistent : IsConsistentSc
                 itself a = omega arith
 
             tip_digest : (its_block.block).digest ≡ t.digest
-            tip_digest = subst (λ (o : Option Block). IfSome o (λ b. b.digest ≡ t.digest)) its_block.chained on_tip.here
+            tip_digest = subst (λ (o : Option ScriptBlock). IfSome o (λ b. b.digest ≡ t.digest)) its_block.chained on_tip.here
 
             same : seen its_block.block ≡ seen lowest
             same = one_digest its_block.number lowest_there.0 (seen its_block.block) (seen lowest) (seen_at s form bytes its_block.number its_block.block its_block.there) (seen_at s form bytes lowest_there.0 lowest lowest_there.1) (tip_digest ∙ same_digest)
 
             there : chain s t.height ≡ Some (seen lowest)
-            there = its_block.chained ∙ ap (λ (b : Block). Some b) same
+            there = its_block.chained ∙ ap (λ (b : ScriptBlock). Some b) same
 
             height_is : lowest.height ≡ t.height
-            height_is = sym (ap (λ (b : Block). b.height) same) ∙ its_block.height_is
+            height_is = sym (ap (λ (b : ScriptBlock). b.height) same) ∙ its_block.height_is
 
         late_tip : IsByPath s life epoch request read round logs
         late_tip = by_test (nat_lt lowest.height (t.height + 1)) refl
@@ -519,7 +519,7 @@ module _ (s : Setting) (ends : List (Option CutAt)) (consistent : IsConsistentSc
     without_tip none =
         no_lower (subst (λ (m : ℕ). lowest.height ≤ m) begins_at (completes_at None none).low)
         (asked.filled ∙ ap (λ (l : LogMap). filled_by l asked.found) (recorded_is None none ∙ none_reached (at_epoch epoch known.m)) ∙ found_is None none
-        ∙ path_kept middle end round (is_above None) (λ b test. absurd (bools_apart true refl test)) (lowest ∷ path))
+        ∙ path_kept middle end round (is_above_tip None) (λ b test. absurd (bools_apart true refl test)) (lowest ∷ path))
 
     -- THE LAW: by a path
     pub by_path : IsByPath s life epoch request read round logs

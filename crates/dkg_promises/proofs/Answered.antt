@@ -24,7 +24,7 @@ use Rattle.dkg_text.specs.declared.script.Life.{Life}
 use Rattle.dkg_text.specs.declared.script.Script.{Script}
 use Rattle.dkg_store.specs.Acts.{Ended}
 use Rattle.dkg_script.specs.Epochs.{alone}
-use Rattle.dkg_script.specs.Position.{awaited_epoch, follows}
+use Rattle.dkg_script.specs.Position.{awaited_epoch, life_follows}
 use Rattle.dkg_core.specs.Behind.{event_of}
 use Rattle.dkg_core.specs.Courses.{on_devices}
 use Rattle.dkg_core.specs.Endings.{stage_in, tip_behind, validity}
@@ -44,7 +44,7 @@ use Rattle.dkg_core.specs.Stepping.{dealt_behind, given_itself}
 use Rattle.dkg_core.specs.Through.{IsLiveThrough, asked_by, included}
 use Rattle.dkg_laws.proofs.NodeSaying.{node_steps_say_through}
 use Rattle.dkg_promises.specs.Answers.{IsAnsweredSo, IsAskedFor, IsMadeOf, IsProvidedFor, IsUnavailable}
-use Rattle.dkg_lives.specs.Asks.{IsRefusedAt, IsUncancelled, RequestStanding, WereAsked, bounds_in, fed_in, next_bytes, scan_tip, standing_of, turns}
+use Rattle.dkg_lives.specs.Asks.{IsRefusedAt, IsUncancelled, RequestStanding, WereAsked, bounds_in, fed_in, next_bytes, scan_tip, request_standing, turns}
 use Rattle.dkg_lives.specs.Blamed.{IsInfoOf, IsTakenLast, round_by, tip_in}
 use Rattle.dkg_lives.specs.Epochs.{IsLifeInForm, StandsInScript, any_shares, epoch_by}
 use Rattle.dkg_lives.specs.Given.{Lived, at_step, blocks_in}
@@ -117,7 +117,7 @@ module _ {Known : Knows} (g : Lived) (here : IsLifeInForm g) (i : ℕ) (its : Ev
 
   -- A LIFE THAT TAKES PART
   module _ (apart : st.participation.stage ≡ Follows → ⊥) where
-    takes_part : follows (alone g.script) g.number g.life e ≡ false
+    takes_part : life_follows (alone g.script) g.number g.life e ≡ false
     takes_part = stands.parts apart
 
     its_epoch : st.participation.epoch ≡ e
@@ -169,7 +169,7 @@ module _ {Known : Knows} (g : Lived) (here : IsLifeInForm g) (i : ℕ) (its : Ev
       x_epoch : x.participation.epoch ≡ e
       x_epoch = same.epoch ∙ its_epoch
 
-      lacking : (round : Round) (r : Request U) (why : Why) → r.blocks ≡ fed_in g.script g.life r.number (suc i) → standing_of g.life r.number (suc i) ≡ stands_as r.ended
+      lacking : (round : Round) (r : Request U) (why : Why) → r.blocks ≡ fed_in g.script g.life r.number (suc i) → request_standing g.life r.number (suc i) ≡ stands_as r.ended
           → IsRead check_log_of round (bounds_in g.script e) (scan_tip g.script g.life (suc i)) r.blocks r.ended (Lacks why) → IsUnavailable g.script g.number g.life e (suc i) r.number why
       lacking round r why fed standing (inl (short, ended, on)) =
           subst (λ (w : Why). IsUnavailable g.script g.number g.life e (suc i) r.number w) (sym short)
@@ -206,7 +206,7 @@ module _ {Known : Knows} (g : Lived) (here : IsLifeInForm g) (i : ℕ) (its : Ev
       found_so line read = absurd read
 
     -- A VERIFICATION ENDS
-    waited_for : (number : ℕ) (payload : Option (List ℕ)) → IsWaitedAnswer c st (Answer number (Available payload)) → ((awaited : IsAwaited g Known e i st.inclusion.running st.participation.round number) → IsUncancelled (standing_of g.life number (suc i)))
+    waited_for : (number : ℕ) (payload : Option (List ℕ)) → IsWaitedAnswer c st (Answer number (Available payload)) → ((awaited : IsAwaited g Known e i st.inclusion.running st.participation.round number) → IsUncancelled (request_standing g.life number (suc i)))
         → IsSaidHere (Answer number (Available payload))
     waited_for number payload (round, info, of_round, of_info, (job, runs, waits, is)) keeps =
         let one : IsAwaited g Known e i st.inclusion.running st.participation.round number = subst (λ (o : Option ℕ). IfSome o (IsAwaited g Known e i st.inclusion.running st.participation.round)) waits held.ready.waiter in
@@ -227,14 +227,14 @@ module _ {Known : Knows} (g : Lived) (here : IsLifeInForm g) (i : ℕ) (its : Ev
         upto : (a : ℕ) → a ≤ i → a ≤ suc i
         upto a low = omega (arith, low)
 
-    waited_so : (line : Entry) → IsWaitedAnswer c st line → ((number : ℕ) → IsAwaited g Known e i st.inclusion.running st.participation.round number → IsUncancelled (standing_of g.life number (suc i))) → IsSaidHere line
+    waited_so : (line : Entry) → IsWaitedAnswer c st line → ((number : ℕ) → IsAwaited g Known e i st.inclusion.running st.participation.round number → IsUncancelled (request_standing g.life number (suc i))) → IsSaidHere line
     waited_so (Answer number (Available payload)) waited keeps = waited_for number payload waited (keeps number)
     waited_so (Answer number (Unavailable why)) waited keeps = absurd waited
     waited_so line waited keeps = absurd waited
 
   -- a life with a round takes part
   apart_by : (round : Round) → st.participation.round ≡ Some round → st.participation.stage ≡ Follows → ⊥
-  apart_by round there follows = of_phase (phase_of c (core.awaited_height st)) (sym ((live.stands).in_round round there) ∙ follows)
+  apart_by round there life_follows = of_phase (phase_of c (core.awaited_height st)) (sym ((live.stands).in_round round there) ∙ life_follows)
     where
       of_phase : (phase : Phase) → stage_in phase ≡ Follows → ⊥
       of_phase Early same = let no : ◌≡◌ {A = Stage} Deals Follows = same in cc
@@ -282,26 +282,26 @@ module _ {Known : Knows} (g : Lived) (here : IsLifeInForm g) (i : ℕ) (its : Ev
     asked_so line read = read_in (asked_by mail st) (subst (λ (y : Message U). IsReadFor c st y (asked_by mail st)) (sym sent) refl) part mail_tip (mail_said g here i its is st held mail its_brings) line read
 
   following : (number : ℕ) → its ≡ event.Info number → st.participation.stage ≡ Follows → IsSaidHere (Answer number (Unavailable Following))
-  following number of follows =
+  following number of life_follows =
       let there : slice_get g.life.events i ≡ Some (event.Info number) = is ∙ ap (λ (x : Event). Some x) of in (
         record { at = i; before = next i; made = there; same = refl; uncancelled = subst IsUncancelled (sym (becomes_open g.life i number (life_in g here).anew there)) tt },
-        stands.blind follows,
+        stands.blind life_follows,
       )
     where
       next : (a : ℕ) → a < suc a
       next a = omega arith
 
   -- the one that waits stays, where the event doesn't cancel it
-  waits_on : (number : ℕ) → ((s : RequestStanding) → IsUncancelled s → IsUncancelled (turns number s its)) → IsAwaited g Known e i st.inclusion.running st.participation.round number → IsUncancelled (standing_of g.life number (suc i))
-  waits_on number keeps one = subst IsUncancelled (sym (stands_more number g.life i its is)) (keeps (standing_of g.life number i) one.uncancelled)
+  waits_on : (number : ℕ) → ((s : RequestStanding) → IsUncancelled s → IsUncancelled (turns number s its)) → IsAwaited g Known e i st.inclusion.running st.participation.round number → IsUncancelled (request_standing g.life number (suc i))
+  waits_on number keeps one = subst IsUncancelled (sym (stands_more number g.life i its is)) (keeps (request_standing g.life number i) one.uncancelled)
 
   mail_answers : (mail : Mail U) → m.message ≡ Sent mail → (line : Entry) → IsMailLine c st mail line → IsSaidHere line
   mail_answers (Peer from bytes) sent line said = unasked_so line said
   mail_answers (NextLog number height) sent line said = subst (λ (x : Entry). IsSaidHere x) (sym said.1) tt
   mail_answers (ReleaseLog height) sent line said = absurd said
   mail_answers (EpochInfoOf number) sent line (inl read) = asked_so (EpochInfoOf number) sent line read
-  mail_answers (EpochInfoOf number) sent line (inr (follows, same)) =
-      subst (λ (x : Entry). IsSaidHere x) (sym same) (following number (sends_info g its number (its_brings (EpochInfoOf number) sent)) follows)
+  mail_answers (EpochInfoOf number) sent line (inr (life_follows, same)) =
+      subst (λ (x : Entry). IsSaidHere x) (sym same) (following number (sends_info g its number (its_brings (EpochInfoOf number) sent)) life_follows)
   mail_answers (Feed number block) sent line said = asked_so (Feed number block) sent line said
   mail_answers (Over number) sent line said = asked_so (Over number) sent line said
   mail_answers (Cancel number) sent line said = asked_so (Cancel number) sent line said
@@ -330,7 +330,7 @@ module _ {Known : Knows} (g : Lived) (here : IsLifeInForm g) (i : ℕ) (its : Ev
 
     final_so : st.participation.stage ≡ Includes → is_last_height c b.height ≡ true → (n : ℕ) (line : Entry) → OfRequest st n (λ r. line ≡ Answer n (Unavailable Finished)) → IsSaidHere line
     final_so stage last_one n line (r, among, numbered, same) =
-        let apart : st.participation.stage ≡ Follows → ⊥ = λ follows. let no : ◌≡◌ {A = Stage} Includes Follows = sym stage ∙ follows in cc in
+        let apart : st.participation.stage ≡ Follows → ⊥ = λ life_follows. let no : ◌≡◌ {A = Stage} Includes Follows = sym stage ∙ life_follows in cc in
         let ready = block_said g here i its is st held number of st.inclusion refl refl refl in
         subst (λ (x : Entry). IsSaidHere x) (sym same) (
           subst (λ (k : ℕ). IsAskedFor g.script g.number g.life e (suc i) k) numbered (of_held r (all_of (IsHeld g e (suc i)) st.inclusion.queue r among ready.queue)),

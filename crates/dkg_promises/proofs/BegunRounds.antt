@@ -36,7 +36,7 @@ use Rattle.dkg_laws.proofs.Openings.{node_openings_lead_over}
 use Rattle.dkg_laws.proofs.NodeThrough.{node_steps_lead_through_over}
 use Rattle.dkg_core.proofs.Storing.{node_steps_keep_secrets}
 use Rattle.dkg_lives.specs.Blamed.{per_epoch}
-use Rattle.dkg_lives.specs.Epochs.{IsAt, IsLifeInForm, any_shares, awaited_by, epoch_by}
+use Rattle.dkg_lives.specs.Epochs.{IsAtEvent, IsLifeInForm, any_shares, awaited_by, epoch_by}
 use Rattle.dkg_promises.specs.Found.{IsBegunBy, IsDealtBy}
 use Rattle.dkg_lives.specs.Given.{Lived, at_step, blocks_in, step_of}
 use Rattle.dkg_lives.proofs.Awaiting.{HasHeight, IsReached, block_behind, has_height}
@@ -176,7 +176,7 @@ module _ (g : Lived) (here : IsLifeInForm g) where
       by_brought (inl b) = (b.0, (b.1).is ∙ ap (λ (x : Block directory.Unit). Some x) (the_block (sym b.3 ∙ is)))
       by_brought (inr mail) = absurd (let wrong : ◌≡◌ {A = Message directory.Unit} (Sent mail.0) (Finalized block) = sym mail.1 ∙ is in cc)
 
-  module _ (i : ℕ) (its : Event) (is : slice_get g.life.events i ≡ Some its) (reached : IsReached g.life.cut (suc i)) (st : Live directory.Unit) (at : IsAt g i st) where
+  module _ (i : ℕ) (its : Event) (is : slice_get g.life.events i ≡ Some its) (reached : IsReached g.life.cut (suc i)) (st : Live directory.Unit) (at : IsAtEvent g i st) where
     abbrev m : IsMessage g its
     m = message_in g its (event_in_form g here i its is)
 

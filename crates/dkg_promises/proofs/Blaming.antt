@@ -52,13 +52,13 @@ use Rattle.dkg_core.proofs.Setups.{comes_anywhere}
 use Rattle.dkg_core.proofs.Splitting.{came_to}
 use Rattle.dkg_life.specs.declared.stop.Stop.{Stop}
 use Rattle.dkg_life.specs.declared.stop.Stop.TheVariants.{Cut as AtCut, Failed, Fault as FaultOf}
-use Rattle.dkg_core.specs.Splitting.{named}
+use Rattle.dkg_core.specs.Splitting.{fault_named}
 use Rattle.dkg_life.specs.Ends.{by_fault}
 use Rattle.dkg_promises.specs.Answers.{AnswersSo, IsAnswer, IsAnsweredSo}
 use Rattle.dkg_lives.specs.Blamed.{BlamesSo, IsAskedOwn, IsBlamedSo, IsBlockCause, IsBlockOwn, IsCause, IsClear, IsFromOutside, IsOwn, IsProviderCause, IsReadingEvent, IsWhy, IsWhyNow, MayRead, OnBlock, tip_in, tip_over}
 use Rattle.dkg_lives.specs.Causes.{IfFault}
 use Rattle.dkg_lives.specs.Ended.{by_node_stop}
-use Rattle.dkg_lives.specs.Epochs.{IsAt, IsChecked, IsLifeInForm, StandsInScript, any_shares, epoch_by}
+use Rattle.dkg_lives.specs.Epochs.{IsAtEvent, IsChecked, IsLifeInForm, StandsInScript, any_shares, epoch_by}
 use Rattle.dkg_lives.specs.Given.{Lived, anchor_in, at_step, blocks_in, lived, step_of}
 use Rattle.dkg_lives.specs.Lives.{LivesSo, RunsAllSo, RunsSo, Steps, TakesAll, TellsEnd, fuse_for}
 use Rattle.dkg_promises.specs.SharesStand.{ComesInto, TellsCommit}
@@ -84,7 +84,7 @@ use Rattle.dkg_lives.proofs.Stood.{begun_stands, step_stands}
 use Rattle.dkg_lives.proofs.Unanswered.{IsUnanswered, opening_lines}
 
 -- a fault that doesn't come from outside is the course's own
-own_or_outside : {S : Type 0} (its : Fault) → IsFromOutside its ⊎ (named {S = S} Faulted (by_fault its) ≡ stopped (Faulted its))
+own_or_outside : {S : Type 0} (its : Fault) → IsFromOutside its ⊎ (fault_named {S = S} Faulted (by_fault its) ≡ stopped (Faulted its))
 own_or_outside fault.NoMemory = inl tt
 own_or_outside fault.Disk = inl tt
 own_or_outside fault.Secrets = inl tt
@@ -112,7 +112,7 @@ module _ (g : Lived) (here : IsLifeInForm g) where
 
   -- where it stands behind so many steps
   pub record Stood (i : ℕ) (st : Live directory.Unit) : Type 0 where
-    pub at : IsAt g i st
+    pub at : IsAtEvent g i st
     pub tip : st.tip ≡ tip_in g.script g.life i
     pub made : AreMade g i st
     pub carried : IsCarried g i st

@@ -32,7 +32,7 @@ use Rattle.dkg_script.specs.Position.{awaited_epoch}
 use Rattle.dkg_script.specs.Readings.{with_spelled}
 use Rattle.dkg_script.specs.Setting.{CutAt, Setting, found, life_at, me}
 use Rattle.dkg_script.specs.Valid.{ComesInTurn, ProvidesNext, IsValidCase}
-use Rattle.dkg_store.specs.Acts.{Changes, Ended, Held, World, after, broken, notes, stopped, went}
+use Rattle.dkg_store.specs.Acts.{Changes, Ended, Held, World, held_after, broken, notes, stopped, went}
 use Rattle.dkg_store.specs.Pairs.{IsWhole, Pairs, recovered}
 use Rattle.dkg_store.proofs.Halves.{recovered_at}
 use Rattle.dkg_core.specs.Asked.{IsAskStop, OfShares}
@@ -55,7 +55,7 @@ use Rattle.dkg_laws.proofs.NodeThrough.{node_steps_lead_through_over}
 use Rattle.dkg_laws.proofs.Openings.{node_openings_lead_over}
 use Rattle.dkg_core.proofs.StepDealing.{given_same}
 use Rattle.dkg_life.specs.declared.stop.Stop.{Stop}
-use Rattle.dkg_lives.specs.Blamed.{IsAskedOwn, IsBlockCause, IsBlockOwn, IsCause, IsFromOutside, IsMayCause, IsOwn, IsOwnCause, IsWhy, OnBlock, OnCarried, first_epoch_in, next_epoch, opening_block}
+use Rattle.dkg_lives.specs.Blamed.{IsAskedOwn, IsBlockCause, IsBlockOwn, IsCause, IsFromOutside, IsMayCause, IsOwn, IsOwnCause, IsWhy, OnBlock, OnCarried, first_epoch_in, epoch_behind, opening_block}
 use Rattle.dkg_lives.specs.Epochs.{IsLifeInForm, any_shares}
 use Rattle.dkg_lives.specs.Given.{AreBytes, Lived, at_step, blocks_in, lived, step_of}
 use Rattle.dkg_promises.specs.GivesBack.{PassesAll}
@@ -125,8 +125,8 @@ module _ (info : EpochInfo directory.Unit) (seed : List ℕ) (h : Held) where
   committed_fits : (s : Setting) (share : Option ℕ) → SharesFit s h → IfSome share (IsMineAt s info.epoch) → SharesFit s (committed share)
   committed_fits s share fits such = by_share share such
     where
-      seeded : (k : Held) → SharesFit s k → SharesFit s (after (Changes (PutSeed info.epoch seed)) k)
-      seeded k its = same_shares (IsMineAt s) k (after (Changes (PutSeed info.epoch seed)) k) refl its
+      seeded : (k : Held) → SharesFit s k → SharesFit s (held_after (Changes (PutSeed info.epoch seed)) k)
+      seeded k its = same_shares (IsMineAt s) k (held_after (Changes (PutSeed info.epoch seed)) k) refl its
 
       by_share : (o : Option ℕ) → IfSome o (IsMineAt s info.epoch) → SharesFit s (committed o)
       by_share None such = seeded h fits
@@ -138,7 +138,7 @@ IsLocal own = (cause : LocalCause) × (own ≡ LocalState cause)
 
 block_local : (script : Script) (l : ℕ) (life : Life) (j : ℕ) (block : Block directory.Unit) (own : Fault) → IsBlockOwn script l life j block own → IsLocal own
 block_local script l life j block (LocalState cause) so = (cause, refl)
-block_local script l life j block own (inl (taken, inl carried)) = absurd (none_carried (λ info. IsOwnCause script (next_epoch script block) info own) (Some block) (λ info its. its) carried)
+block_local script l life j block own (inl (taken, inl carried)) = absurd (none_carried (λ info. IsOwnCause script (epoch_behind script block) info own) (Some block) (λ info its. its) carried)
 block_local script l life j block own (inl (taken, inr asked)) = absurd asked.1
 block_local script l life j block own (inr dealing) = absurd dealing.1
 

@@ -32,9 +32,9 @@ use Rattle.dkg_text.specs.declared.script.Event.{Event}
 use Rattle.dkg_text.specs.declared.script.Event.TheVariants as event
 use Rattle.dkg_text.specs.declared.script.Life.{Life}
 use Rattle.dkg_text.specs.declared.script.Script.{Script}
-use Rattle.dkg_script.specs.Blocks.{Block as Seen_block, delivered_number, used}
+use Rattle.dkg_script.specs.Blocks.{ScriptBlock as Seen_block, delivered_number, used}
 use Rattle.dkg_script.specs.Epochs.{alone}
-use Rattle.dkg_script.specs.Position.{awaited_height as awaits_at, lacks_boundary}
+use Rattle.dkg_script.specs.Position.{awaited_height_after as awaits_at, lacks_boundary}
 use Rattle.dkg_script.specs.Progress.{Progress}
 use Rattle.dkg_script.specs.Setting.{setting_of}
 use Rattle.dkg_store.specs.Acts.{Ended, Held, went}
@@ -47,7 +47,7 @@ use Rattle.dkg_core.specs.Entering.{acked_at, takes_delivered}
 use Rattle.dkg_core.specs.Fixed.{Fixed, Material, OneShot, has, start}
 use Rattle.dkg_core.specs.Forms.{Applied, IsForm, Judged, Passed, Refusal, judged_block}
 use Rattle.dkg_core.specs.Including as i
-use Rattle.dkg_core.specs.Including.{Next, cached_for}
+use Rattle.dkg_core.specs.Including.{Continuation, cached_for}
 use Rattle.dkg_core.specs.Live.{Artifact, Cancel, Deals, Ends, EpochInfoOf, Faulted, Feed, Finalized, Follows, Includes, Live, Mail, Message, NextLog, NodeStop, Over, Peer, ReleaseLog, Sent, Stage, Verified, VerifiedLogs, Work, awaited_height, is_last_height, with_participation, with_tip}
 use Rattle.dkg_core.specs.Logs.{canonical}
 use Rattle.dkg_core.specs.Node.{kept_material, node_opening, node_step, unless_once}
@@ -191,7 +191,7 @@ module _ {Dir : Type 0} (c : Fixed Dir) where
 
   -- A SETUP by the block that begins its epoch
 
-  judged : (epoch : ℕ) (info : EpochInfo Dir) (now : Live Dir) (valid : Result (Unit {0}) ParticipantsError) → info.epoch ≡ epoch → TellsOne (IsCommitOf epoch) (s.judged c None s.Uncommitted info now valid)
+  judged : (epoch : ℕ) (info : EpochInfo Dir) (now : Live Dir) (valid : Result (Unit {0}) ParticipantsError) → info.epoch ≡ epoch → TellsOne (IsCommitOf epoch) (s.info_judged c None s.Uncommitted info now valid)
   judged epoch info now (Err e) is = tt
   judged epoch info now (Ok passed) is = λ h.
       let share : Option ℕ = s.recovered_share c (c.seen h) info in
@@ -201,7 +201,7 @@ module _ {Dir : Type 0} (c : Fixed Dir) where
 
   with_info : (info : EpochInfo Dir) (now : Live Dir) → TellsOne (IsCommitOf now.participation.epoch) (s.with_info c None s.Uncommitted info now)
   with_info info now =
-      one_if (IsCommitOf now.participation.epoch) (info.epoch == now.participation.epoch) (s.judged c None s.Uncommitted info now (validity c info)) (Stops (WrongEpoch now.participation.epoch info.epoch))
+      one_if (IsCommitOf now.participation.epoch) (info.epoch == now.participation.epoch) (s.info_judged c None s.Uncommitted info now (validity c info)) (Stops (WrongEpoch now.participation.epoch info.epoch))
       (λ e. judged now.participation.epoch info now (validity c info) (same_number info.epoch now.participation.epoch e)) (λ e. tt)
 
   from_boundary : (found : Option (Block Dir)) (now : Live Dir) → is_some found ≡ true → TellsOne (IsCommitOf now.participation.epoch) (s.from_boundary c found now)
@@ -223,8 +223,8 @@ module _ {Dir : Type 0} (c : Fixed Dir) where
     opens h =
         let now : Live Dir = begun_life (c.seen h) in
         subst (λ (o : Option (OneShot Dir)). TellsOne First (opens_in c o now)) (sym form.reshare)
-        (subst (λ (m : Option (Material Dir)). TellsOne First (p.finds_material c m (λ found. p.in_range c (p.resolves_plan c (p.starts_from c now) found)))) (sym form.bare)
-        (λ k. subst (λ (found : Option (List ℕ)). TellsOne First (p.reads_plan c found (λ found. p.in_range c (p.resolves_plan c (p.starts_from c now) found)))) (sym (form.unplanned k))
+        (subst (λ (m : Option (Material Dir)). TellsOne First (p.finds_material c m (λ found. p.stays_in_range c (p.resolves_plan c (p.starts_from c now) found)))) (sym form.bare)
+        (λ k. subst (λ (found : Option (List ℕ)). TellsOne First (p.reads_plan c found (λ found. p.stays_in_range c (p.resolves_plan c (p.starts_from c now) found)))) (sym (form.unplanned k))
         (one_if First (option_map_or (λ t. s.is_past_range c (t.height + 1)) (start c) false) (Stops HeightRange) (p.starts_from c now None) (λ e. tt) (λ e. sets_up h))))
 
     pub opening_commits : TellsOne First (node_opening c)
@@ -254,7 +254,7 @@ module _ {Dir : Type 0} (c : Fixed Dir) where
         (carried (λ info. b.takes_over c block info (b.share_for c info made) now) (λ info is. takes_over info (b.share_for c info made) now is))
 
     -- the artifact leads to what is done with it
-    module _ (next : Next Dir) (so : (made : Artifact Dir) (now : Live Dir) → Tells (next made now)) where
+    module _ (next : Continuation Dir) (so : (made : Artifact Dir) (now : Live Dir) → Tells (next made now)) where
       with_provided : (epoch : ℕ) (acts : Course Dir Fault (Live Dir)) → Tells acts → Tells (i.with_provided c epoch acts)
       with_provided epoch acts its =
           let above : Course Dir Fault (Live Dir) = Stops (InvalidParticipants (ProviderAbove (length (c.provided.participants epoch)) c.limit)) in
@@ -268,10 +268,10 @@ module _ {Dir : Type 0} (c : Fixed Dir) where
       share_by info (Some its) f each = each its.share
       share_by info None f each = one_if Next_one (has info.output.players c.me) (s.looks c (λ seen. f (lookup info.epoch seen.shares))) (f None) (λ e h. each (lookup info.epoch (c.seen h).shares)) (λ e. each None)
 
-      derives_next : (info : EpochInfo Dir) (r : VerifiedLogs) (now : Live Dir) → Tells (i.derives_next c info r now (i.keeping r.logs next))
+      derives_next : (info : EpochInfo Dir) (r : VerifiedLogs) (now : Live Dir) → Tells (i.derives_next c info r now (i.keeping_artifact r.logs next))
       derives_next info r now =
           let made : EpochInfo Dir = info_by c.provided info (option_map (λ (found : Verified). found.output) r.result) in
-          let acts : Option ℕ → Course Dir Fault (Live Dir) = λ share. i.keeping r.logs next (record { info = Some made; share = share }) now in
+          let acts : Option ℕ → Course Dir Fault (Live Dir) = λ share. i.keeping_artifact r.logs next (record { info = Some made; share = share }) now in
           let goes : Option ℕ → Course Dir Fault (Live Dir) = λ share. i.with_directory c made (acts share) in
           with_provided (info.epoch + 2) (i.share_by c info r.result goes)
           (share_by info r.result goes (λ share. one_if Next_one (c.directories.matches made.directory (i.info_peers made)) (acts share) (Stops (DirectoryMismatch made.epoch))
@@ -281,13 +281,13 @@ module _ {Dir : Type 0} (c : Fixed Dir) where
       artifact_by r (Some made) now = so made now
       artifact_by r None now =
           subst (λ (o : Option (OneShot Dir)). Tells (i.derives c o r now next)) (sym reshare)
-          (one_option Next_one (λ (info : EpochInfo Dir). i.derives_next c info r now (i.keeping r.logs next)) now.participation.current (Stops HeightRange) (λ info. derives_next info r now) tt)
+          (one_option Next_one (λ (info : EpochInfo Dir). i.derives_next c info r now (i.keeping_artifact r.logs next)) now.participation.current (Stops HeightRange) (λ info. derives_next info r now) tt)
 
     by_result : (r : VerifiedLogs) (now : Live Dir) → Tells (i.artifact c r now (b.concludes c block))
     by_result r now = artifact_by (b.concludes c block) (λ made end. concludes made end) r (cached_for now.inclusion.cached r.logs) now
 
     module _ (round : Round) where
-      derives_now : (logs : LogMap) (retained : Option VerifiedLogs) (now : Live Dir) → Tells (b.derives_now c round block logs retained now)
+      derives_now : (logs : LogMap) (retained : Option VerifiedLogs) (now : Live Dir) → Tells (b.derives_at_block c round block logs retained now)
       derives_now logs (Some r) now = by_result r now
       derives_now logs None now =
           let found : VerifiedLogs = i.verified c (i.job_for c round logs now) in

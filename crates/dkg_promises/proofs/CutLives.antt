@@ -30,7 +30,7 @@ use Rattle.dkg_core.specs.Sources.{source_of}
 use Rattle.dkg_life.specs.declared.stop.Stop.{Stop}
 use Rattle.dkg_life.specs.declared.stop.Stop.TheVariants.{Cut, Failed, Fault as FaultOf}
 use Rattle.dkg_lives.specs.Ended.{by_node_stop}
-use Rattle.dkg_lives.specs.Given.{Lived, anchor_in, at_step, blocks_in, delivered_by, event_in, lived, numbered, step_of, unsealed}
+use Rattle.dkg_lives.specs.Given.{Lived, anchor_in, at_step, blocks_in, delivered_by, node_event_in, lived, numbered, step_of, unsealed}
 use Rattle.dkg_lives.specs.Lives.{AnyFiles, EndsLife, LivesFrom, LivesSo, RunsAllSo, RunsOver, RunsSo, Steps, TakesAll, TellsEnd, fuse_for, never}
 use Rattle.dkg_lives.specs.Ways.{Way, by_lines, by_worlds, trace}
 use Rattle.dkg_along.proofs.Ordered.{lit_within, unlit}
@@ -85,8 +85,8 @@ module _ (script : Script) (lives : List Life) (l : ℕ) (life : Life) (seen : H
 
   same_step : (events : List Event) (j : ℕ) → take j events ≡ take j life.events → (event : Event) (st : Live U) → step_of g j event st ≡ step_of (with_events events) j event st
   same_step events j e event st = sym
-      (ap (λ (c : Fixed U). option_map_or (λ its. node_step c its st) (event_in (blocks_in (record script { lives = lives })) event) (Goes st)) (same_at events j e)
-      ∙ ap (λ (bs : List (Block U)). option_map_or (λ its. node_step (at_step g j) its st) (event_in bs event) (Goes st)) same_blocks)
+      (ap (λ (c : Fixed U). option_map_or (λ its. node_step c its st) (node_event_in (blocks_in (record script { lives = lives })) event) (Goes st)) (same_at events j e)
+      ∙ ap (λ (bs : List (Block U)). option_map_or (λ its. node_step (at_step g j) its st) (node_event_in bs event) (Goes st)) same_blocks)
 
   module _ {W : Type 0} (way : Way W) where
     -- with all its events

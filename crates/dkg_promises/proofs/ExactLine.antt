@@ -31,12 +31,12 @@ use Rattle.dkg_infos.specs.declared.outcome.EpochOutcome.TheVariants.{Success, F
 use Rattle.dkg_text.specs.declared.script.Event as script
 use Rattle.dkg_text.specs.declared.script.Event.TheVariants as event
 use Rattle.dkg_text.specs.declared.script.Life.{Life}
-use Rattle.dkg_script.specs.Blocks.{Block, chain, known_info, round_at, used}
+use Rattle.dkg_script.specs.Blocks.{ScriptBlock, chain, known_info, round_at, used}
 use Rattle.dkg_script.specs.Consistent.{IsConsistentScript}
 use Rattle.dkg_script.specs.Epochs.{alone}
 use Rattle.dkg_script.specs.History.{CarriesNext, chain_logs}
 use Rattle.dkg_script.specs.Inclusion.{IsFormOfInclusion}
-use Rattle.dkg_script.specs.Position.{awaited_before, awaited_epoch, begun, follows}
+use Rattle.dkg_script.specs.Position.{awaited_before, awaited_epoch, begun, life_follows}
 use Rattle.dkg_script.specs.Progress.{progress}
 use Rattle.dkg_script.specs.Readings.{Info, with_spelled}
 use Rattle.dkg_script.specs.Setting.{CutAt, Setting, blocks_per_epoch, is_oneshot, life_at, me}
@@ -52,7 +52,7 @@ use Rattle.dkg_core.specs.Fixed.{Fixed, has}
 use Rattle.dkg_core.specs.Forms.{Applied, judged_block, round_for}
 use Rattle.dkg_core.specs.Heard.{recovered_in}
 use Rattle.dkg_core.specs.Including.{can_finish}
-use Rattle.dkg_core.specs.Live.{Artifact, Deals, Ends, Follows, Includes, Live, Plays, Stage, awaited_height, of_epoch}
+use Rattle.dkg_core.specs.Live.{Artifact, Deals, Ends, Follows, Includes, Live, Plays, Stage, awaited_height, records_of_epoch}
 use Rattle.dkg_core.specs.Logs.{canonical, logs_of}
 use Rattle.dkg_core.specs.Same.{same_info}
 use Rattle.dkg_core.specs.Seen.{Seen}
@@ -104,7 +104,7 @@ all_so [] = tt
 all_so (x ∷ xs) = (tt, all_so xs)
 
 -- a block of the chain stands at its height
-pub placed : (s : Setting) (height : ℕ) (b : Block) → chain s height ≡ Some b → b.height ≡ height
+pub placed : (s : Setting) (height : ℕ) (b : ScriptBlock) → chain s height ≡ Some b → b.height ≡ height
 placed s height b is = (in_chain s (λ x. Unit {0}) height b (all_so (used s)) is).1
 
 -- one that has a place
@@ -202,12 +202,12 @@ module _ (s : Setting) (ends : List (Option CutAt)) (form : IsFormOfInclusion s.
   now = is_current s reshares l life life_is cuts some back i
 
   -- TAKING PART
-  module _ (part : follows s l life e ≡ false) (applied : judged_block C block st ≡ Applied) (delivers : block.height ≡ last n e)
+  module _ (part : life_follows s l life e ≡ false) (applied : judged_block C block st ≡ Applied) (delivers : block.height ≡ last n e)
       (recorded : (round : Round) → st.participation.round ≡ Some round → IsRecordedTo s e round st) where
     apart : st.participation.stage ≡ Follows → ⊥
     apart stage =
-        let late : follows s l life e ≡ true = follows_alike s l life (life_in g here).no_sync its_meant.none_found e
-        ∙ ap (follows (alone s.script) l life) (epoch_alike s l life (life_in g here).no_sync its_meant.none_found i) ∙ going.at.stands.blind stage in
+        let late : life_follows s l life e ≡ true = follows_alike s l life (life_in g here).no_sync its_meant.none_found e
+        ∙ ap (life_follows (alone s.script) l life) (epoch_alike s l life (life_in g here).no_sync its_meant.none_found i) ∙ going.at.stands.blind stage in
         let wrong : false ≡ true = sym part ∙ late in cc
 
     epoch_here : st.participation.epoch ≡ e
@@ -253,10 +253,10 @@ module _ (s : Setting) (ends : List (Option CutAt)) (form : IsFormOfInclusion s.
               positive k some = omega (arith, some)
 
       -- NO DEALING IS LOST that the node acknowledged
-      lacks_all : marks → is_lost C round (of_epoch e st.records.dealings) (logs_of st e) ≡ false
+      lacks_all : marks → is_lost C round (records_of_epoch e st.records.dealings) (logs_of st e) ≡ false
       unfolding at_step
       lacks_all known =
-          let found : is_lost C round (of_epoch e (pairs_in (recovered_in w.held))) (bare_logs (of_epoch e (pairs_in (logs_in (notes w.held))))) ≡ false
+          let found : is_lost C round (records_of_epoch e (pairs_in (recovered_in w.held))) (bare_logs (records_of_epoch e (pairs_in (logs_in (notes w.held))))) ≡ false
           = lacks_none s e (come s before).recorded (recovered_in w.held) (logs_in (notes w.held)) round (gives_recorded (begun s cuts l i) e (recovered_in w.held) (come s before).recorded now going.carries.half.are.given)
           (λ dealer noted has_it. going.logs known (e, dealer) noted now has_it) round_is in
           rw (going.carries.half.agreed.dealings, going.carries.half.agreed.logs) found
@@ -264,11 +264,11 @@ module _ (s : Setting) (ends : List (Option CutAt)) (form : IsFormOfInclusion s.
       fewer : (dealings : List (ℕ × (List ℕ × ℕ))) → is_lost C round dealings (logs_of st e) ≡ false → is_lost C round dealings (canonical C st) ≡ false
       fewer dealings none =
           any_fewer (λ (log : ℕ × DealerLog). C.rules.bears_ack_of round log.0 log.1 C.me && not (has_public log.1.public (lookup log.0 dealings))) (λ (p : ℕ × RecordedLog). (p.0, p.1.log))
-          (λ p. is_reached (midpoint C.blocks_per_epoch st.participation.epoch) (option_map (λ t. t.height) st.tip) p.1) (of_epoch st.participation.epoch st.records.logs)
+          (λ p. is_reached (midpoint C.blocks_per_epoch st.participation.epoch) (option_map (λ t. t.height) st.tip) p.1) (records_of_epoch st.participation.epoch st.records.logs)
           (subst (λ (k : ℕ). is_lost C round dealings (logs_of st k) ≡ false) (sym epoch_here) none)
 
-      not_lost : marks → is_lost C round (of_epoch round.number st.records.dealings) (canonical C st) ≡ false
-      not_lost known = subst (λ (k : ℕ). is_lost C round (of_epoch k st.records.dealings) (canonical C st) ≡ false) (sym number_is) (fewer (of_epoch e st.records.dealings) (lacks_all known))
+      not_lost : marks → is_lost C round (records_of_epoch round.number st.records.dealings) (canonical C st) ≡ false
+      not_lost known = subst (λ (k : ℕ). is_lost C round (records_of_epoch k st.records.dealings) (canonical C st) ≡ false) (sym number_is) (fewer (records_of_epoch e st.records.dealings) (lacks_all known))
 
       -- THE ARTIFACT of those logs, and the info that the block carries
       module _ (info : EpochInfo U) (carried : info_of block.payload ≡ Some info) (current : EpochInfo U) (of_current : st.participation.current ≡ Some current)
@@ -368,11 +368,11 @@ module _ (s : Setting) (ends : List (Option CutAt)) (form : IsFormOfInclusion s.
         plays_of known can =
             going.plays known round there
             (has_key-from round.players (me s) (Contains-place_of (me s) round.players
-            (subst (λ (k : ℕ). has round.players k ≡ true) me_is (and_parts (has round.players C.me) (not (is_lost C round (of_epoch round.number st.records.dealings) (canonical C st))) can).0)))
+            (subst (λ (k : ℕ). has round.players k ≡ true) me_is (and_parts (has round.players C.me) (not (is_lost C round (records_of_epoch round.number st.records.dealings) (canonical C st))) can).0)))
 
         can_of : marks → st.participation.seat ≡ Plays → can_finish C round (canonical C st) st ≡ true
         can_of known plays =
-            both (has round.players C.me) (is_lost C round (of_epoch round.number st.records.dealings) (canonical C st)) (subst (λ (k : ℕ). has round.players k ≡ true) (sym me_is) (also.player round there plays)) (not_lost known)
+            both (has round.players C.me) (is_lost C round (records_of_epoch round.number st.records.dealings) (canonical C st)) (subst (λ (k : ℕ). has round.players k ≡ true) (sym me_is) (also.player round there plays)) (not_lost known)
           where
             both : (a b : Bool) → a ≡ true → b ≡ false → (a && not b) ≡ true
             both a b x y = rw (x, y) refl

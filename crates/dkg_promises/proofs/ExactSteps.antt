@@ -28,7 +28,7 @@ use Rattle.dkg_text.specs.declared.script.Life.{Life}
 use Rattle.dkg_script.specs.Consistent.{IsConsistentScript}
 use Rattle.dkg_script.specs.Epochs.{alone}
 use Rattle.dkg_script.specs.Inclusion.{IsFormOfInclusion}
-use Rattle.dkg_script.specs.Position.{awaited_before, awaited_epoch, awaited_height, begun, begun_before, cut_of, events_taken, lacks_boundary}
+use Rattle.dkg_script.specs.Position.{awaited_before, awaited_epoch, awaited_height_after, begun, begun_before, cut_of, events_taken, lacks_boundary}
 use Rattle.dkg_script.specs.Progress.{Progress}
 use Rattle.dkg_script.specs.Setting.{CutAt, Setting, blocks_per_epoch, is_oneshot, life_at, me}
 use Rattle.dkg_store.specs.Acts.{Cause, Ended, Held, World, broken, says, stopped, went}
@@ -41,7 +41,7 @@ use Rattle.dkg_core.specs.Fixed.{Fixed, OneShot, has}
 use Rattle.dkg_core.specs.Forms.{Applied, IsNodeBegun, IsOpeningStop, IsSeated, IsSetUpIn, Judged, LeavesHeld, Passed, Refusal, held_behind, judged_block, seed_read, share_read, started}
 use Rattle.dkg_laws.specs.Idle.{IsAskedLine, LeavesIdle}
 use Rattle.dkg_core.specs.Live as core
-use Rattle.dkg_core.specs.Live.{Deals, Ends, Finalized, Follows, Includes, Live, Mail, Message, NodeStop, Peer, Plays, Seat, Sent, Stage, Watches, is_last_height, of_epoch}
+use Rattle.dkg_core.specs.Live.{Deals, Ends, Finalized, Follows, Includes, Live, Mail, Message, NodeStop, Peer, Plays, Seat, Sent, Stage, Watches, is_last_height, records_of_epoch}
 use Rattle.dkg_core.specs.Logs.{logs_of}
 use Rattle.dkg_core.specs.Node.{node_opening, node_step}
 use Rattle.dkg_core.specs.NodeEndings.{IsFaultBy}
@@ -56,7 +56,7 @@ use Rattle.dkg_laws.proofs.NodeThrough.{node_openings_through, node_steps_lead_t
 use Rattle.dkg_laws.proofs.Openings.{node_openings_lead_over}
 use Rattle.dkg_laws.proofs.Reading.{live_as, step_reads}
 use Rattle.dkg_core.proofs.Storing.{looked_up}
-use Rattle.dkg_lives.specs.Epochs.{IsAt, IsLifeInForm, any_shares}
+use Rattle.dkg_lives.specs.Epochs.{IsAtEvent, IsLifeInForm, any_shares}
 use Rattle.dkg_lives.specs.Given.{Lived, at_step, lived, step_of}
 use Rattle.dkg_promises.specs.SharesStand.{ComesInto, Enters, HeldShare, WasCutInto}
 use Rattle.dkg_lives.specs.Ways.{StaysHeld, by_worlds}
@@ -473,14 +473,14 @@ module _ (s : Setting) (ends : List (Option CutAt)) (form : IsFormOfInclusion s.
                     let same : x ≡ block = the_block (sym is_x ∙ message_is) in
                     apart st.participation.stage (so (subst (λ (b : made.Block U). judged_block C b st ≡ Applied) same applied) (subst (λ (b : made.Block U). is_last_height C b.height ≡ true) same last)) stage
 
-            not_passed : judged_block C block st ≡ Applied → awaited_height s l life i ≤ block.height
+            not_passed : judged_block C block st ≡ Applied → awaited_height_after s l life i ≤ block.height
             not_passed applied = subst (λ (h : ℕ). h ≤ block.height) (going.at.stands.awaits ∙ sym (height_alike s l life (life_in g here).no_sync its_meant.none_found i)) (applied_high C block st applied)
 
             -- the epoch that is awaited behind it
-            height_is : judged_block C block st ≡ Applied → awaited_height s l life (suc i) ≡ block.height + 1
+            height_is : judged_block C block st ≡ Applied → awaited_height_after s l life (suc i) ≡ block.height + 1
             height_is applied =
                 block_behind s l life i number its_height.b event_is reached its_height.there
-                ∙ highest (awaited_height s l life i) (its_height.b.height) block.height (sym its_height.same) (not_passed applied)
+                ∙ highest (awaited_height_after s l life i) (its_height.b.height) block.height (sym its_height.same) (not_passed applied)
 
             epoch_is : judged_block C block st ≡ Applied → awaited_epoch s l life (suc i) ≡ epoch_of C.blocks_per_epoch (block.height + 1)
             epoch_is applied = ap (epoch_of n) (height_is applied) ∙ ap (λ (k : ℕ). epoch_of k (block.height + 1)) (sym (blocks_are (suc i)))
@@ -498,7 +498,7 @@ module _ (s : Setting) (ends : List (Option CutAt)) (form : IsFormOfInclusion s.
               block_is = its_height.there;
               ends_below = ap (λ (h : ℕ). h + 1) (sym its_height.same) ∙ first_above C.blocks_per_epoch block.height (form_at g here (suc i)).counted last_one
                   ∙ ap (first C.blocks_per_epoch) (sym (epoch_is applied ∙ next_last C.blocks_per_epoch block.height (form_at g here (suc i)).counted last_one)) ∙ ap (λ (k : ℕ). first k (e (suc i))) (blocks_are (suc i));
-              awaited = subst (λ (h : ℕ). awaited_height s l life i ≤ h) its_height.same (not_passed applied);
+              awaited = subst (λ (h : ℕ). awaited_height_after s l life i ≤ h) its_height.same (not_passed applied);
             }
 
             low : epoch_of C.blocks_per_epoch (block.height + 1) - 1 ≤ most
@@ -577,7 +577,7 @@ module _ (s : Setting) (ends : List (Option CutAt)) (form : IsFormOfInclusion s.
       seated_new Where y its end seated = seated_told before added y end (its.last ∙ ap (set_up_last (set_up_last None before)) (lines_are Where y its)) seated (suc i)
 
       -- AT ITS END
-      module _ (end : Live U) (is_end : ended ≡ went end) (behind : IsAt g (suc i) end) where
+      module _ (end : Live U) (is_end : ended ≡ went end) (behind : IsAtEvent g (suc i) end) where
         run_end : EndsSo (node_step C (event_of m.message) st) (went end) begun_w new
         run_end = subst (λ (x : Ended NodeStop (Live U)). EndsSo (node_step C (event_of m.message) st) x begun_w new) is_end (run_of m.message refl)
 
@@ -615,7 +615,7 @@ module _ (s : Setting) (ends : List (Option CutAt)) (form : IsFormOfInclusion s.
                 let same : seated.round ≡ round = some_is (sym seated.in_round ∙ sym (ap (λ (p : core.Participation U). p.round) part) ∙ there) in
                 subst (λ (r : Round). has r.players (me s) ≡ true) same
                 (subst (λ (k : ℕ). has (seated.round).players k ≡ true) (me_is (suc i))
-                (of_seat (has (seated.round).players C.me) (is_lost C seated.round (of_epoch (seated.round).number node.mid.records.dealings) (logs_of node.mid (seated.round).number))
+                (of_seat (has (seated.round).players C.me) (is_lost C seated.round (records_of_epoch (seated.round).number node.mid.records.dealings) (logs_of node.mid (seated.round).number))
                 (sym seated.seat ∙ sym (ap (λ (p : core.Participation U). p.seat) part) ∙ plays)))
 
         -- what it has read of its epoch's share is so still
@@ -752,7 +752,7 @@ module _ (s : Setting) (ends : List (Option CutAt)) (form : IsFormOfInclusion s.
           by_stored (inl takes) = cut_new at_cut there within At takes.1.0 takes.1.1
           by_stored (inr quietly) = cut_new at_cut there within Never quietly.1.0 quietly.1.1
 
-      pub went_left : (end : Live U) → ended ≡ went end → IsAt g (suc i) end → ExactHere (suc i) end (says new (entry.Step (suc i))) (after_it ++ entry.Step (suc i) ∷ [])
+      pub went_left : (end : Live U) → ended ≡ went end → IsAtEvent g (suc i) end → ExactHere (suc i) end (says new (entry.Step (suc i))) (after_it ++ entry.Step (suc i) ∷ [])
       went_left end is_end behind = here_new end is_end behind
 
   -- AN OPENING
@@ -834,7 +834,7 @@ module _ (s : Setting) (ends : List (Option CutAt)) (form : IsFormOfInclusion s.
                   let one : seated.round ≡ round = some_is (sym seated.in_round ∙ sym (ap (λ (p : core.Participation U). p.round) same) ∙ there) in
                   subst (λ (r : Round). has r.players (me s) ≡ true) one
                   (subst (λ (k : ℕ). has (seated.round).players k ≡ true) (me_is 0)
-                  (of_seat (has (seated.round).players (c 0).me) (is_lost (c 0) seated.round (of_epoch (seated.round).number begun_so.before.records.dealings) (logs_of begun_so.before (seated.round).number))
+                  (of_seat (has (seated.round).players (c 0).me) (is_lost (c 0) seated.round (records_of_epoch (seated.round).number begun_so.before.records.dealings) (logs_of begun_so.before (seated.round).number))
                   (sym seated.seat ∙ sym (ap (λ (p : core.Participation U). p.seat) same) ∙ plays)))
 
               by_block : (o : Option (made.Block U)) → IsSetUpIn (c 0) ((c 0).seen (held_behind (c 0) w.held)) (held_behind (c 0) w.held) begun_so.before o → has round.players (me s) ≡ true

@@ -23,12 +23,12 @@ use Rattle.dkg_infos.specs.declared.outcome.EpochOutcome.TheVariants.{Success, F
 use Rattle.dkg_text.specs.declared.script.Event as script
 use Rattle.dkg_text.specs.declared.script.Event.TheVariants as event
 use Rattle.dkg_text.specs.declared.script.Life.{Life}
-use Rattle.dkg_script.specs.Blocks.{Block, block_at, known_info}
+use Rattle.dkg_script.specs.Blocks.{ScriptBlock, numbered_block, known_info}
 use Rattle.dkg_script.specs.Consistent.{MayEndSo}
 use Rattle.dkg_script.specs.History.{CarriesNext}
 use Rattle.dkg_script.specs.Inclusion.{IsFormOfInclusion}
 use Rattle.dkg_script.specs.OwnMarks.{IsKnownAt}
-use Rattle.dkg_script.specs.Position.{awaited_before, awaited_epoch, event_of_step, follows}
+use Rattle.dkg_script.specs.Position.{awaited_before, awaited_epoch, event_of_step, life_follows}
 use Rattle.dkg_script.specs.Progress.{Progress, progress, read}
 use Rattle.dkg_script.specs.Readings.{Info}
 use Rattle.dkg_script.specs.Setting.{CutAt, Setting, blocks_per_epoch, is_oneshot, life_at}
@@ -225,7 +225,7 @@ module _ (s : Setting) (ends : List (Option CutAt)) (reshares : is_oneshot s ≡
         abbrev TakenLine : Entry → Type 0
         TakenLine = Tells (IsTakenShare C Stored block st w.held)
 
-        abbrev Carries : Block → Type 0
+        abbrev Carries : ScriptBlock → Type 0
         Carries = CarriesNext s (seen_provided unit_spelling (provided_by s.script))
 
         abbrev Honest : Type 0
@@ -236,14 +236,14 @@ module _ (s : Setting) (ends : List (Option CutAt)) (reshares : is_oneshot s ≡
           pub epoch : ended_epoch ≡ e
           pub delivers : block.height ≡ last n e
           pub honest : EndsHonestly s (come s b) ended_epoch so ↔ Honest
-          pub part : follows s l life e ≡ false
+          pub part : life_follows s l life e ≡ false
 
         placed : (b : List Entry) → length (come s b).cuts ≡ l → (come s b).step ≡ suc i → (ended_epoch : ℕ) → (so : EndsEpoch s (come s b) ended_epoch) → IsPlaced b ended_epoch so
         placed b lives step ended_epoch so = record {
           epoch = sym same_epoch;
           delivers = delivered_so ∙ ap (last n) (sym same_epoch);
-          honest = ((λ its_carries. subst (λ (o : Option Block). IsSomeAnd o Carries) block_there its_carries), (λ its_carries. subst (λ (o : Option Block). IsSomeAnd o Carries) (sym block_there) its_carries));
-          part = ap (follows s l life) same_epoch ∙ ap (λ (k : ℕ). follows s k life ended_epoch) (sym lives) ∙ ap (λ (x : Life). follows s (length (come s b).cuts) x ended_epoch) (sym same_life) ∙ so.takes_part;
+          honest = ((λ its_carries. subst (λ (o : Option ScriptBlock). IsSomeAnd o Carries) block_there its_carries), (λ its_carries. subst (λ (o : Option ScriptBlock). IsSomeAnd o Carries) (sym block_there) its_carries));
+          part = ap (life_follows s l life) same_epoch ∙ ap (λ (k : ℕ). life_follows s k life ended_epoch) (sym lives) ∙ ap (λ (x : Life). life_follows s (length (come s b).cuts) x ended_epoch) (sym same_life) ∙ so.takes_part;
         }
           where
             same_life : so.life ≡ life
@@ -267,12 +267,12 @@ module _ (s : Setting) (ends : List (Option CutAt)) (reshares : is_oneshot s ≡
                 of_event : ◌≡◌ {A = Option script.Event} (Some (event.Final number)) (Some (event.Final so.number)) → number ≡ so.number
                 of_event same = cc
 
-            block_there : block_at s so.number ≡ Some (seen_block unit_spelling block)
-            block_there = ap (block_at s) (sym same_number) ∙ seen_at s form bytes number block made_it.is
+            block_there : numbered_block s so.number ≡ Some (seen_block unit_spelling block)
+            block_there = ap (numbered_block s) (sym same_number) ∙ seen_at s form bytes number block made_it.is
 
             delivered_so : block.height ≡ last n ended_epoch
             delivered_so =
-                subst (λ (o : Option Block). IsSomeAnd o (λ b. b.height ≡ last n ended_epoch)) block_there so.delivers
+                subst (λ (o : Option ScriptBlock). IsSomeAnd o (λ b. b.height ≡ last n ended_epoch)) block_there so.delivers
 
         -- no share of the epoch itself is told
         none_told : block.height ≡ last n e → (lines : List Entry) → AllByRecursion TakenLine lines → TellsShare lines e → ⊥

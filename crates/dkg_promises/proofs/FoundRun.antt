@@ -27,7 +27,7 @@ use Rattle.dkg_core.specs.Courses.{Course, EndsSo}
 use Rattle.dkg_core.specs.Heard.{recovered_in}
 use Rattle.dkg_core.specs.Live.{Faulted, Live, NodeStop}
 use Rattle.dkg_core.specs.Node.{node_opening}
-use Rattle.dkg_core.specs.Splitting.{named}
+use Rattle.dkg_core.specs.Splitting.{fault_named}
 use Rattle.dkg_life.specs.Ends.{by_fault}
 use Rattle.dkg_life.specs.declared.stop.Stop.{Stop}
 use Rattle.dkg_life.specs.declared.stop.Stop.TheVariants.{Cut, Failed, Fault as FaultOf}
@@ -35,7 +35,7 @@ use Rattle.dkg_lives.specs.Blamed.{IsFromOutside}
 use Rattle.dkg_lives.specs.Causes.{IfFault}
 use Rattle.dkg_lives.specs.Ended.{by_node_stop}
 use Rattle.dkg_script.specs.Ends.{EndsFaulted, EndsRun}
-use Rattle.dkg_lives.specs.Epochs.{IsAt, IsChecked, IsLifeInForm}
+use Rattle.dkg_lives.specs.Epochs.{IsAtEvent, IsChecked, IsLifeInForm}
 use Rattle.dkg_promises.specs.Found.{EachFault, OfFault, ShowsCause}
 use Rattle.dkg_lives.specs.Given.{AreBytes, Lived, at_step, lived, step_of}
 use Rattle.dkg_lives.specs.Lives.{AnyFiles, EndsLife, LivesFrom, LivesSo, RunsAllSo, RunsOver, RunsSo, Steps, TakesAll, TellsEnd, fuse_for, never}
@@ -54,7 +54,7 @@ use Rattle.dkg_promises.proofs.StoredDealers.{DealsStored}
 use Rattle.dkg_lives.proofs.PlanlessReads.{planless, planless_records}
 
 -- a fault that doesn't come from outside is the course's own
-outside_or_own : {S : Type 0} (its : Fault) → IsFromOutside its ⊎ (named {S = S} Faulted (by_fault its) ≡ stopped (Faulted its))
+outside_or_own : {S : Type 0} (its : Fault) → IsFromOutside its ⊎ (fault_named {S = S} Faulted (by_fault its) ≡ stopped (Faulted its))
 outside_or_own fault.NoMemory = inl tt
 outside_or_own fault.Disk = inl tt
 outside_or_own fault.Secrets = inl tt
@@ -103,7 +103,7 @@ module _ (script : Script) where
 module _ (g : Lived) (here : IsLifeInForm g) (bytes : AreBytes g.script.blocks) where
   -- where a step begins
   record Stands (i : ℕ) (st : Live directory.Unit) (h : Held) : Type 0 where
-    at : IsAt g i st
+    at : IsAtEvent g i st
     in_bound : HasFew st
     knows : Knows st.records h
     drawn : HasDrawn g.script st

@@ -24,7 +24,7 @@ use Rattle.dkg_infos.specs.declared.fault.Fault.TheVariants as fault
 use Rattle.dkg_infos.specs.declared.fault.LocalCause.{LocalCause}
 use Rattle.dkg_infos.specs.declared.fault.LocalCause.TheVariants as local
 use Rattle.dkg_infos.specs.declared.info.EpochInfo.{EpochInfo}
-use Rattle.dkg_store.specs.Acts.{Cause, Changes, Ended, Held, IsLeft, OnDisk, Tears, World, broken, does, notes, stopped, went}
+use Rattle.dkg_store.specs.Acts.{Cause, Changes, Ended, Held, IsDiskLeft, OnDisk, Tears, World, broken, does, notes, stopped, went}
 use Rattle.dkg_store.specs.Pairs.{Pairs, recovered}
 use Rattle.dkg_store.specs.Recorded.{Pair, first_refused}
 use Rattle.dkg_store.proofs.Acts.{along_runs}
@@ -39,7 +39,7 @@ use Rattle.dkg_core.specs.Courses.{Course, EndsSo, Goes, Throughout, on_devices}
 use Rattle.dkg_core.specs.Agreeing.{BringsRecords}
 use Rattle.dkg_core.specs.Asked.{IsAskStop}
 use Rattle.dkg_core.specs.Fixed.{Fixed, stand_in}
-use Rattle.dkg_core.specs.Forms.{Applied, IsOpeningStop, IsSeated, IsSetUpIn, IsSetupFault, Judged, LeavesHeld, Passed, Refusal, StoresBoth, committed_by, held_behind, judged_block, judged_over, seed_read, set_up_by, share_read, started}
+use Rattle.dkg_core.specs.Forms.{Applied, IsOpeningStop, IsSeated, IsSetUpIn, IsSetupFault, Judged, LeavesHeld, Passed, Refusal, StoresBoth, committed_by, held_behind, judged_block, judged_over_tip, seed_read, set_up_by, share_read, started}
 use Rattle.dkg_core.specs.Heard.{KeepsFrom, recovered_in}
 use Rattle.dkg_core.specs.Laws.{IsOther}
 use Rattle.dkg_core.specs.Live.{Cancel, Deals, Ends, EpochInfoOf, Faulted, Feed, Finalized, Follows, Includes, Live, Mail, Message, NextLog, NodeStop, Over, Peer, Records, ReleaseLog, Sent, Stage, Work, is_last_height, with_tip}
@@ -62,7 +62,7 @@ use Rattle.dkg_core.proofs.StepDealing.{given_same}
 use Rattle.dkg_core.proofs.Upkeep.{along_option}
 use Rattle.dkg_core.proofs.Walking as walk
 use Rattle.dkg_lives.specs.Blamed.{Draws}
-use Rattle.dkg_lives.specs.Epochs.{IsAt, IsLifeInForm, any_shares}
+use Rattle.dkg_lives.specs.Epochs.{IsAtEvent, IsLifeInForm, any_shares}
 use Rattle.dkg_promises.specs.Found.{IsBegunBy, IsDealtBy, IsFirstRefusedIn, IsRefusedBy}
 use Rattle.dkg_lives.specs.Given.{AreBytes, Lived, at_step, blocks_in, step_of}
 use Rattle.dkg_lives.proofs.Awaiting.{IsReached}
@@ -168,7 +168,7 @@ module _ (most : ℕ) (held : Held) where
       still : (new : World) → new.held.secrets ≡ w.held.secrets → (key : ℕ × ℕ) → most ≤ key.0 → get new.held.secrets.privates key ≡ get w.held.secrets.privates key
       still new same key above = ap (λ (x : Secrets). get x.privates key) same
 
-      left : (cause : Cause) (new : World) → Tears cause (OnDisk (Prunes min)) w new → IsLeft (Prunes min) w.held.journaled new.held.journaled → K new
+      left : (cause : Cause) (new : World) → Tears cause (OnDisk (Prunes min)) w new → IsDiskLeft (Prunes min) w.held.journaled new.held.journaled → K new
       left cause new tears (inl is) = same_halves w new (ap (λ (j : Journaled). j.entries) is) (ap (λ (x : Secrets). x.privates) tears.torn.0) q
       left cause new tears (inr (inl is)) = upto min low w new (ap (λ (j : Journaled). j.entries) is) (still new tears.torn.0) q
       left cause new tears (inr (inr part)) = upto part.0 (let least : part.0 ≤ min = part.1 in omega (arith, least, low)) w new (ap (λ (j : Journaled). j.entries) part.2) (still new tears.torn.0) q
@@ -216,7 +216,7 @@ module _ {Dir : Type 0} (c : Fixed Dir) (block : Block Dir) (st : Live Dir) (cau
   abbrev Local : Fault
   Local = fault.LocalState cause
 
-  not_over : (tip : Option Tip) → judged_over c block st tip ≡ Refusal Local → ⊥
+  not_over : (tip : Option Tip) → judged_over_tip c block st tip ≡ Refusal Local → ⊥
   not_over None is = by_window (b.is_in_window c block st) is
     where
       by_window : (t : Bool) → (if t then Applied else Refusal (fault.OutOfWindow block.height)) ≡ Refusal (fault.LocalState cause) → ⊥
@@ -237,7 +237,7 @@ module _ {Dir : Type 0} (c : Fixed Dir) (block : Block Dir) (st : Live Dir) (cau
   pub not_local : judged_block c block st ≡ Refusal (fault.LocalState cause) → ⊥
   not_local is = by_range (s.is_past_range c block.height) is
     where
-      by_range : (t : Bool) → (if t then Refusal fault.HeightRange else judged_over c block st st.tip) ≡ Refusal (fault.LocalState cause) → ⊥
+      by_range : (t : Bool) → (if t then Refusal fault.HeightRange else judged_over_tip c block st st.tip) ≡ Refusal (fault.LocalState cause) → ⊥
       by_range true e = let same : fault.HeightRange ≡ fault.LocalState cause = refusal_is e in cc
       by_range false e = not_over st.tip e
 
@@ -364,7 +364,7 @@ module _ (g : Lived) (here : IsLifeInForm g) (bytes : AreBytes g.script.blocks) 
 
   -- A STEP, in a state whose dealings the devices give back
 
-  module _ (i : ℕ) (its : Event) (is : slice_get g.life.events i ≡ Some its) (reached : IsReached g.life.cut (suc i)) (st : Live directory.Unit) (at : IsAt g i st) (few : HasFew st) (w new : World) (knows : Knows st.records w.held) (drawn : HasDrawn g.script st)
+  module _ (i : ℕ) (its : Event) (is : slice_get g.life.events i ≡ Some its) (reached : IsReached g.life.cut (suc i)) (st : Live directory.Unit) (at : IsAtEvent g i st) (few : HasFew st) (w new : World) (knows : Knows st.records w.held) (drawn : HasDrawn g.script st)
       (stored : DealsStored g.script.config.me st w.held) where
     abbrev c : Fixed directory.Unit
     c = at_step g (suc i)

@@ -39,7 +39,7 @@ use Rattle.dkg_laws.proofs.BlocksKept.{blocks_keep}
 use Rattle.dkg_laws.proofs.NodeKept.{node_openings_agree, node_peers_are_kept, node_steps_agree}
 use Rattle.dkg_laws.proofs.Openings.{node_openings_lead_over}
 use Rattle.dkg_laws.proofs.NodeThrough.{node_steps_lead_through_over}
-use Rattle.dkg_lives.specs.Epochs.{IsAt, IsLifeInForm, any_shares}
+use Rattle.dkg_lives.specs.Epochs.{IsAtEvent, IsLifeInForm, any_shares}
 use Rattle.dkg_lives.specs.Given.{Lived, at_step, lived, step_of}
 use Rattle.dkg_promises.specs.GivesBack.{PassesAll}
 use Rattle.dkg_lives.proofs.Awaiting.{IsReached}
@@ -98,7 +98,7 @@ module _ (s : Setting) (cuts : List (Option CutAt)) (form : IsFormOfInclusion s.
 
   -- memory and devices agree, and what they give back passes
   pub record IsPassing (j : ℕ) (st : Live directory.Unit) (h : Held) : Type 0 where
-    pub at : IsAt g j st
+    pub at : IsAtEvent g j st
     pub rounds : HasRoundOf s st
     pub in_bound : HasFew st
     pub agreed : AreAgreed st.records h

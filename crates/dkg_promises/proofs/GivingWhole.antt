@@ -38,7 +38,7 @@ use Rattle.dkg_laws.proofs.NodeKept.{node_openings_agree, node_peers_are_kept, n
 use Rattle.dkg_laws.proofs.Openings.{node_openings_lead_over}
 use Rattle.dkg_laws.proofs.NodeThrough.{node_steps_lead_through_over}
 use Rattle.dkg_life.specs.declared.stop.Stop.{Stop}
-use Rattle.dkg_lives.specs.Epochs.{IsAt, IsLifeInForm, any_shares}
+use Rattle.dkg_lives.specs.Epochs.{IsAtEvent, IsLifeInForm, any_shares}
 use Rattle.dkg_lives.specs.Given.{AreBytes, Lived, at_step, lived, step_of}
 use Rattle.dkg_lives.specs.Lives.{LivesSo, RunsOver, RunsSo, never}
 use Rattle.dkg_promises.specs.Over.{DevicesStanding}
@@ -66,7 +66,7 @@ module _ (g : Lived) (here : IsLifeInForm g) (reads : ReadsRecords g.seen) (byte
 
   -- memory and devices agree
   record IsWholeAt (j : ℕ) (st : Live directory.Unit) (h : Held) : Type 0 where
-    pub at : IsAt g j st
+    pub at : IsAtEvent g j st
     pub in_bound : HasFew st
     pub agreed : AreAgreed st.records h
 

@@ -35,7 +35,7 @@ use Rattle.dkg_store.specs.Events.{IsEvent}
 use Rattle.dkg_store.specs.declared.event.Event.TheVariants as events
 use Rattle.dkg_store.specs.Pairs.{IsWhole}
 use Rattle.dkg_script.specs.AsCut.{as_cut, lives_as_cut}
-use Rattle.dkg_script.specs.Blocks.{handed_in, provided}
+use Rattle.dkg_script.specs.Blocks.{handed_in, provided_material}
 use Rattle.dkg_script.specs.Consistent.{IsConsistentScript}
 use Rattle.dkg_script.specs.Inclusion.{IsEventIn, IsFormOfInclusion}
 use Rattle.dkg_script.specs.Kept.{Gives, IsDurable, IsSound, Kept}
@@ -184,7 +184,7 @@ history_of s cuts form no_plan no_plans = record { first = none 0 ∙ sym no_rec
 
     by_life : (l : ℕ) (o : Option Life) → life_at s l ≡ o → IfSome o (λ life. IsLeft s l life (cut_of cuts l) (found s (suc l)))
     by_life l None is = tt
-    by_life l (Some life) is = inl (by_mode l (is_oneshot s) (unless_outdated s life (option_or (provided s life) (found s l))) (rw ((form.lives l life is).no_sync, none l) refl))
+    by_life l (Some life) is = inl (by_mode l (is_oneshot s) (unless_outdated s life (option_or (provided_material s life) (found s l))) (rw ((form.lives l life is).no_sync, none l) refl))
 
 pub plain_history : (s : Setting) (cuts : List (Option CutAt)) → IsBuiltSetting s → s.plans ≡ [] → IsPlanHistory s cuts
 plain_history s cuts built no_plans = history_of s cuts built.form built.no_plan no_plans

@@ -14,12 +14,12 @@ use Rattle.dkg_store.specs.declared.recorded_log.RecordedLog.{RecordedLog}
 use Rattle.dkg_store.proofs.Epochs.{rising}
 use Rattle.dkg_types.specs.Paths.{log_counts, logs_from}
 use Rattle.dkg_infos.specs.declared.directory.Unit as directory
-use Rattle.dkg_script.specs.Blocks.{Block, chain}
+use Rattle.dkg_script.specs.Blocks.{ScriptBlock, chain}
 use Rattle.dkg_script.specs.History.{chain_from, chain_logs}
 use Rattle.dkg_script.specs.Setting.{Setting, blocks_per_epoch}
-use Rattle.dkg_script.specs.Views.{log_at}
+use Rattle.dkg_script.specs.Views.{log_with_height}
 use Rattle.dkg_core.specs.Fixed.{Fixed}
-use Rattle.dkg_core.specs.Live.{Live, of_epoch}
+use Rattle.dkg_core.specs.Live.{Live, records_of_epoch}
 use Rattle.dkg_core.specs.Logs.{canonical}
 use Rattle.dkg_core.specs.Sources.{Tip}
 use Rattle.dkg_lives.proofs.ChainLogs.{brings_of, counted_at, none_below, recorded_found}
@@ -38,7 +38,7 @@ passing_rises test (r ∷ rs) least rises = by_test (passing_rises test rs (r.0 
     by_test rest true = (rises.0, rest)
     by_test rest false = rises_less least (r.0 + 1) (keys_of (bare_logs (filter (λ p. test p.1) rs))) low rest
 
-module _ (s : Setting) (epoch : ℕ) (round : Round) (placed : (height : ℕ) (b : Block) → chain s height ≡ Some b → b.height ≡ height) where
+module _ (s : Setting) (epoch : ℕ) (round : Round) (placed : (height : ℕ) (b : ScriptBlock) → chain s height ≡ Some b → b.height ≡ height) where
   abbrev middle : ℕ
   middle = midpoint (blocks_per_epoch s) epoch
 
@@ -49,27 +49,27 @@ module _ (s : Setting) (epoch : ℕ) (round : Round) (placed : (height : ℕ) (b
   abbrev counting : List (ℕ × SignedDealerLog) → LogMap
   counting ps = map (λ p. (p.1.dealer, p.1.log)) (filter (log_counts check_log_of middle ends round) ps)
 
-  chain_brought : (height count : ℕ) → counting (filter_map log_at (chain_from s height count)) ≡ brought_from (brings_of s epoch round) height count
+  chain_brought : (height count : ℕ) → counting (filter_map log_with_height (chain_from s height count)) ≡ brought_from (brings_of s epoch round) height count
   chain_brought height zero = refl
   chain_brought height (suc count) = by_block (chain s height) refl (chain_brought (height + 1) count)
     where
       rest : LogMap
       rest = brought_from (brings_of s epoch round) (height + 1) count
 
-      upper : List Block
+      upper : List ScriptBlock
       upper = chain_from s (height + 1) count
 
-      by_signed : (b : Block) (o : Option SignedDealerLog) → b.log ≡ o → b.height ≡ height → counting (filter_map log_at upper) ≡ rest
-          → counting (filter_map log_at (b ∷ upper)) ≡ option_to_list (counted_at s epoch round height o) ++ rest
+      by_signed : (b : ScriptBlock) (o : Option SignedDealerLog) → b.log ≡ o → b.height ≡ height → counting (filter_map log_with_height upper) ≡ rest
+          → counting (filter_map log_with_height (b ∷ upper)) ≡ option_to_list (counted_at s epoch round height o) ++ rest
       by_signed b None is at more = rw is more
       by_signed b (Some signed) is at more = by_test (log_counts check_log_of middle ends round (height, signed)) refl
         where
-          by_test : (t : Bool) → log_counts check_log_of middle ends round (height, signed) ≡ t → counting (filter_map log_at (b ∷ upper)) ≡ option_to_list (counted_at s epoch round height (Some signed)) ++ rest
+          by_test : (t : Bool) → log_counts check_log_of middle ends round (height, signed) ≡ t → counting (filter_map log_with_height (b ∷ upper)) ≡ option_to_list (counted_at s epoch round height (Some signed)) ++ rest
           by_test true counted = rw (is, at, counted) (ap (λ (l : LogMap). (signed.dealer, signed.log) ∷ l) more)
           by_test false counted = rw (is, at, counted) more
 
-      by_block : (o : Option Block) → chain s height ≡ o → counting (filter_map log_at upper) ≡ rest
-          → counting (filter_map log_at (chain_from s height (suc count))) ≡ brought_from (brings_of s epoch round) height (suc count)
+      by_block : (o : Option ScriptBlock) → chain s height ≡ o → counting (filter_map log_with_height upper) ≡ rest
+          → counting (filter_map log_with_height (chain_from s height (suc count))) ≡ brought_from (brings_of s epoch round) height (suc count)
       by_block None is more = rw is more
       by_block (Some b) is more = rw is (by_signed b b.log refl (placed height b is) more)
 
@@ -94,8 +94,8 @@ module _ (s : Setting) (epoch : ℕ) (round : Round) (placed : (height : ℕ) (b
 
     pub canonical_chain : c.blocks_per_epoch ≡ blocks_per_epoch s → x.participation.epoch ≡ epoch → canonical c x ≡ chain_logs s round epoch
     canonical_chain blocks_are epoch_is =
-        ap (λ (n : ℕ). reached_logs (midpoint n x.participation.epoch) (option_map (λ t. t.height) x.tip) (of_epoch x.participation.epoch x.records.logs)) blocks_are
-        ∙ ap (λ (e : ℕ). reached_logs (midpoint (blocks_per_epoch s) e) (option_map (λ t. t.height) x.tip) (of_epoch e x.records.logs)) epoch_is
-        ∙ ap (λ (o : Option Tip). reached_logs middle (option_map (λ t. t.height) o) (of_epoch epoch x.records.logs)) tip
-        ∙ ap (λ (rs : List ((ℕ × ℕ) × RecordedLog)). reached_logs middle (Some t.height) (of_epoch epoch rs)) recorded.memory
+        ap (λ (n : ℕ). reached_logs (midpoint n x.participation.epoch) (option_map (λ t. t.height) x.tip) (records_of_epoch x.participation.epoch x.records.logs)) blocks_are
+        ∙ ap (λ (e : ℕ). reached_logs (midpoint (blocks_per_epoch s) e) (option_map (λ t. t.height) x.tip) (records_of_epoch e x.records.logs)) epoch_is
+        ∙ ap (λ (o : Option Tip). reached_logs middle (option_map (λ t. t.height) o) (records_of_epoch epoch x.records.logs)) tip
+        ∙ ap (λ (rs : List ((ℕ × ℕ) × RecordedLog)). reached_logs middle (Some t.height) (records_of_epoch epoch rs)) recorded.memory
         ∙ reached

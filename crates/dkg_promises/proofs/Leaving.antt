@@ -23,7 +23,7 @@ use Rattle.dkg_text.specs.declared.script.Life.{Life}
 use Rattle.dkg_text.specs.declared.script.Script.{Script}
 use Rattle.dkg_script.specs.Epochs.{alone}
 use Rattle.dkg_script.specs.Order.{is_opened}
-use Rattle.dkg_script.specs.Position.{follows}
+use Rattle.dkg_script.specs.Position.{life_follows}
 use Rattle.dkg_script.specs.Promise.{Adds}
 use Rattle.dkg_store.specs.Acts.{Held, went}
 use Rattle.dkg_core.specs.Asked.{FirstNeeds}
@@ -91,9 +91,9 @@ module _ (g : Lived) (here : IsLifeInForm g) (j : ℕ) (st : Live U) (said : Lis
   live : IsLiveThrough (at_step g j) any_shares st
   live = ((known.stood).at).live
 
-  module _ (takes : follows (alone g.script) g.number g.life e ≡ false) (late : midpoint (per_epoch g.script) e ≤ awaited_by g j) (request : ℕ) (its : IsOpenRequest g.life j said request) where
+  module _ (takes : life_follows (alone g.script) g.number g.life e ≡ false) (late : midpoint (per_epoch g.script) e ≤ awaited_by g j) (request : ℕ) (its : IsOpenRequest g.life j said request) where
     apart : st.participation.stage ≡ Follows → ⊥
-    apart follows = let no : ◌≡◌ {A = Bool} true false = sym (((known.stood).at).stands.blind follows) ∙ takes in cc
+    apart life_follows = let no : ◌≡◌ {A = Bool} true false = sym (((known.stood).at).stands.blind life_follows) ∙ takes in cc
 
     its_epoch : st.participation.epoch ≡ e
     its_epoch = ((known.stood).at).stands.epoch apart
@@ -194,7 +194,7 @@ module _ (g : Lived) (here : IsLifeInForm g) (j : ℕ) (st : Live U) (said : Lis
         by_round (Some round) of = by_running round of st.inclusion.running refl waiting
 
   -- A LIFE THAT FOLLOWS answers at once.
-  module _ (follows_it : follows (alone g.script) g.number g.life e ≡ true) (request : ℕ) (its : IsOpenRequest g.life j said request) where
+  module _ (follows_it : life_follows (alone g.script) g.number g.life e ≡ true) (request : ℕ) (its : IsOpenRequest g.life j said request) where
     none_waits : st.participation.stage ≡ Follows → IsWaiting request st.inclusion → ⊥
     none_waits stage (inl (x, among, same)) = subst (IsAmong x) (live.asked.has.none stage) among
     none_waits stage (inr waits) = none_some (sym (live.asked.has.waits (live.asked.has.early (λ includes. let no : ◌≡◌ {A = Stage} Follows Includes = sym stage ∙ includes in cc)).0) ∙ waits)

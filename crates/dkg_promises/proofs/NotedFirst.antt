@@ -14,7 +14,7 @@ use Rattle.dkg_store.specs.Noted.{Notes, logs_in}
 use Rattle.dkg_store.specs.declared.recorded_log.RecordedLog.{RecordedLog}
 use Rattle.dkg_types.specs.Paths.{log_counts}
 use Rattle.dkg_text.specs.declared.script.Life.{Life}
-use Rattle.dkg_script.specs.Blocks.{Block, chain, round_at}
+use Rattle.dkg_script.specs.Blocks.{ScriptBlock, chain, round_at}
 use Rattle.dkg_script.specs.History.{AreChainLogs, CountsAt, StandsAtIts}
 use Rattle.dkg_script.specs.Position.{awaited_epoch}
 use Rattle.dkg_script.specs.Setting.{Setting, blocks_per_epoch, life_at}
@@ -38,7 +38,7 @@ module _ (s : Setting) (epoch : ℕ) (round : Round) where
   -- WHAT COUNTS is what the chain brings,
   pub brings_it : (height dealer : ℕ) (log : DealerLog) → CountsAt s epoch round height dealer log → brings_of s epoch round height ≡ Some (dealer, log)
   brings_it height dealer log its =
-      ap (option_and_then (λ (b : Block). counted_at s epoch round height b.log)) its.chained ∙ ap (counted_at s epoch round height) its.carried
+      ap (option_and_then (λ (b : ScriptBlock). counted_at s epoch round height b.log)) its.chained ∙ ap (counted_at s epoch round height) its.carried
       ∙ ap (λ (t : Bool). if t then Some (its.signed.dealer, its.signed.log) else None) its.counted
       ∙ ap (λ (d : ℕ). Some (d, its.signed.log)) its.dealer_is ∙ ap (λ (l : DealerLog). Some (dealer, l)) its.log_is
 
@@ -46,7 +46,7 @@ module _ (s : Setting) (epoch : ℕ) (round : Round) where
   pub counts_there : (height dealer : ℕ) (log : DealerLog) → brings_of s epoch round height ≡ Some (dealer, log) → CountsAt s epoch round height dealer log
   counts_there height dealer log is = by_block (chain s height) refl is
     where
-      by_signed : (b : Block) → chain s height ≡ Some b → (o : Option SignedDealerLog) → b.log ≡ o → counted_at s epoch round height o ≡ Some (dealer, log) → CountsAt s epoch round height dealer log
+      by_signed : (b : ScriptBlock) → chain s height ≡ Some b → (o : Option SignedDealerLog) → b.log ≡ o → counted_at s epoch round height o ≡ Some (dealer, log) → CountsAt s epoch round height dealer log
       by_signed b there None carried is = absurd (none_some is)
       by_signed b there (Some signed) carried is = by_test (log_counts check_log_of middle ends round (height, signed)) refl is
         where
@@ -65,7 +65,7 @@ module _ (s : Setting) (epoch : ℕ) (round : Round) where
               }
           by_test false counted is = absurd (none_some is)
 
-      by_block : (o : Option Block) → chain s height ≡ o → option_and_then (λ (b : Block). counted_at s epoch round height b.log) o ≡ Some (dealer, log) → CountsAt s epoch round height dealer log
+      by_block : (o : Option ScriptBlock) → chain s height ≡ o → option_and_then (λ (b : ScriptBlock). counted_at s epoch round height b.log) o ≡ Some (dealer, log) → CountsAt s epoch round height dealer log
       by_block None there is = absurd (none_some is)
       by_block (Some b) there is = by_signed b there b.log refl is
 

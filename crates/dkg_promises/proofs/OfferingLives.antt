@@ -45,7 +45,7 @@ use Rattle.dkg_core.proofs.Storing.{node_steps_keep_secrets}
 use Rattle.dkg_life.specs.declared.stop.Stop.{Stop}
 use Rattle.dkg_life.specs.declared.stop.Stop.TheVariants.{Cut, Failed, Fault as FaultOf}
 use Rattle.dkg_lives.specs.Ended.{by_node_stop}
-use Rattle.dkg_lives.specs.Epochs.{IsAt, IsLifeInForm, any_shares, awaited_by, epoch_by}
+use Rattle.dkg_lives.specs.Epochs.{IsAtEvent, IsLifeInForm, any_shares, awaited_by, epoch_by}
 use Rattle.dkg_lives.specs.Given.{Lived, at_step, lived, step_of}
 use Rattle.dkg_lives.specs.Lives.{LivesSo, Steps, TakesAll, fuse_for, fuse_within, never}
 use Rattle.dkg_lives.specs.Ways.{by_worlds}
@@ -158,7 +158,7 @@ module _ (s : Setting) (cuts : List (Option CutAt)) (form : IsFormOfInclusion s.
 
   -- A STATE behind the first j events, over devices that hold h
   pub record IsStanding (j : ℕ) (st : Live directory.Unit) (h : Held) : Type 0 where
-    pub at : IsAt g j st
+    pub at : IsAtEvent g j st
     pub rounds : HasRoundOf s st
     pub deals : DealsStored (me s) st h
 
@@ -276,7 +276,7 @@ module _ (s : Setting) (cuts : List (Option CutAt)) (form : IsFormOfInclusion s.
     step_keeps end new run =
         let led : IsNodeThrough (at_step g (suc i)) any_shares st m.message (Some w.held) end (Some new.held)
         = node_steps_lead_through_over (at_step g (suc i)) any_shares st m.message (went end) w new (through_at g here (suc i)) (lacks_nobody g (suc i)) (λ h epoch found. tt) taken live (standing.at).active (run_here (went end) new run) in
-        let at : IsAt g (suc i) end = record { live = led.live; active = led.active; stands = step_stands g here i its is reached m st live (standing.at).stands (Some w.held) end (Some new.held) led } in
+        let at : IsAtEvent g (suc i) end = record { live = led.live; active = led.active; stands = step_stands g here i its is reached m st live (standing.at).stands (Some w.held) end (Some new.held) led } in
         let held = kept (went end) new run (epoch_by g (suc i) - 1) (omega arith) in
         let same : end.participation ≡ (led.mid).participation = ap (λ (x : Live directory.Unit). x.participation) led.same in
         let low : (round : Round) → (led.mid).participation.round ≡ Some round → epoch_by g (suc i) - 1 ≤ round.number

@@ -25,7 +25,7 @@ use Rattle.dkg_script.specs.Consistent.{MayEndSo}
 use Rattle.dkg_script.specs.Epochs.{alone}
 use Rattle.dkg_script.specs.History.{IsWholeHistory}
 use Rattle.dkg_script.specs.Inclusion.{IsFormOfInclusion}
-use Rattle.dkg_script.specs.Position.{awaited_epoch, follows}
+use Rattle.dkg_script.specs.Position.{awaited_epoch, life_follows}
 use Rattle.dkg_script.specs.Progress.{Progress}
 use Rattle.dkg_script.specs.Readings.{with_spelled}
 use Rattle.dkg_script.specs.Setting.{CutAt, Setting, blocks_per_epoch, found, life_at}
@@ -36,7 +36,7 @@ use Rattle.dkg_store.specs.declared.recorded_log.RecordedLog.{RecordedLog}
 use Rattle.dkg_core.specs.Courses.{on_devices}
 use Rattle.dkg_core.specs.Fixed.{Fixed}
 use Rattle.dkg_core.specs.Forms.{Applied, IsNodeBegun, Judged, Passed, Refusal, judged_block}
-use Rattle.dkg_core.specs.Live.{Finalized, Follows, Live, Message, NodeStop, of_epoch}
+use Rattle.dkg_core.specs.Live.{Finalized, Follows, Live, Message, NodeStop, records_of_epoch}
 use Rattle.dkg_core.specs.Logs.{canonical}
 use Rattle.dkg_laws.specs.NodeThrough.{IsNodeThrough}
 use Rattle.dkg_core.specs.Said.{Said}
@@ -166,7 +166,7 @@ module _ (s : Setting) (ends : List (Option CutAt)) (history : IsWholeHistory s 
       up_to_tip : (t : Tip) → tip_in s.script life i ≡ Some t → (height : ℕ) → midpoint n (epoch_by g i) ≤ height → height ≤ t.height → HasBlockAt s height
       up_to_tip t at height late low =
           chain_to_tip s ends history.consistent form bytes some l life here.life_is here.anchor no_sync none_found may begun history.missed i chain tips_now
-          (ap (follows s l life) (epoch_is i) ∙ follows_alike s l life no_sync none_found (epoch_by g i) ∙ stands.parts apart) t at height (subst (λ (e : ℕ). midpoint n e ≤ height) (sym (epoch_is i)) late) low
+          (ap (life_follows s l life) (epoch_is i) ∙ follows_alike s l life no_sync none_found (epoch_by g i) ∙ stands.parts apart) t at height (subst (λ (e : ℕ). midpoint n e ≤ height) (sym (epoch_is i)) late) low
 
       -- .. and up to a block that is applied
       up_to_block : (number : ℕ) (b : made.Block U) → its ≡ event.Final number → slice_get (blocks_in s.script) number ≡ Some b → judged_block c b st ≡ Applied → (height : ℕ) → midpoint n (epoch_by g i) ≤ height → height ≤ b.height → HasBlockAt s height
@@ -182,8 +182,8 @@ module _ (s : Setting) (ends : List (Option CutAt)) (history : IsWholeHistory s 
               first : epoch_by g i ≡ 0
               first = first_awaited g here i its is reached m st live stands tip (tip ∙ none)
 
-              unfollowed : follows (alone s.script) l life 0 ≡ false
-              unfollowed = ap (follows (alone s.script) l life) (sym first) ∙ stands.parts apart
+              unfollowed : life_follows (alone s.script) l life 0 ≡ false
+              unfollowed = ap (life_follows (alone s.script) l life) (sym first) ∙ stands.parts apart
 
               allowed : refusal_in s.script l life i b ≡ None
               allowed = accepted_by g here i its is reached m st live stands tip b Applied applied refl
@@ -254,9 +254,9 @@ module _ (s : Setting) (ends : List (Option CutAt)) (history : IsWholeHistory s 
         → canonical c x ≡ reached_logs (midpoint n (epoch_by g i)) (option_map (λ t. t.height) (tip_in s.script life (suc i))) (at_epoch (epoch_by g i) m)
     unfolding at_step
     canonical_is x x_tip x_epoch m memory =
-        ap (λ (e : ℕ). reached_logs (midpoint n e) (option_map (λ t. t.height) x.tip) (of_epoch e x.records.logs)) x_epoch
-        ∙ ap (λ (o : Option Tip). reached_logs (midpoint n (epoch_by g i)) (option_map (λ t. t.height) o) (of_epoch (epoch_by g i) x.records.logs)) x_tip
-        ∙ ap (λ (logs : List ((ℕ × ℕ) × RecordedLog)). reached_logs (midpoint n (epoch_by g i)) (option_map (λ t. t.height) (tip_in s.script life (suc i))) (of_epoch (epoch_by g i) logs)) memory
+        ap (λ (e : ℕ). reached_logs (midpoint n e) (option_map (λ t. t.height) x.tip) (records_of_epoch e x.records.logs)) x_epoch
+        ∙ ap (λ (o : Option Tip). reached_logs (midpoint n (epoch_by g i)) (option_map (λ t. t.height) o) (records_of_epoch (epoch_by g i) x.records.logs)) x_tip
+        ∙ ap (λ (logs : List ((ℕ × ℕ) × RecordedLog)). reached_logs (midpoint n (epoch_by g i)) (option_map (λ t. t.height) (tip_in s.script life (suc i))) (records_of_epoch (epoch_by g i) logs)) memory
 
     -- The law: from what is recorded where requests are read.
     pub knows_paths : ((x : Live U) → IsReadFor c st m.message x → (round : Round) → st.participation.round ≡ Some round → IsRecordedTo s (epoch_by g i) round x) → KnowsRead g IsReadWell i st m.message

@@ -22,7 +22,7 @@ use Rattle.dkg_script.specs.Setting.{CutAt, Setting, setting_of}
 use Rattle.dkg_script.proofs.InclusionAsCut.{inclusion_as_cut}
 use Rattle.dkg_promises.specs.Answers.{AnswersSo, AnswersThePath}
 use Rattle.dkg_lives.specs.Blamed.{BlamesSo}
-use Rattle.dkg_lives.specs.Causes.{HasCause}
+use Rattle.dkg_lives.specs.Causes.{HasDeviceCause}
 use Rattle.dkg_promises.specs.Complete.{IsSoundRun, IsValidAsCut}
 use Rattle.dkg_script.specs.Ends.{EndsFaulted, EndsRun, EndsScript}
 use Rattle.dkg_lives.specs.Epochs.{IsChecked, refused_config}
@@ -113,7 +113,7 @@ all_run script old new picks (Err its) added is run = tt
 
 module _ (script : Script) (form : IsFormOfInclusion script) (o : Over) (disk_of : o.tells → o.disk_tells) (old new : List Entry) (picks : List ℕ) (answered : Result (Unit {0}) Fault)
     (run : RunsSo by_lines script AnyFiles (trace old []) answered (trace new picks)) (runs : DoesRun script o old answered new) (itself : o.disk_tells → o.before.image o.before.files) (left : o.disk_tells → o.now.image o.now.files)
-    (causes : IfErr answered (λ its. HasCause its o.disk_rose o.secrets_rose)) (records : IfErr answered (λ its. o.disk_tells → IsFoundRecord (limit_in script) o.now.files its))
+    (causes : IfErr answered (λ its. HasDeviceCause its o.disk_rose o.secrets_rose)) (records : IfErr answered (λ its. o.disk_tells → IsFoundRecord (limit_in script) o.now.files its))
     (fit : o.disk_tells → AreFit (limit_in script) o.before.image → AreFit (limit_in script) o.now.image) (stood : OnOk answered (o.disk_tells → Stands o.before.files o.before.image → Stands o.now.files o.now.image)) where
   -- what the two cases show: the lives were begun, or not
   record Shown (added : List Entry) : Type 0 where

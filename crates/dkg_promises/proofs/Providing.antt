@@ -34,9 +34,9 @@ use Rattle.dkg_core.specs.Entering.{takes_delivered}
 use Rattle.dkg_core.specs.Fixed.{Fixed, OneShot}
 use Rattle.dkg_core.specs.Forms.{Applied, judged_block, round_for}
 use Rattle.dkg_core.specs.Including as i
-use Rattle.dkg_core.specs.Including.{Fed, Need, Found, Lacks, Next, can_finish, cached_for, is_need, job_for, read_of, result_of, retained_for}
+use Rattle.dkg_core.specs.Including.{Fed, Need, Found, Lacks, Continuation, can_finish, cached_for, is_need, job_for, read_of, job_result_of, retained_for}
 use Rattle.dkg_core.specs.Live.{Artifact, Cached, Cancel, Deals, Ends, EpochInfoOf, Faulted, Feed, Finalized, Follows, Inclusion, Includes, Job, Live, Mail, Message, NextLog, NodeStop, Over, Participation, Peer, ReleaseLog, Request, Sent, Stage, VerifiedLogs, Verified, Work, is_last_height, recorded_at, with_inclusion, with_participation, with_queue, with_tip, with_used}
-use Rattle.dkg_core.specs.Logs.{canonical, filled_by, is_accepted, log_event}
+use Rattle.dkg_core.specs.Logs.{canonical, filled_by, is_accepted, carried_log_event}
 use Rattle.dkg_core.specs.Node.{node_step, unless_once}
 use Rattle.dkg_laws.specs.NodeSaying.{IsHalfLine}
 use Rattle.dkg_core.specs.Said.{Said}
@@ -134,13 +134,13 @@ module _ (c : Fixed U) (epoch : ℕ) where
     pub info : (round : Round) → st.participation.round ≡ Some round → IsSomeAnd st.participation.current (λ x. x.epoch ≡ epoch)
 
   module _ (reshare : c.oneshot ≡ None) (stuck : IsStuck) where
-    none_made : (st : Live U) → IsBare st → (round : Round) → st.participation.round ≡ Some round → (r : VerifiedLogs) (next : Next U) → StopsAt (i.artifact c r st next)
+    none_made : (st : Live U) → IsBare st → (round : Round) → st.participation.round ≡ Some round → (r : VerifiedLogs) (next : Continuation U) → StopsAt (i.artifact c r st next)
     none_made st bare round is r next = by_current st.participation.current refl (bare.info round is)
       where
         by_current : (o : Option (EpochInfo U)) → st.participation.current ≡ o → IsSomeAnd o (λ x. x.epoch ≡ epoch) → StopsAt (i.artifact c r st next)
         by_current None e none = absurd none
         by_current (Some info) e same =
-            let onward : Next U = i.keeping r.logs next in
+            let onward : Continuation U = i.keeping_artifact r.logs next in
             let made : EpochInfo U = info_by c.provided info (option_map (λ (found : Verified). found.output) r.result) in
             let acts : Its = i.share_by c info r.result (λ share. i.with_directory c made (onward (record { info = Some made; share = share }) st)) in
             let it = stuck acts in (
@@ -160,7 +160,7 @@ module _ (c : Fixed U) (epoch : ℕ) where
       completes : (r : VerifiedLogs) (waiter : Option ℕ) → C (i.completes_in c r st waiter)
       completes r None = goes (i.retains c r st) (record { cached = bare.cached; info = bare.info })
       completes r (Some number) =
-          let next : Next U = λ made now. bind (i.answers c number made now) (λ now. Goes (i.retains c r now)) in stops_there (i.artifact c r st next) (none_made st bare round is r next)
+          let next : Continuation U = λ made now. bind (i.answers_request c number made now) (λ now. Goes (i.retains c r now)) in stops_there (i.artifact c r st next) (none_made st bare round is r next)
 
       module _ (lacks : (number : ℕ) (why : Why) (end : Live U) → IsBare end → C (Say (Answer number (Unavailable why)) (Goes end))) (number : ℕ) where
         starts : (job : Job) (refused : Option ℕ) → C (i.starts_unless job (Some number) refused st)
@@ -168,7 +168,7 @@ module _ (c : Fixed U) (epoch : ℕ) where
         starts job None = goes (i.verifying job (Some number) st) (record { cached = bare.cached; info = bare.info })
 
         asks : (logs : LogMap) (retained : Option VerifiedLogs) → C (i.asks_for_by c round number logs None retained st)
-        asks logs (Some r) = stops_there (i.artifact c r st (i.answers c number)) (none_made st bare round is r (i.answers c number))
+        asks logs (Some r) = stops_there (i.artifact c r st (i.answers_request c number)) (none_made st bare round is r (i.answers_request c number))
         asks logs None = starts (job_for c round logs st) (if can_finish c round logs st then s.refused_in c round st else None)
 
         fed : (f : Fed) → C (i.fed c round number st f)
@@ -226,7 +226,7 @@ module _ (c : Fixed U) (epoch : ℕ) where
               where
                 by_running : (running : Option Job) → st.inclusion.running ≡ running → C (i.ends_verifying_in c handed st running)
                 by_running None is = goes st bare
-                by_running (Some job) is = let its = runs job is in completes C stops goes st bare its.0 its.1 (result_of c handed job) st.inclusion.waiter
+                by_running (Some job) is = let its = runs job is in completes C stops goes st bare its.0 its.1 (job_result_of c handed job) st.inclusion.waiter
 
           -- MAIL
 
@@ -287,10 +287,10 @@ module _ (c : Fixed U) (epoch : ℕ) where
               observed None = advanced_so (with_tip block (b.unserved block.height st)) refl refl refl
               observed (Some log) = by_tests (is_accepted c round log) (is_some (recorded_at st.records.logs round.number log.dealer))
                 where
-                  by_tests : (one two : Bool) → SaysSo P (bind (if one then bind (if two then Goes st else d.appends round.number (log_event log.dealer block.height log.log) (Goes (b.with_log round.number log.dealer block.height log.log st)))
+                  by_tests : (one two : Bool) → SaysSo P (bind (if one then bind (if two then Goes st else d.appends round.number (carried_log_event log.dealer block.height log.log) (Goes (b.with_log_at round.number log.dealer block.height log.log st)))
                       (λ now. Goes (b.without_own_log c log.dealer now)) else Goes st) read_on)
                   by_tests true true = cleared log.dealer st refl refl
-                  by_tests true false = cleared log.dealer (b.with_log round.number log.dealer block.height log.log st) refl refl
+                  by_tests true false = cleared log.dealer (b.with_log_at round.number log.dealer block.height log.log st) refl refl
                   by_tests false two = advanced_so (with_tip block (b.unserved block.height st)) refl refl refl
 
             applied : (stage : Stage) → st.participation.stage ≡ stage → SaysSo P (b.applies_in c block st stage)

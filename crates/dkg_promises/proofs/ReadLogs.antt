@@ -12,7 +12,7 @@ use Rattle.dkg_types.specs.Blocks as made
 use Rattle.dkg_types.specs.Paths.{logs_of_path}
 use Rattle.dkg_infos.specs.declared.directory.Unit as directory
 use Rattle.dkg_text.specs.declared.script.Life.{Life}
-use Rattle.dkg_script.specs.Position.{awaited_epoch, awaited_height}
+use Rattle.dkg_script.specs.Position.{awaited_epoch, awaited_height_after}
 use Rattle.dkg_script.specs.Setting.{Setting, blocks_per_epoch, life_at}
 use Rattle.dkg_core.specs.Live.{Live}
 use Rattle.dkg_core.specs.Sources.{Tip}
@@ -28,7 +28,7 @@ U = directory.Unit
 module _ (s : Setting) where
   -- It lies below the start of each life that comes to the epoch.
   abbrev pub IsEarly : (epoch height : ℕ) → Type 0
-  IsEarly epoch height = (l j : ℕ) (life : Life) → life_at s l ≡ Some life → awaited_epoch s l life j ≡ epoch → height < awaited_height s l life 0
+  IsEarly epoch height = (l j : ℕ) (life : Life) → life_at s l ≡ Some life → awaited_epoch s l life j ≡ epoch → height < awaited_height_after s l life 0
 
   -- RECORDED UP TO THE TIP, of a life x in this epoch and round
   pub record IsRecordedTo (epoch : ℕ) (round : Round) (x : Live U) : Type 0 where

@@ -21,14 +21,14 @@ use Rattle.dkg_infos.specs.declared.directory.Unit as directory
 use Rattle.dkg_text.specs.declared.script.Event as script
 use Rattle.dkg_text.specs.declared.script.Event.TheVariants as event
 use Rattle.dkg_text.specs.declared.script.Life.{Life}
-use Rattle.dkg_script.specs.Blocks.{block_at, round_at}
-use Rattle.dkg_script.specs.Position.{awaited_before, awaited_epoch, awaited_height, follows}
+use Rattle.dkg_script.specs.Blocks.{numbered_block, round_at}
+use Rattle.dkg_script.specs.Position.{awaited_before, awaited_epoch, awaited_height_after, life_follows}
 use Rattle.dkg_script.specs.Setting.{Setting, CutAt, blocks_per_epoch, found}
 use Rattle.dkg_script.specs.Views.{seen_block}
 use Rattle.dkg_core.specs.Fixed.{Fixed}
 use Rattle.dkg_core.specs.Forms.{Applied, judged_block}
 use Rattle.dkg_core.specs.Live as core
-use Rattle.dkg_core.specs.Blocks.{unoffered, with_log, without_own_log}
+use Rattle.dkg_core.specs.Blocks.{unoffered, with_log_at, without_own_log}
 use Rattle.dkg_core.specs.Live.{Deals, Finalized, Includes, Live, Mail, Stage, is_last_height, recorded_at, with_participation}
 use Rattle.dkg_core.specs.Logs.{is_accepted, recorded_log}
 use Rattle.dkg_laws.specs.LogsRecorded.{first_of_both}
@@ -38,7 +38,7 @@ use Rattle.dkg_core.specs.Stepping.{dealt_behind, given_itself}
 use Rattle.dkg_core.specs.Through.{asked_by, included, observed, observed_log}
 use Rattle.dkg_core.proofs.Agreeing.{put_same}
 use Rattle.dkg_core.proofs.StepDealing.{given_same}
-use Rattle.dkg_lives.specs.Epochs.{IsAt, IsLifeInForm}
+use Rattle.dkg_lives.specs.Epochs.{IsAtEvent, IsLifeInForm}
 use Rattle.dkg_lives.specs.Given.{Lived, at_step, lived}
 use Rattle.dkg_promises.specs.SharesStand.{IsWholePast}
 use Rattle.dkg_lives.proofs.Awaiting.{IsReached}
@@ -87,17 +87,17 @@ observed_map c round b st m memory (Some log) = by_tests (is_accepted c round lo
 
     by_tests : (accepted has : Bool)
         → (now : Notes RecordedLog)
-        × ((if accepted then without_own_log c log.dealer (if has then st else with_log round.number log.dealer b.height log.log st) else st).records.logs ≡ entries now)
+        × ((if accepted then without_own_log c log.dealer (if has then st else with_log_at round.number log.dealer b.height log.log st) else st).records.logs ≡ entries now)
     by_tests false has = (m, memory)
     by_tests true true = (m, cleared st ∙ memory)
     by_tests true false = (
       insert m (round.number, log.dealer) (recorded_log b.height log.log),
-      cleared (with_log round.number log.dealer b.height log.log st) ∙ put_same m st.records.logs (round.number, log.dealer) (recorded_log b.height log.log) memory,
+      cleared (with_log_at round.number log.dealer b.height log.log st) ∙ put_same m st.records.logs (round.number, log.dealer) (recorded_log b.height log.log) memory,
     )
 
 module _ (s : Setting) (ends : List (Option CutAt)) (whole : IsWholePast s ends) (l : ℕ) (life : Life) (seen : Held → Seen) (files : Files) (here : IsLifeInForm (lived s.script l life seen files)) (none_found : found s l ≡ None)
     (cuts : List (Option CutAt)) (never_back : awaited_before s cuts l ≤ awaited_epoch s l life 0 + 1) (i : ℕ) (its : script.Event) (is : slice_get life.events i ≡ Some its) (reached : IsReached life.cut (suc i)) (st : Live U)
-    (at : IsAt (lived s.script l life seen files) i st) (of_round : HasRoundOf s st) (m : Notes RecordedLog) (memory : st.records.logs ≡ entries m) (recording : IsRecording s ends l life cuts i m) where
+    (at : IsAtEvent (lived s.script l life seen files) i st) (of_round : HasRoundOf s st) (m : Notes RecordedLog) (memory : st.records.logs ≡ entries m) (recording : IsRecording s ends l life cuts i m) where
   abbrev g : Lived
   g = lived s.script l life seen files
 
@@ -108,7 +108,7 @@ module _ (s : Setting) (ends : List (Option CutAt)) (whole : IsWholePast s ends)
   e = awaited_epoch s l life i
 
   abbrev h : ℕ
-  h = awaited_height s l life i
+  h = awaited_height_after s l life i
 
   abbrev C : Fixed U
   C = at_step g (suc i)
@@ -117,7 +117,7 @@ module _ (s : Setting) (ends : List (Option CutAt)) (whole : IsWholePast s ends)
   stands_at = steps.stands_at s ends whole l life seen files here none_found cuts never_back i its is reached st at of_round m memory recording
 
   module _ (round : Round) (there : st.participation.round ≡ Some round) where
-    part : follows s l life e ≡ false
+    part : life_follows s l life e ≡ false
     part = steps.takes_part s ends whole l life seen files here none_found cuts never_back i its is reached st at of_round m memory recording round there
 
     known : round_at s e ≡ Some round
@@ -152,8 +152,8 @@ module _ (s : Setting) (ends : List (Option CutAt)) (whole : IsWholePast s ends)
             → is_reached (midpoint n e) (Some t.height) noted ≡ nat_le height t.height
         at_its t low dealer noted height its_first (Some stands) of is = ap (λ (x : Option ℕ). nat_le (height_or (midpoint n e) x) t.height) of ∙ ap (λ (x : ℕ). nat_le x t.height) is
         at_its t low dealer noted height its_first None of early =
-            let start : height < awaited_height s l life 0 = early l i life here.life_is refl in
-            let from_start : awaited_height s l life 0 ≤ h = heights_rise s l life 0 i (omega arith) in
+            let start : height < awaited_height_after s l life 0 = early l i life here.life_is refl in
+            let from_start : awaited_height_after s l life 0 ≤ h = heights_rise s l life 0 i (omega arith) in
             let counted = (counts_within s e round height dealer noted.log its_first.here).0 in
             let under : height ≤ t.height = omega (arith, start, from_start, low) in
             ap (λ (x : Option ℕ). nat_le (height_or (midpoint n e) x) t.height) of ∙ le (midpoint n e) t.height (omega (arith, counted, under)) ∙ sym (le height t.height under)
@@ -178,7 +178,7 @@ module _ (s : Setting) (ends : List (Option CutAt)) (whole : IsWholePast s ends)
         same_records x (ap (λ (y : Live U). y.records.logs) (is ∙ same)) (ap (λ (y : Live U). y.tip) (is ∙ same))
 
     -- BEHIND A BLOCK
-    module _ (number : ℕ) (block : made.Block U) (its_is : slice_get life.events i ≡ Some (event.Final number)) (seen_there : block_at s number ≡ Some (seen_block unit_spelling block))
+    module _ (number : ℕ) (block : made.Block U) (its_is : slice_get life.events i ≡ Some (event.Final number)) (seen_there : numbered_block s number ≡ Some (seen_block unit_spelling block))
         (applied : judged_block C block st ≡ Applied) where
       high : h ≤ block.height
       high = steps.is_high s ends whole l life seen files here none_found cuts never_back i its is reached st at of_round m memory recording number block its_is seen_there applied round there
@@ -266,6 +266,6 @@ module _ (s : Setting) (ends : List (Option CutAt)) (whole : IsWholePast s ends)
   pub mail_recorded : (mail : Mail U) (x : Live U) → x ≡ asked_by mail st → (round : Round) → st.participation.round ≡ Some round → IsRecordedTo s e round x
   mail_recorded mail x is round there = mail_read round there mail x is
 
-  pub block_recorded : (number : ℕ) (block : made.Block U) → slice_get life.events i ≡ Some (event.Final number) → block_at s number ≡ Some (seen_block unit_spelling block) → (x : Live U) → IsReadFor C st (Finalized block) x
+  pub block_recorded : (number : ℕ) (block : made.Block U) → slice_get life.events i ≡ Some (event.Final number) → numbered_block s number ≡ Some (seen_block unit_spelling block) → (x : Live U) → IsReadFor C st (Finalized block) x
       → (round : Round) → st.participation.round ≡ Some round → IsRecordedTo s e round x
   block_recorded number block its_is seen_there x read round there = block_read round there number block its_is seen_there read.0 x read

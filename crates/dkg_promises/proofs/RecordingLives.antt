@@ -17,10 +17,10 @@ use Rattle.dkg_infos.specs.declared.directory.Unit as directory
 use Rattle.dkg_text.specs.declared.script.Event as script
 use Rattle.dkg_text.specs.declared.script.Event.TheVariants as event
 use Rattle.dkg_text.specs.declared.script.Life.{Life}
-use Rattle.dkg_script.specs.Blocks.{block_at, delivered_number}
+use Rattle.dkg_script.specs.Blocks.{numbered_block, delivered_number}
 use Rattle.dkg_script.specs.Epochs.{alone}
 use Rattle.dkg_script.specs.History.{WasSeen}
-use Rattle.dkg_script.specs.Position.{awaited_before, awaited_epoch, awaited_height, begun, begun_before, cut_of, event_of_step, events_taken, follows}
+use Rattle.dkg_script.specs.Position.{awaited_before, awaited_epoch, awaited_height_after, begun, begun_before, cut_of, event_of_step, events_taken, life_follows}
 use Rattle.dkg_script.specs.Progress.{Progress}
 use Rattle.dkg_script.specs.Setting.{Setting, CutAt, blocks_per_epoch, is_oneshot, life_at}
 use Rattle.dkg_script.specs.Views.{seen_block}
@@ -100,7 +100,7 @@ module _ (s : Setting) (ends : List (Option CutAt)) (whole : IsWholePast s ends)
   g = lived s.script l life seen files
 
   module _ (here : IsLifeInForm g) (meant : IsLifeOfSetting s ends g) (cuts : List (Option CutAt)) (never_back : awaited_before s cuts l ≤ awaited_epoch s l life 0 + 1)
-      (seen_at : (number : ℕ) (b : made.Block U) → slice_get (blocks_in s.script) number ≡ Some b → block_at s number ≡ Some (seen_block unit_spelling b)) where
+      (seen_at : (number : ℕ) (b : made.Block U) → slice_get (blocks_in s.script) number ≡ Some b → numbered_block s number ≡ Some (seen_block unit_spelling b)) where
     abbrev n : ℕ
     n = blocks_per_epoch s
 
@@ -108,7 +108,7 @@ module _ (s : Setting) (ends : List (Option CutAt)) (whole : IsWholePast s ends)
     e i = awaited_epoch s l life i
 
     abbrev h : ℕ → ℕ
-    h i = awaited_height s l life i
+    h i = awaited_height_after s l life i
 
     abbrev b : ℕ → ℕ
     b i = begun s cuts l i
@@ -187,15 +187,15 @@ module _ (s : Setting) (ends : List (Option CutAt)) (whole : IsWholePast s ends)
         same_part = ap (λ (x : Live U). x.participation) node.same
 
         -- it takes part in the same epoch on, or stands at the first height of another
-        goes : (block : made.Block U) → m.message ≡ Finalized block → h (suc i) ≡ max (h i) (block.height + 1) → core.awaited_height st ≡ h i → follows s l life (e (suc i)) ≡ false
+        goes : (block : made.Block U) → m.message ≡ Finalized block → h (suc i) ≡ max (h i) (block.height + 1) → core.awaited_height st ≡ h i → life_follows s l life (e (suc i)) ≡ false
             → (e (suc i) ≡ e i) ⊎ (h (suc i) ≤ midpoint n (e (suc i)))
         unfolding at_step
         goes block sent next stands part = by_next (next_so C any_shares st m.message (Some w.held) node.mid (Some new.held) (form_at g here (suc i)) live node.next)
           where
             apart : (node.mid).participation.stage ≡ Follows → ⊥
             apart stage =
-                bools_apart (follows s l life (e (suc i)))
-                (follows_alike s l life no_sync meant.none_found (e (suc i)) ∙ ap (follows (alone s.script) l life) (epoch_alike s l life no_sync meant.none_found (suc i)) ∙ behind.blind (ap (λ (x : Participation U). x.stage) same_part ∙ stage)) part
+                bools_apart (life_follows s l life (e (suc i)))
+                (follows_alike s l life no_sync meant.none_found (e (suc i)) ∙ ap (life_follows (alone s.script) l life) (epoch_alike s l life no_sync meant.none_found (suc i)) ∙ behind.blind (ap (λ (x : Participation U). x.stage) same_part ∙ stage)) part
 
             the_block : {x y : made.Block U} → ◌≡◌ {A = Message U} (Finalized x) (Finalized y) → x ≡ y
             the_block e = cc
@@ -274,7 +274,7 @@ module _ (s : Setting) (ends : List (Option CutAt)) (whole : IsWholePast s ends)
         its_is : slice_get life.events i ≡ Some (event.Final number)
         its_is = is ∙ ap (λ (x : script.Event). Some x) final
 
-        there : block_at s number ≡ Some (seen_block unit_spelling block)
+        there : numbered_block s number ≡ Some (seen_block unit_spelling block)
         there = seen_at number block made_it.is
 
         its_height : HasHeight s number block
@@ -364,7 +364,7 @@ left_noted s ends cuts more l life end m taken done reshares life_is lives is ta
           block_is = seen.block_is;
           height_is = seen.height_is;
           awaited = subst (λ (x : Life). awaited_epoch s l x (seen.step - 1) ≡ epoch) same_life (subst (λ (x : ℕ). awaited_epoch s x seen.life (seen.step - 1) ≡ epoch) of seen.awaited);
-          took_part = subst (λ (x : Life). follows s l x epoch ≡ false) same_life (subst (λ (x : ℕ). follows s x seen.life epoch ≡ false) of seen.took_part);
+          took_part = subst (λ (x : Life). life_follows s l x epoch ≡ false) same_life (subst (λ (x : ℕ). life_follows s x seen.life epoch ≡ false) of seen.took_part);
         })
           where
             of : seen.before ≡ l

@@ -20,10 +20,10 @@ use Rattle.dkg_infos.specs.declared.directory.Unit as directory
 use Rattle.dkg_text.specs.declared.script.Event as script
 use Rattle.dkg_text.specs.declared.script.Event.TheVariants as event
 use Rattle.dkg_text.specs.declared.script.Life.{Life}
-use Rattle.dkg_script.specs.Blocks.{Block, block_at, chain, round_at}
+use Rattle.dkg_script.specs.Blocks.{ScriptBlock, numbered_block, chain, round_at}
 use Rattle.dkg_script.specs.Epochs.{alone}
 use Rattle.dkg_script.specs.History.{WasSeen}
-use Rattle.dkg_script.specs.Position.{awaited_before, awaited_epoch, awaited_height, begun, begun_before, event_of_step, follows}
+use Rattle.dkg_script.specs.Position.{awaited_before, awaited_epoch, awaited_height_after, begun, begun_before, event_of_step, life_follows}
 use Rattle.dkg_script.specs.Setting.{Setting, CutAt, blocks_per_epoch, found, is_oneshot, life_at}
 use Rattle.dkg_script.specs.Views.{seen_block}
 use Rattle.dkg_core.specs.Blocks.{is_early, is_in_window_in}
@@ -38,7 +38,7 @@ use Rattle.dkg_core.specs.Seen.{Seen}
 use Rattle.dkg_core.specs.Sources.{Tip}
 use Rattle.dkg_core.specs.Through.{IsLiveThrough, unasked}
 use Rattle.dkg_core.proofs.Heights.{epoch_to}
-use Rattle.dkg_lives.specs.Epochs.{IsAt, IsLifeInForm, StandsInScript, any_shares, epoch_by}
+use Rattle.dkg_lives.specs.Epochs.{IsAtEvent, IsLifeInForm, StandsInScript, any_shares, epoch_by}
 use Rattle.dkg_lives.specs.Given.{Lived, at_step, lived}
 use Rattle.dkg_promises.specs.SharesStand.{IsWholePast}
 use Rattle.dkg_along.proofs.Alone.{epoch_alike, follows_alike, height_alike}
@@ -87,12 +87,12 @@ pub record WasGiven (s : Setting) (l : ℕ) (life : Life) (i epoch height : ℕ)
   pub step : ℕ
   pub upto : step ≤ i
   pub number : ℕ
-  pub block : Block
+  pub block : ScriptBlock
   pub is : event_of_step life step ≡ Some (event.Final number)
-  pub block_is : block_at s number ≡ Some block
+  pub block_is : numbered_block s number ≡ Some block
   pub height_is : block.height ≡ height
   pub awaited : awaited_epoch s l life (step - 1) ≡ epoch
-  pub took_part : follows s l life epoch ≡ false
+  pub took_part : life_follows s l life epoch ≡ false
 
 module _ (s : Setting) (ends : List (Option CutAt)) (l : ℕ) (life : Life) where
   -- .. or an earlier life was
@@ -102,8 +102,8 @@ module _ (s : Setting) (ends : List (Option CutAt)) (l : ℕ) (life : Life) wher
   -- WHAT IS RECORDED behind the first i events
   pub record IsRecording (cuts : List (Option CutAt)) (i : ℕ) (m : Notes RecordedLog) : Type 0 where
     pub noted : AreNoted s (begun s cuts l i) (Saw i) m
-    pub below : follows s l life (awaited_epoch s l life i) ≡ false → (round : Round) → round_at s (awaited_epoch s l life i) ≡ Some round
-        → HasBelow (brings_of s (awaited_epoch s l life i) round) (IsEarly s (awaited_epoch s l life i)) (λ d. get m (awaited_epoch s l life i, d)) (awaited_height s l life i)
+    pub below : life_follows s l life (awaited_epoch s l life i) ≡ false → (round : Round) → round_at s (awaited_epoch s l life i) ≡ Some round
+        → HasBelow (brings_of s (awaited_epoch s l life i) round) (IsEarly s (awaited_epoch s l life i)) (λ d. get m (awaited_epoch s l life i, d)) (awaited_height_after s l life i)
 
 -- before a life's first event earlier lives alone were given something
 pub saw_first : (s : Setting) (ends : List (Option CutAt)) (l : ℕ) (life : Life) (epoch height : ℕ) → Saw s ends l life 0 epoch height → WasSeen s ends l epoch height
@@ -125,7 +125,7 @@ module _ (s : Setting) (ends : List (Option CutAt)) (whole : IsWholePast s ends)
     e i = awaited_epoch s l life i
 
     abbrev h : ℕ → ℕ
-    h i = awaited_height s l life i
+    h i = awaited_height_after s l life i
 
     abbrev b : ℕ → ℕ
     b i = begun s cuts l i
@@ -169,14 +169,14 @@ module _ (s : Setting) (ends : List (Option CutAt)) (whole : IsWholePast s ends)
         first : AreNoted s (b 0) (Saw s ends l life 0) now
         first = noted_same s (begun_before s cuts l) (b 0) (WasSeen s ends l) (Saw s ends l life 0) m now (begun_more s reshares cuts l life 0 life_is) (saw_first s ends l life) same noted
 
-        by_place : follows s l life (e 0) ≡ false → (round : Round) → round_at s (e 0) ≡ Some round → (height : ℕ) → height < h 0 → (height < midpoint n (e 0)) ⊎ (midpoint n (e 0) ≤ height)
+        by_place : life_follows s l life (e 0) ≡ false → (round : Round) → round_at s (e 0) ≡ Some round → (height : ℕ) → height < h 0 → (height < midpoint n (e 0)) ⊎ (midpoint n (e 0) ≤ height)
             → HasThoseIn s (e 0) round now height
         by_place takes_part round known height low (inl early) = has_none s (e 0) round now height (inl early)
         by_place takes_part round known height low (inr late) = first.all (e 0) height round (current 0) known (inl (whole.missed l height life life_is takes_part late low))
 
     -- A STEP, from a state over devices that note this
 
-    module _ (i : ℕ) (its : script.Event) (is : slice_get life.events i ≡ Some its) (reached : IsReached life.cut (suc i)) (st : Live U) (at : IsAt g i st) (of_round : HasRoundOf s st) (m : Notes RecordedLog)
+    module _ (i : ℕ) (its : script.Event) (is : slice_get life.events i ≡ Some its) (reached : IsReached life.cut (suc i)) (st : Live U) (at : IsAtEvent g i st) (of_round : HasRoundOf s st) (m : Notes RecordedLog)
         (memory : st.records.logs ≡ entries m) (recording : IsRecording s ends l life cuts i m) where
       abbrev live : IsLiveThrough (c i) any_shares st
       live = at.live
@@ -202,13 +202,13 @@ module _ (s : Setting) (ends : List (Option CutAt)) (whole : IsWholePast s ends)
       round_is round there = ap (round_at s) (sym (number_is round there)) ∙ of_round round there
 
       -- it takes part where it has a round
-      pub takes_part : (round : Round) → st.participation.round ≡ Some round → follows s l life (e i) ≡ false
+      pub takes_part : (round : Round) → st.participation.round ≡ Some round → life_follows s l life (e i) ≡ false
       takes_part round there =
-          follows_alike s l life no_sync none_found (e i) ∙ ap (follows (alone s.script) l life) epoch_is ∙ standing.parts (with_round (c i) (unasked st) round live.stands there)
+          follows_alike s l life no_sync none_found (e i) ∙ ap (life_follows (alone s.script) l life) epoch_is ∙ standing.parts (with_round (c i) (unasked st) round live.stands there)
 
-      no_follower : follows s l life (e i) ≡ false → st.participation.stage ≡ Follows → ⊥
+      no_follower : life_follows s l life (e i) ≡ false → st.participation.stage ≡ Follows → ⊥
       no_follower part stage =
-          bools_apart (follows s l life (e i)) (follows_alike s l life no_sync none_found (e i) ∙ ap (follows (alone s.script) l life) epoch_is ∙ standing.blind stage) part
+          bools_apart (life_follows s l life (e i)) (follows_alike s l life no_sync none_found (e i) ∙ ap (life_follows (alone s.script) l life) epoch_is ∙ standing.blind stage) part
 
       -- A MESSAGE notes none
       pub mail_records : (now : Notes RecordedLog) → h (suc i) ≡ h i → ((epoch height : ℕ) → WasGiven s l life (suc i) epoch height → WasGiven s l life i epoch height)
@@ -217,7 +217,7 @@ module _ (s : Setting) (ends : List (Option CutAt)) (whole : IsWholePast s ends)
         noted = noted_same s (b i) (b (suc i)) (Saw s ends l life i) (Saw s ends l life (suc i)) m now (rises i) saw_before same recording.noted;
         below = λ part round known height low. has_more s (e (suc i)) round m now height (λ dealer. subst (λ (o : Option RecordedLog). IsSome o) (sym (same (e (suc i), dealer) (current (suc i)))))
             (subst (λ (x : ℕ). HasThoseIn s x round m height) (sym same_epoch)
-            (recording.below (subst (λ (x : ℕ). follows s l life x ≡ false) same_epoch part) round (subst (λ (x : ℕ). round_at s x ≡ Some round) same_epoch known) height (subst (λ (x : ℕ). height < x) same_height low)));
+            (recording.below (subst (λ (x : ℕ). life_follows s l life x ≡ false) same_epoch part) round (subst (λ (x : ℕ). round_at s x ≡ Some round) same_epoch known) height (subst (λ (x : ℕ). height < x) same_height low)));
       }
         where
           same_epoch : e (suc i) ≡ e i
@@ -228,7 +228,7 @@ module _ (s : Setting) (ends : List (Option CutAt)) (whole : IsWholePast s ends)
           saw_before epoch height (inr given) = inr (given_before epoch height given)
 
       -- A BLOCK
-      module _ (number : ℕ) (block : made.Block U) (its_is : slice_get life.events i ≡ Some (event.Final number)) (seen_there : block_at s number ≡ Some (seen_block unit_spelling block)) where
+      module _ (number : ℕ) (block : made.Block U) (its_is : slice_get life.events i ≡ Some (event.Final number)) (seen_there : numbered_block s number ≡ Some (seen_block unit_spelling block)) where
         abbrev C : Fixed U
         C = c (suc i)
 
@@ -236,14 +236,14 @@ module _ (s : Setting) (ends : List (Option CutAt)) (whole : IsWholePast s ends)
         its_live = live_at g i (suc i) st at.live
 
         pub on_chain : chain s block.height ≡ Some (seen_block unit_spelling block)
-        on_chain = subst (λ (o : Option Block). IfSome o (λ x. chain s x.height ≡ Some x)) seen_there
+        on_chain = subst (λ (o : Option ScriptBlock). IfSome o (λ x. chain s x.height ≡ Some x)) seen_there
             (of_delivered s l life (λ x. chain s x.height ≡ Some x) life_is (whole.consistent).one_chain i number (comes_to life.cut life.events i reached ∙ its_is))
 
         pub next_height : h (suc i) ≡ max (h i) (block.height + 1)
         next_height = block_behind s l life i number (seen_block unit_spelling block) its_is reached seen_there
 
         -- a round is there, where the life takes part
-        its_round : follows s l life (e i) ≡ false → (round : Round) × (st.participation.round ≡ Some round)
+        its_round : life_follows s l life (e i) ≡ false → (round : Round) × (st.participation.round ≡ Some round)
         its_round part = has_round C (unasked st) its_live.stands (no_follower part)
 
         -- below the midpoint it deals
@@ -411,7 +411,7 @@ module _ (s : Setting) (ends : List (Option CutAt)) (whole : IsWholePast s ends)
           -- WHERE IT IS COMPLETED
           module _ (end : Live U) (behind : LogsBehind C st (Finalized block) end) (end_memory : end.records.logs ≡ entries now) (judged : (judged_block C block st ≡ Passed) ⊎ (judged_block C block st ≡ Applied)) where
             -- what it brings is there
-            its_here : follows s l life (e i) ≡ false → b (suc i) < e i + 2 → (round : Round) → round_at s (e i) ≡ Some round → HasThoseIn s (e i) round now block.height
+            its_here : life_follows s l life (e i) ≡ false → b (suc i) < e i + 2 → (round : Round) → round_at s (e i) ≡ Some round → HasThoseIn s (e i) round now block.height
             unfolding at_step
             its_here part left round known = by_place (cases_lt block.height (midpoint n (e i))) (cases_lt block.height (last n (e i)))
               where
@@ -471,12 +471,12 @@ module _ (s : Setting) (ends : List (Option CutAt)) (whole : IsWholePast s ends)
                 last_one : given.step ≡ suc i → HasThoseIn s epoch round now height
                 last_one of =
                     let number_at : ◌≡◌ {A = Option script.Event} (Some (event.Final number)) (Some (event.Final given.number)) = sym its_is ∙ ap (event_of_step life) (sym of) ∙ given.is in
-                    let same_block : given.block ≡ seen_block unit_spelling block = some_is (sym given.block_is ∙ ap (block_at s) (sym (the_number number_at)) ∙ seen_there) in
-                    let same_height : block.height ≡ height = sym (ap (λ (x : Block). x.height) same_block) ∙ given.height_is in
+                    let same_block : given.block ≡ seen_block unit_spelling block = some_is (sym given.block_is ∙ ap (numbered_block s) (sym (the_number number_at)) ∙ seen_there) in
+                    let same_height : block.height ≡ height = sym (ap (λ (x : ScriptBlock). x.height) same_block) ∙ given.height_is in
                     let same_epoch : e i ≡ epoch = ap (λ (x : ℕ). awaited_epoch s l life x) (sym back) ∙ ap (λ (x : ℕ). awaited_epoch s l life (x - 1)) (sym of) ∙ given.awaited in
                     subst (λ (x : ℕ). HasThoseIn s epoch round now x) same_height
                     (subst (λ (x : ℕ). HasThoseIn s x round now block.height) same_epoch
-                    (its_here (subst (λ (x : ℕ). follows s l life x ≡ false) (sym same_epoch) given.took_part) (subst (λ (x : ℕ). b (suc i) < x + 2) (sym same_epoch) left) round
+                    (its_here (subst (λ (x : ℕ). life_follows s l life x ≡ false) (sym same_epoch) given.took_part) (subst (λ (x : ℕ). b (suc i) < x + 2) (sym same_epoch) left) round
                     (subst (λ (x : ℕ). round_at s x ≡ Some round) (sym same_epoch) known)))
                   where
                     back : suc i - 1 ≡ i
@@ -500,14 +500,14 @@ module _ (s : Setting) (ends : List (Option CutAt)) (whole : IsWholePast s ends)
                 by_step (inr at_least) = last_one (let most = given.upto in omega (arith, at_least, most))
 
             -- below the awaited height, in the same epoch or at the first height of another
-            below_next : (part : follows s l life (e (suc i)) ≡ false) → (e (suc i) ≡ e i) ⊎ (h (suc i) ≤ midpoint n (e (suc i))) → (round : Round) → round_at s (e (suc i)) ≡ Some round → (height : ℕ) → height < h (suc i)
+            below_next : (part : life_follows s l life (e (suc i)) ≡ false) → (e (suc i) ≡ e i) ⊎ (h (suc i) ≤ midpoint n (e (suc i))) → (round : Round) → round_at s (e (suc i)) ≡ Some round → (height : ℕ) → height < h (suc i)
                 → HasThoseIn s (e (suc i)) round now height
             below_next part (inr first) round known height low = has_none s (e (suc i)) round now height (inl (omega (arith, first, low)))
             below_next part (inl same) round known height low =
                 subst (λ (x : ℕ). HasThoseIn s x round now height) (sym same)
-                (by_place (subst (λ (x : ℕ). follows s l life x ≡ false) same part) (subst (λ (x : ℕ). b (suc i) < x + 2) same (current (suc i))) (subst (λ (x : ℕ). round_at s x ≡ Some round) same known) (cases_lt height (h i)))
+                (by_place (subst (λ (x : ℕ). life_follows s l life x ≡ false) same part) (subst (λ (x : ℕ). b (suc i) < x + 2) same (current (suc i))) (subst (λ (x : ℕ). round_at s x ≡ Some round) same known) (cases_lt height (h i)))
               where
-                by_place : follows s l life (e i) ≡ false → b (suc i) < e i + 2 → round_at s (e i) ≡ Some round → (height < h i) ⊎ (h i ≤ height) → HasThoseIn s (e i) round now height
+                by_place : life_follows s l life (e i) ≡ false → b (suc i) < e i + 2 → round_at s (e i) ≡ Some round → (height < h i) ⊎ (h i ≤ height) → HasThoseIn s (e i) round now height
                 by_place part left known (inl before) = has_more s (e i) round m now height (λ dealer. some_stays (e i, dealer) left) (recording.below part round known height before)
                 by_place part left known (inr high) = by_height (cases_lt height block.height)
                   where
@@ -531,7 +531,7 @@ module _ (s : Setting) (ends : List (Option CutAt)) (whole : IsWholePast s ends)
                     by_height (inl under) = between under judged
                     by_height (inr at) = subst (λ (x : ℕ). HasThoseIn s (e i) round now x) (let most = upto in omega (arith, at, most)) (its_here part left round known)
 
-            pub block_records : (follows s l life (e (suc i)) ≡ false → (e (suc i) ≡ e i) ⊎ (h (suc i) ≤ midpoint n (e (suc i)))) → IsRecording s ends l life cuts (suc i) now
+            pub block_records : (life_follows s l life (e (suc i)) ≡ false → (e (suc i) ≡ e i) ⊎ (h (suc i) ≤ midpoint n (e (suc i)))) → IsRecording s ends l life cuts (suc i) now
             block_records goes = record {
               noted = record { sound = block_notes.sound; all = saw_all };
               below = λ part round known height low. below_next part (goes part) round known height low;

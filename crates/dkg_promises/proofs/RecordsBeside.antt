@@ -14,7 +14,7 @@ use Rattle.dkg_infos.specs.declared.entry.Entry.TheVariants as entry
 use Rattle.dkg_text.specs.declared.script.Cut as cut
 use Rattle.dkg_text.specs.declared.script.Event as script
 use Rattle.dkg_text.specs.declared.script.Life.{Life}
-use Rattle.dkg_script.specs.Blocks.{block_at}
+use Rattle.dkg_script.specs.Blocks.{numbered_block}
 use Rattle.dkg_script.specs.History.{WasSeen}
 use Rattle.dkg_script.specs.Order.{InLife, IsInOrder, IsOrderedCut}
 use Rattle.dkg_script.specs.Position.{awaited_before, awaited_epoch, begun, begun_before}
@@ -70,7 +70,7 @@ front_of s ends b more front =
 
 module _ (s : Setting) (ends : List (Option CutAt)) (reshares : is_oneshot s ≡ false) (whole : IsWholePast s ends)
     (meant : (l : ℕ) (life : Life) (seen : Held → Seen) (files : Files) → life_at s l ≡ Some life → by_worlds.reads seen → IsLifeInForm (lived s.script l life seen files) × IsLifeOfSetting s ends (lived s.script l life seen files))
-    (seen_at : (number : ℕ) (b : made.Block U) → slice_get (blocks_in s.script) number ≡ Some b → block_at s number ≡ Some (seen_block unit_spelling b)) where
+    (seen_at : (number : ℕ) (b : made.Block U) → slice_get (blocks_in s.script) number ≡ Some b → numbered_block s number ≡ Some (seen_block unit_spelling b)) where
   -- what the devices note between lives,
   abbrev pub RecordsBetween : Type 0 → ℕ → World → List Entry → Type 0
   RecordsBetween marks l w b = IsFront s ends b → AreNoted s (begun_before s (come s b).cuts l) (WasSeen s ends l) (logs_in (notes w.held))

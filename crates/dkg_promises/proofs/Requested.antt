@@ -22,7 +22,7 @@ use Rattle.dkg_text.specs.declared.script.Event.TheVariants as event
 use Rattle.dkg_store.specs.Acts.{Held}
 use Rattle.dkg_script.specs.Asked.{AskAnew}
 use Rattle.dkg_core.specs.Asked.{InRound, IsEmptied}
-use Rattle.dkg_core.specs.Blocks.{unoffered, with_log, without_own_log}
+use Rattle.dkg_core.specs.Blocks.{unoffered, with_log_at, without_own_log}
 use Rattle.dkg_core.specs.Fixed.{Fixed}
 use Rattle.dkg_core.specs.Forms.{Applied, Judged, Passed, Refusal, judged_block}
 use Rattle.dkg_core.specs.Including.{Found, read_of, releases, is_served_at}
@@ -33,10 +33,10 @@ use Rattle.dkg_core.specs.Logs.{canonical, filled_by, is_accepted}
 use Rattle.dkg_laws.specs.NodeThrough.{IsNodeThrough}
 use Rattle.dkg_core.specs.Setup.{begins_inclusion}
 use Rattle.dkg_core.specs.Stepping.{dealt_behind, given_itself}
-use Rattle.dkg_core.specs.Through.{IsAppliedThrough, IsBlockThrough, IsEndThrough, IsFollowedThrough, IsIncludedThrough, IsLiveThrough, IsReadFrom, asked_by, finished, included, observed, observed_log, waits_for}
+use Rattle.dkg_core.specs.Through.{IsAppliedThrough, IsBlockThrough, IsEndThrough, IsFollowedThrough, IsIncludedThrough, IsLiveThrough, IsReadFrom, asked_by, verification_ended, included, observed, observed_log, waits_for}
 use Rattle.dkg_core.proofs.Heights.{epoch_is}
 use Rattle.dkg_core.proofs.StepDealing as dealing
-use Rattle.dkg_lives.specs.Asks.{RequestStanding, Unmade, Open, Closed, Cancelled, IsUncancelled, WereAsked, bounds_in, fed_in, scan_tip, standing_of, turns}
+use Rattle.dkg_lives.specs.Asks.{RequestStanding, Unmade, Open, Closed, Cancelled, IsUncancelled, WereAsked, bounds_in, fed_in, scan_tip, request_standing, turns}
 use Rattle.dkg_lives.specs.Blamed.{per_epoch, tip_in}
 use Rattle.dkg_lives.specs.Epochs.{IsLifeInForm, StandsInScript, any_shares, epoch_by}
 use Rattle.dkg_lives.specs.Given.{Lived, at_step, blocks_in, numbered}
@@ -151,9 +151,9 @@ module _ (c : Fixed U) where
   pub observed_part : (st : Live U) (round : Round) (b : Block U) → IsSamePart st (observed c round b st)
   observed_part st round b = by_log (option_and_then its_log b.payload)
     where
-      by_tests : (log : SignedDealerLog) (one two : Bool) → IsSamePart st (if one then without_own_log c log.dealer (if two then st else with_log round.number log.dealer b.height log.log st) else st)
+      by_tests : (log : SignedDealerLog) (one two : Bool) → IsSamePart st (if one then without_own_log c log.dealer (if two then st else with_log_at round.number log.dealer b.height log.log st) else st)
       by_tests log true true = cleared_part log.dealer st
-      by_tests log true false = let its = cleared_part log.dealer (with_log round.number log.dealer b.height log.log st) in record { epoch = its.epoch; round = its.round; current = its.current }
+      by_tests log true false = let its = cleared_part log.dealer (with_log_at round.number log.dealer b.height log.log st) in record { epoch = its.epoch; round = its.round; current = its.current }
       by_tests log false two = record { epoch = refl; round = refl; current = refl }
 
       by_log : (o : Option SignedDealerLog) → IsSamePart st (observed_log c round b st o)
@@ -224,7 +224,7 @@ module _ (g : Lived) where
     pub before : at < j
     pub made : slice_get g.life.events at ≡ Some (event.Info r.number)
     pub same : epoch_by g at ≡ e
-    pub stands : standing_of g.life r.number j ≡ stands_as r.ended
+    pub stands : request_standing g.life r.number j ≡ stands_as r.ended
     pub fed : r.blocks ≡ fed_in g.script g.life r.number j
 
 module _ (g : Lived) (Known : Knows) where
@@ -234,7 +234,7 @@ module _ (g : Lived) (Known : Knows) where
     pub before : at < j
     pub made : slice_get g.life.events at ≡ Some (event.Info number)
     pub same : epoch_by g at ≡ e
-    pub uncancelled : IsUncancelled (standing_of g.life number j)
+    pub uncancelled : IsUncancelled (request_standing g.life number j)
     pub job : Job
     pub runs : running ≡ Some job
     pub its_round : Round
@@ -417,7 +417,7 @@ module _ (g : Lived) (here : IsLifeInForm g) (i : ℕ) (its : Event) (is : slice
     before = more was.at was.before;
     made = was.made;
     same = was.same;
-    uncancelled = subst IsUncancelled (sym (stands_more number g.life i its is)) (spares (standing_of g.life number i) was.uncancelled);
+    uncancelled = subst IsUncancelled (sym (stands_more number g.life i its is)) (spares (request_standing g.life number i) was.uncancelled);
     job = was.job;
     runs = was.runs;
     its_round = was.its_round;
@@ -616,18 +616,18 @@ module _ {Known : Knows} (g : Lived) (here : IsLifeInForm g) (i : ℕ) (its : Ev
         by_waiter o there = subst (λ (x : Option ℕ). Ready (if option_map_or (λ n. n == request) x false then without else others).inclusion) (sym there) (by_test o there (option_map_or (λ n. n == request) o false) refl)
 
   -- a verification that ends waits for nobody
-  worked : its ≡ event.Work → Ready (finished st).inclusion
+  worked : its ≡ event.Work → Ready (verification_ended st).inclusion
   worked of = record { queue = all_on g here i its is st.inclusion.queue (λ n. subst (λ (x : Event). Spares x n) (sym of) (spares_work n)) was.queue; waiter = tt }
 
   -- a new one's number is that of none
   pub new_one : (request : ℕ) → its ≡ event.Info request → LacksNumber request st.inclusion.queue × IfSome st.inclusion.waiter (λ number. request ≡ number → ⊥)
   new_one request of = (lacks st.inclusion.queue was.queue, waits st.inclusion.waiter was.waiter)
     where
-      unmade : standing_of g.life request i ≡ Unmade
+      unmade : request_standing g.life request i ≡ Unmade
       unmade = made_anew g.life i request (life_in g here).anew (is ∙ ap (λ (x : Event). Some x) of)
 
-      apart : (number : ℕ) → number ≡ request → IsUncancelled (standing_of g.life number i) → ⊥
-      apart number same its = subst IsUncancelled (ap (λ (n : ℕ). standing_of g.life n i) same ∙ unmade) its
+      apart : (number : ℕ) → number ≡ request → IsUncancelled (request_standing g.life number i) → ⊥
+      apart number same its = subst IsUncancelled (ap (λ (n : ℕ). request_standing g.life n i) same ∙ unmade) its
 
       lacks : (rs : List (Request U)) → AllByRecursion (IsHeld g now i) rs → LacksNumber request rs
       lacks [] all = tt

@@ -49,9 +49,9 @@ use Rattle.dkg_core.specs.Fixed.{Fixed, Material, OneShot, has, start}
 use Rattle.dkg_core.specs.Forms.{Applied, IsForm, Judged, Passed, judged_block}
 use Rattle.dkg_laws.specs.Idle.{IsAskedLine}
 use Rattle.dkg_core.specs.Including as i
-use Rattle.dkg_core.specs.Including.{Next, cached_for}
-use Rattle.dkg_core.specs.Live.{Artifact, Deals, Dealer, Ends, Faulted, Finalized, Follows, GaveNone, Includes, Job, Live, NodeStop, Peer, Plays, Request, Seat, Sent, Stage, Verified, VerifiedLogs, Watches, awaited_height, is_last_height, of_epoch, phase_of, recorded_at, with_participation, with_queue, with_tip, with_told}
-use Rattle.dkg_core.specs.Logs.{canonical, is_accepted, log_event, logs_of}
+use Rattle.dkg_core.specs.Including.{Continuation, cached_for}
+use Rattle.dkg_core.specs.Live.{Artifact, Deals, Dealer, Ends, Faulted, Finalized, Follows, GaveNone, Includes, Job, Live, NodeStop, Peer, Plays, Request, Seat, Sent, Stage, Verified, VerifiedLogs, Watches, awaited_height, is_last_height, records_of_epoch, phase_of, recorded_at, with_participation, with_queue, with_tip, with_told}
+use Rattle.dkg_core.specs.Logs.{canonical, is_accepted, carried_log_event, logs_of}
 use Rattle.dkg_core.specs.Node.{kept_material, node_opening, node_step, unless_once}
 use Rattle.dkg_core.specs.Plans as p
 use Rattle.dkg_core.specs.SayingThrough.{SaysSo}
@@ -360,8 +360,8 @@ module _ {Dir : Type 0} (c : Fixed Dir) where
 
   deals_plain : (now : Live Dir) → IsQuiet (d.deals c now)
   deals_plain now =
-      quiet_option (λ (round : Round). option_map_or (λ its. d.offers c round its.public (s.unsent round its) now) now.participation.dealer (Goes now)) now.participation.round (Goes now)
-      (λ round. quiet_option (λ (its : Dealer). d.offers c round its.public (s.unsent round its) now) now.participation.dealer (Goes now) (λ its. offers round its.public (s.unsent round its) now) tt) tt
+      quiet_option (λ (round : Round). option_map_or (λ its. d.offers c round its.public (s.unsent_of_round round its) now) now.participation.dealer (Goes now)) now.participation.round (Goes now)
+      (λ round. quiet_option (λ (its : Dealer). d.offers c round its.public (s.unsent_of_round round its) now) now.participation.dealer (Goes now) (λ its. offers round its.public (s.unsent_of_round round its) now) tt) tt
 
   checked_dealing : (round : Round) (from : ℕ) (public : List ℕ) (private : ℕ) (now : Live Dir) (check : Result (Unit {0}) DealingError) → IsQuiet (d.checked_dealing c round from public private now check)
   checked_dealing round from public private now (Err e) = (tt, tt)
@@ -397,7 +397,7 @@ module _ {Dir : Type 0} (c : Fixed Dir) where
   observes_plain round block st (Some log) = by_tests (is_accepted c round log) (is_some (recorded_at st.records.logs round.number log.dealer))
     where
       by_tests : (accepted kept : Bool)
-          → IsQuiet {Dir = Dir} (if accepted then bind (if kept then Goes st else d.appends round.number (log_event log.dealer block.height log.log) (Goes (b.with_log round.number log.dealer block.height log.log st)))
+          → IsQuiet {Dir = Dir} (if accepted then bind (if kept then Goes st else d.appends round.number (carried_log_event log.dealer block.height log.log) (Goes (b.with_log_at round.number log.dealer block.height log.log st)))
           (λ now. Goes (b.without_own_log c log.dealer now)) else Goes st)
       by_tests true true = tt
       by_tests true false = (tt, tt)
@@ -441,7 +441,7 @@ module _ {Dir : Type 0} (c : Fixed Dir) where
 
     makes_player : (round : Round) (phase : Phase) (dealer : Option Dealer) (now : Live Dir) (x : Telling) → x.untold ≡ None → Leads IsSetUpBy x (s.makes_player c round phase dealer now)
     makes_player round phase dealer now x none =
-        if_so x (not (has round.players c.me) || s.is_lost c round (of_epoch round.number now.records.dealings) (logs_of now round.number)) (s.takes_part c round phase dealer Watches now)
+        if_so x (not (has round.players c.me) || s.is_lost c round (records_of_epoch round.number now.records.dealings) (logs_of now round.number)) (s.takes_part c round phase dealer Watches now)
         (s.sits_down c round phase dealer (s.refused_in c round now) now) (λ e. takes_part round phase dealer Watches now x none) (λ e. sits_down round phase dealer (s.refused_in c round now) now x none)
 
     dealt_by : (round : Round) (phase : Phase) (now : Live Dir) (dealt : Result (List ℕ × List (ℕ × ℕ)) DealError) (x : Telling) → x.untold ≡ None → Leads IsSetUpBy x (s.dealt_by c round phase now dealt)
@@ -473,7 +473,7 @@ module _ {Dir : Type 0} (c : Fixed Dir) where
     commits goes info seed (Some share) now next x none at into more = ((none, into), (tt, ((refl, (at, into)), more (record { last = x.last; untold = None }) refl at)))
 
     judged : (standing : s.Standing) (info : EpochInfo Dir) (now : Live Dir) (valid : Result (Unit {0}) ParticipantsError) (x : Telling) → x.untold ≡ None → At x.last → now.participation.epoch - 1 ≤ most → (standing ≡ s.Uncommitted → Into info.epoch)
-        → Leads IsSetUpBy x (s.judged c None standing info now valid)
+        → Leads IsSetUpBy x (s.info_judged c None standing info now valid)
     judged standing info now (Err e) x none at low into = tt
     judged s.WasCommitted info now (Ok passed) x none at low into = λ h. behind_prune info (s.recovered_share c (c.seen h) info) (s.seed_for c info.epoch (lookup info.epoch (c.seen h).seeds)) now x none low
     judged s.Uncommitted info now (Ok passed) x none at low into = λ h.
@@ -486,7 +486,7 @@ module _ {Dir : Type 0} (c : Fixed Dir) where
 
     with_info : (standing : s.Standing) (info : EpochInfo Dir) (now : Live Dir) (x : Telling) → x.untold ≡ None → At x.last → now.participation.epoch - 1 ≤ most → (standing ≡ s.Uncommitted → Into now.participation.epoch) → Leads IsSetUpBy x (s.with_info c None standing info now)
     with_info standing info now x none at low into =
-        if_so x (info.epoch == now.participation.epoch) (s.judged c None standing info now (validity c info)) (Stops (WrongEpoch now.participation.epoch info.epoch))
+        if_so x (info.epoch == now.participation.epoch) (s.info_judged c None standing info now (validity c info)) (Stops (WrongEpoch now.participation.epoch info.epoch))
         (λ e. judged standing info now (validity c info) x none at low (λ is. subst Into (sym (same_number info.epoch now.participation.epoch e)) (into is))) (λ e. tt)
 
     -- (without its boundary block there is no round)
@@ -518,8 +518,8 @@ module _ {Dir : Type 0} (c : Fixed Dir) where
         where
           opens : (now : Live Dir) (y : Telling) → y.untold ≡ None → At y.last → Leads IsSetUpBy y (opens_in c c.oneshot now)
           opens now y none its = subst (λ (o : Option (OneShot Dir)). Leads IsSetUpBy y (opens_in c o now)) (sym form.reshare)
-              (subst (λ (m : Option (Material Dir)). Leads IsSetUpBy y (p.finds_material c m (λ found. p.in_range c (p.resolves_plan c (p.starts_from c now) found)))) (sym form.bare)
-              (λ h. subst (λ (found : Option (List ℕ)). Leads IsSetUpBy y (p.reads_plan c found (λ found. p.in_range c (p.resolves_plan c (p.starts_from c now) found)))) (sym (form.unplanned h))
+              (subst (λ (m : Option (Material Dir)). Leads IsSetUpBy y (p.finds_material c m (λ found. p.stays_in_range c (p.resolves_plan c (p.starts_from c now) found)))) (sym form.bare)
+              (λ h. subst (λ (found : Option (List ℕ)). Leads IsSetUpBy y (p.reads_plan c found (λ found. p.stays_in_range c (p.resolves_plan c (p.starts_from c now) found)))) (sym (form.unplanned h))
               (if_so y (option_map_or (λ t. s.is_past_range c (t.height + 1)) (start c) false) (Stops HeightRange) (p.starts_from c now None) (λ e. tt)
               (λ e. setup_so (record now { tip = startup c.source.anchor None }) y none its low into))))
 
@@ -561,7 +561,7 @@ module _ {Dir : Type 0} (c : Fixed Dir) where
             (λ e. carried (λ info. b.takes_over c block info (b.share_for c info made) now) x (λ info its. takes_over info (b.share_for c info made) now x none at its))
 
         -- the artifact tells nothing on the way
-        module _ (x : Telling) (next : Next Dir) (so : (made : Artifact Dir) (now : Live Dir) → Leads IsSetUpBy x (next made now)) where
+        module _ (x : Telling) (next : Continuation Dir) (so : (made : Artifact Dir) (now : Live Dir) → Leads IsSetUpBy x (next made now)) where
           with_directory : (info : EpochInfo Dir) (acts : Course Dir Fault (Live Dir)) → Leads IsSetUpBy x acts → Leads IsSetUpBy x (i.with_directory c info acts)
           with_directory info acts its = if_so x (c.directories.matches info.directory (i.info_peers info)) acts (Stops (DirectoryMismatch info.epoch)) (λ e. its) (λ e. tt)
 
@@ -577,19 +577,19 @@ module _ {Dir : Type 0} (c : Fixed Dir) where
           share_by info (Some its) f each = each its.share
           share_by info None f each = if_so x (has info.output.players c.me) (s.looks c (λ seen. f (lookup info.epoch seen.shares))) (f None) (λ e h. each (lookup info.epoch (c.seen h).shares)) (λ e. each None)
 
-          derives_next : (info : EpochInfo Dir) (r : VerifiedLogs) (now : Live Dir) → Leads IsSetUpBy x (i.derives_next c info r now (i.keeping r.logs next))
+          derives_next : (info : EpochInfo Dir) (r : VerifiedLogs) (now : Live Dir) → Leads IsSetUpBy x (i.derives_next c info r now (i.keeping_artifact r.logs next))
           derives_next info r now =
               let made : EpochInfo Dir = info_by c.provided info (option_map (λ (found : Verified). found.output) r.result) in
-              let goes : Option ℕ → Course Dir Fault (Live Dir) = λ share. i.with_directory c made (i.keeping r.logs next (record { info = Some made; share = share }) now) in
+              let goes : Option ℕ → Course Dir Fault (Live Dir) = λ share. i.with_directory c made (i.keeping_artifact r.logs next (record { info = Some made; share = share }) now) in
               with_provided (info.epoch + 2) (i.share_by c info r.result goes)
-              (share_by info r.result goes (λ share. with_directory made (i.keeping r.logs next (record { info = Some made; share = share }) now)
+              (share_by info r.result goes (λ share. with_directory made (i.keeping_artifact r.logs next (record { info = Some made; share = share }) now)
               (so (record { info = Some made; share = share }) (i.with_cached r.logs (record { info = Some made; share = share }) now))))
 
           artifact_so : (r : VerifiedLogs) (cached : Option (Artifact Dir)) (now : Live Dir) → Leads IsSetUpBy x (i.artifact_by c r cached now next)
           artifact_so r (Some made) now = so made now
           artifact_so r None now =
               subst (λ (o : Option (OneShot Dir)). Leads IsSetUpBy x (i.derives c o r now next)) (sym form.reshare)
-              (leads_option Into most At IsSetUpBy x (λ (info : EpochInfo Dir). i.derives_next c info r now (i.keeping r.logs next)) now.participation.current (Stops HeightRange) (λ info. derives_next info r now) tt)
+              (leads_option Into most At IsSetUpBy x (λ (info : EpochInfo Dir). i.derives_next c info r now (i.keeping_artifact r.logs next)) now.participation.current (Stops HeightRange) (λ info. derives_next info r now) tt)
 
         module _ (round : Round) (x : Telling) (none : x.untold ≡ None) (at : At x.last) where
           by_result : (r : VerifiedLogs) (now : Live Dir) → Leads IsSetUpBy x (i.artifact c r now (b.concludes c block))
@@ -599,7 +599,7 @@ module _ {Dir : Type 0} (c : Fixed Dir) where
           starts_quiet job waiter (Some who) now = tt
           starts_quiet job waiter None now = tt
 
-          derives_now : (logs : LogMap) (retained : Option VerifiedLogs) (now : Live Dir) → Leads IsSetUpBy x (b.derives_now c round block logs retained now)
+          derives_now : (logs : LogMap) (retained : Option VerifiedLogs) (now : Live Dir) → Leads IsSetUpBy x (b.derives_at_block c round block logs retained now)
           derives_now logs (Some r) now = by_result r now
           derives_now logs None now =
               let found : VerifiedLogs = i.verified c (i.job_for c round logs now) in

@@ -23,13 +23,13 @@ use Rattle.dkg_script.specs.Consistent.{IsConsistentScript}
 use Rattle.dkg_script.specs.Epochs.{alone}
 use Rattle.dkg_script.specs.Inclusion.{IsFormOfInclusion}
 use Rattle.dkg_script.specs.Position.{awaited_epoch}
-use Rattle.dkg_script.specs.Order.{Begins, InLife, IsInOrder}
+use Rattle.dkg_script.specs.Order.{LetsBegin, InLife, IsInOrder}
 use Rattle.dkg_script.specs.Progress.{Progress, at_start, progress, read}
 use Rattle.dkg_script.specs.Promise.{cuts_in}
 use Rattle.dkg_script.specs.Setting.{CutAt, Setting, found, life_at, setting_of}
 use Rattle.dkg_script.proofs.EachEntry.{progress-more}
 use Rattle.dkg_script.proofs.InclusionAsCut.{inclusion_as_cut}
-use Rattle.dkg_lives.specs.Blamed.{IsAskedOwn, IsBlockCause, IsBlockOwn, IsFromOutside, IsLastCause, IsLastOwn, IsNextCause, IsOpeningCause, IsOwnCause, IsOwnDealing, IsProviderCause, IsWhy, IsWhyNow, OnBlock, OnCarried, first_epoch_in, is_beyond, next_epoch, opening_block, per_epoch, refusal_in}
+use Rattle.dkg_lives.specs.Blamed.{IsAskedOwn, IsBlockCause, IsBlockOwn, IsFromOutside, IsLastCause, IsLastOwn, IsNextCause, IsOpeningCause, IsOwnCause, IsOwnDealing, IsProviderCause, IsWhy, IsWhyNow, OnBlock, OnCarried, first_epoch_in, is_beyond, epoch_behind, opening_block, per_epoch, refusal_in}
 use Rattle.dkg_lives.specs.Epochs.{IsAnchorAbove, IsChecked}
 use Rattle.dkg_lives.specs.Given.{AreBytes, blocks_in}
 use Rattle.dkg_lives.specs.Lives.{AnyFiles, RunsSo, TellsEnd}
@@ -106,7 +106,7 @@ last_apart script l life j b its refusal (inr next) = next_apart script b its re
 
 last_own_apart : (script : Script) (l : ℕ) (life : Life) (j : ℕ) (b : Block directory.Unit) (its : Fault) → IsRefusal its → IsLastOwn script l life j b its → ⊥
 last_own_apart script l life j b its refusal (inl next) =
-    carried_none (λ info. IsOwnCause script (next_epoch script b) info its) (λ info why. own_apart script (next_epoch script b) info its refusal why) (Some b) next
+    carried_none (λ info. IsOwnCause script (epoch_behind script b) info its) (λ info why. own_apart script (epoch_behind script b) info its refusal why) (Some b) next
 last_own_apart script l life j b its refusal (inr asked) = asked_apart script life j (epoch_of (per_epoch script) b.height) its refusal asked.1
 
 opening_apart : (script : Script) (l : ℕ) (life : Life) (its : Fault) → IsRefusal its → IsOpeningCause script l life its → ⊥
@@ -250,17 +250,17 @@ module _ (script : Script) (form : IsFormOfInclusion script) (checked : IsChecke
               of_cause (inl out) = absurd (outside_apart its refusal out)
               of_cause (inr why) = why
 
-          placed : ((p.cuts ≡ []) × (p.step ≡ 0) × (p.written ≡ [])) ⊎ InLife s p (Begins p)
+          placed : ((p.cuts ≡ []) × (p.step ≡ 0) × (p.written ≡ [])) ⊎ InLife s p (LetsBegin p)
           placed = of_order (subst (λ (es : List Entry). MayTell its s (fold (read s) (at_start s) es)) (append_cancel_left old ordered.added judged.added (sym ordered.parts ∙ judged.parts)) (ordered.to s (at_start s) (starts cut_script files held)))
             where
-              of_order : MayTell its s p → ((p.cuts ≡ []) × (p.step ≡ 0) × (p.written ≡ [])) ⊎ InLife s p (Begins p)
+              of_order : MayTell its s p → ((p.cuts ≡ []) × (p.step ≡ 0) × (p.written ≡ [])) ⊎ InLife s p (LetsBegin p)
               of_order (inl wants) = absurd (subst IsRefusal wants refusal)
               of_order (inr so) = so
 
           consistent : IsConsistentScript s (cuts_in s added)
           consistent = honest.source [] (history_of s (cuts_in s added) cut_form built.no_plan refl)
 
-          by_life : (o : Option Life) → life_at s (length p.cuts) ≡ o → IsSomeAnd o (λ life. IsWhy cut_script (length p.cuts) life p.step its) → ((p.cuts ≡ []) × (p.step ≡ 0) × (p.written ≡ [])) ⊎ IsSomeAnd o (Begins p)
+          by_life : (o : Option Life) → life_at s (length p.cuts) ≡ o → IsSomeAnd o (λ life. IsWhy cut_script (length p.cuts) life p.step its) → ((p.cuts ≡ []) × (p.step ≡ 0) × (p.written ≡ [])) ⊎ IsSomeAnd o (LetsBegin p)
               → SkipsNow s (cuts_in s added) its
           by_life None life_is why so = absurd why
           by_life (Some life) life_is why (inl start) =

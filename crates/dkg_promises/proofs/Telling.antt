@@ -30,8 +30,8 @@ use Rattle.dkg_script.specs.Setting.{setting_of}
 use Rattle.dkg_store.specs.Acts.{Held}
 use Rattle.dkg_core.specs.Seen.{Seen}
 use Rattle.dkg_core.specs.Sources.{Tip}
-use Rattle.dkg_lives.specs.Blamed.{IsAskedOwn, IsBlockCause, IsBlockOwn, IsFromOutside, IsInfoCause, IsLastCause, IsLastOwn, IsNextCause, IsOpeningCause, IsOwnCause, IsOwnDealing, IsProviderCause, IsWhy, IsWhyNow, OnBlock, OnCarried, first_epoch_in, is_beyond, is_first_taken, next_epoch, opening_block, per_epoch, refusal_by, refusal_in, tip_in}
-use Rattle.dkg_lives.specs.Causes.{HasCause}
+use Rattle.dkg_lives.specs.Blamed.{IsAskedOwn, IsBlockCause, IsBlockOwn, IsFromOutside, IsInfoCause, IsLastCause, IsLastOwn, IsNextCause, IsOpeningCause, IsOwnCause, IsOwnDealing, IsProviderCause, IsWhy, IsWhyNow, OnBlock, OnCarried, first_epoch_in, is_beyond, is_first_taken, epoch_behind, opening_block, per_epoch, refusal_by, refusal_in, tip_in}
+use Rattle.dkg_lives.specs.Causes.{HasDeviceCause}
 use Rattle.dkg_script.specs.Ends.{EndsFaulted, EndsRun, HasRisen, IsToldFault}
 use Rattle.dkg_lives.specs.Epochs.{IsChecked, IsLifeInForm}
 use Rattle.dkg_lives.specs.Given.{blocks_in, lived}
@@ -113,7 +113,7 @@ refusal_tellable script l life j b its is = one_of its (is_beyond script b.heigh
 next_tellable : (script : Script) (b : Block directory.Unit) (its : Fault) → IsNextCause script b its → IsToldFault its
 next_tellable script b (fault.MissingEpochInfo height) why = tt
 next_tellable script b fault.HeightRange why = tt
-next_tellable script b its why = on_carried (λ info. IsInfoCause script (next_epoch script b) info its) (Some b) why (λ info so. info_tellable script (next_epoch script b) info its so)
+next_tellable script b its why = on_carried (λ info. IsInfoCause script (epoch_behind script b) info its) (Some b) why (λ info so. info_tellable script (epoch_behind script b) info its so)
 
 opening_tellable : (script : Script) (l : ℕ) (life : Life) (its : Fault) → IsOpeningCause script l life its → IsToldFault its
 opening_tellable script l life fault.HeightRange why = tt
@@ -139,7 +139,7 @@ last_tellable script l life j b its (inl provider) = provider_tellable script (e
 last_tellable script l life j b its (inr next) = next_tellable script b its next
 
 last_own_tellable : (script : Script) (l : ℕ) (life : Life) (j : ℕ) (b : Block directory.Unit) (its : Fault) → IsLastOwn script l life j b its → IsToldFault its
-last_own_tellable script l life j b its (inl next) = on_carried (λ info. IsOwnCause script (next_epoch script b) info its) (Some b) next (λ info so. own_tellable script (next_epoch script b) info its so)
+last_own_tellable script l life j b its (inl next) = on_carried (λ info. IsOwnCause script (epoch_behind script b) info its) (Some b) next (λ info so. own_tellable script (epoch_behind script b) info its so)
 last_own_tellable script l life j b its (inr asked) = asked_tellable script life j (epoch_of (per_epoch script) b.height) its asked.1
 
 block_tellable : (script : Script) (l : ℕ) (life : Life) (j : ℕ) (b : Block directory.Unit) (its : Fault) → IsBlockCause script l life j b its → IsToldFault its
@@ -170,7 +170,7 @@ now_tellable script p its (inr so) = on_there (λ life. IsWhy script (length p.c
 
 -- THE CLAUSE of ends
 
-has_risen : (its : Fault) (disk_rose secrets_rose : Type 0) → its ≢ fault.NoMemory → IsTellable its → HasCause its disk_rose secrets_rose → HasRisen its disk_rose secrets_rose
+has_risen : (its : Fault) (disk_rose secrets_rose : Type 0) → its ≢ fault.NoMemory → IsTellable its → HasDeviceCause its disk_rose secrets_rose → HasRisen its disk_rose secrets_rose
 has_risen its disk_rose secrets_rose not (inl is) cause = absurd (not is)
 has_risen fault.Disk disk_rose secrets_rose not (inr today) cause = cause
 has_risen fault.Secrets disk_rose secrets_rose not (inr today) cause = cause
@@ -183,7 +183,7 @@ ends_faulted its entries disk_rose secrets_rose not ends cause = (ends, cause)
 
 module _ (script : Script) (checked : IsChecked script) (each_over : (l : ℕ) (life : Life) (seen : Held → Seen) (files : Files) → slice_get script.lives l ≡ Some life → ReadsSomething seen → IsLifeInForm (lived script l life seen files)) where
   pub run_ends : (first : Files → Type 0) (t new : Trace) (answered : Result (Unit {0}) Fault) (disk_rose secrets_rose : Type 0)
-      → IfErr answered (λ its. HasCause its disk_rose secrets_rose) → RunsSo by_lines script first t answered new → Adds t.out new.out (λ added. EndsRun answered added disk_rose secrets_rose)
+      → IfErr answered (λ its. HasDeviceCause its disk_rose secrets_rose) → RunsSo by_lines script first t answered new → Adds t.out new.out (λ added. EndsRun answered added disk_rose secrets_rose)
   run_ends first t new answered disk_rose secrets_rose causes run = by_result run.result (all_judged script checked each_over first t run.mid run.result run.lives) answered causes run.told
     where
       not_ok : (its : Fault) → TellsEnd by_lines (Err its) (Ok tt) run.mid new → ⊥
@@ -196,7 +196,7 @@ module _ (script : Script) (checked : IsChecked script) (each_over : (l : ℕ) (
           let s = setting_of script files held in
           now_tellable script (fold (read s) (at_start s) moves.added) its (moves.to s (at_start s) (starts script files held))
 
-      faulted : (its answered : Fault) → Moves (Judges script) (IsBetweenOf script 0) (TellsWhy script its) t.out run.mid.out → HasCause answered disk_rose secrets_rose
+      faulted : (its answered : Fault) → Moves (Judges script) (IsBetweenOf script 0) (TellsWhy script its) t.out run.mid.out → HasDeviceCause answered disk_rose secrets_rose
           → TellsFault its answered run.mid.out new.out → Adds t.out new.out (λ added. EndsFaulted answered added disk_rose secrets_rose)
       faulted its answered moves cause (inl none) =
           (moves.added, none.1 ∙ moves.parts, subst (λ (x : Fault). EndsFaulted x moves.added disk_rose secrets_rose) (sym none.0) moves.no_fault)
@@ -205,11 +205,11 @@ module _ (script : Script) (checked : IsChecked script) (each_over : (l : ℕ) (
         told.2 ∙ ap (λ (xs : List Entry). xs ++ entry.Fault its ∷ []) moves.parts ∙ append_assoc t.out moves.added (entry.Fault its ∷ []),
         subst (λ (x : Fault). EndsFaulted x (moves.added ++ entry.Fault its ∷ []) disk_rose secrets_rose) (sym told.0)
             (ends_faulted its (moves.added ++ entry.Fault its ∷ []) disk_rose secrets_rose told.1 (record { before = moves.added; last = refl; only = moves.no_fault })
-            (has_risen its disk_rose secrets_rose told.1 (tellable its moves empty (record { shares = empty; seeds = empty; privates = empty })) (subst (λ (x : Fault). HasCause x disk_rose secrets_rose) told.0 cause))),
+            (has_risen its disk_rose secrets_rose told.1 (tellable its moves empty (record { shares = empty; seeds = empty; privates = empty })) (subst (λ (x : Fault). HasDeviceCause x disk_rose secrets_rose) told.0 cause))),
       )
 
       by_result : (result : Result (Unit {0}) Fault) → Moves (Judges script) (IsBetweenOf script 0) (RunEndsBy (TellsWhy script) script result) t.out run.mid.out
-          → (answered : Result (Unit {0}) Fault) → IfErr answered (λ its. HasCause its disk_rose secrets_rose) → TellsEnd by_lines result answered run.mid new
+          → (answered : Result (Unit {0}) Fault) → IfErr answered (λ its. HasDeviceCause its disk_rose secrets_rose) → TellsEnd by_lines result answered run.mid new
           → Adds t.out new.out (λ added. EndsRun answered added disk_rose secrets_rose)
       by_result (Ok done) moves answered causes told =
           (moves.added, ap (λ (x : Trace). x.out) told.1 ∙ moves.parts, subst (λ (r : Result (Unit {0}) Fault). EndsRun r moves.added disk_rose secrets_rose) (sym told.0) moves.no_fault)

@@ -34,12 +34,12 @@ use Rattle.dkg_core.specs.Said.{Said}
 use Rattle.dkg_core.specs.SayingThrough.{IsBlockAnswer, IsLineThrough, IsUnasked}
 use Rattle.dkg_core.specs.Setup.{begins_inclusion}
 use Rattle.dkg_core.specs.Stepping.{dealt_behind, given_itself}
-use Rattle.dkg_core.specs.Through.{PassesNothingOn, IsAppliedThrough, IsBlockThrough, IsEndThrough, IsFollowedThrough, IsIncludedThrough, IsLiveThrough, IsReadFrom, asked_by, cancelled, finished, included, unasked, waits_for}
+use Rattle.dkg_core.specs.Through.{PassesNothingOn, IsAppliedThrough, IsBlockThrough, IsEndThrough, IsFollowedThrough, IsIncludedThrough, IsLiveThrough, IsReadFrom, asked_by, cancelled, verification_ended, included, unasked, waits_for}
 use Rattle.dkg_laws.proofs.NodeSaying.{node_steps_say_through}
 use Rattle.dkg_core.proofs.Splitting.{came_to}
 use Rattle.dkg_core.proofs.StepDealing as dealing
 use Rattle.dkg_promises.specs.Answers.{IsAnsweredSo, IsAskedFor}
-use Rattle.dkg_lives.specs.Asks.{RequestStanding, Unmade, Open, Closed, Cancelled, IsUncancelled, WereAsked, standing_of, turns}
+use Rattle.dkg_lives.specs.Asks.{RequestStanding, Unmade, Open, Closed, Cancelled, IsUncancelled, WereAsked, request_standing, turns}
 use Rattle.dkg_lives.specs.Blamed.{tip_in}
 use Rattle.dkg_lives.specs.Epochs.{IsLifeInForm, StandsInScript, any_shares, epoch_by}
 use Rattle.dkg_lives.specs.Given.{Lived, at_step}
@@ -183,7 +183,7 @@ module _ (g : Lived) where
 
   -- EACH REQUEST waits, or was answered, and not both; and each that was answered was made.
   pub record AreTracked (j : ℕ) (st : Live U) (said : List Entry) : Type 0 where
-    pub all : (n at : ℕ) → at < j → slice_get g.life.events at ≡ Some (event.Info n) → IsUncancelled (standing_of g.life n j) → IsWaiting n st.inclusion ⊎ IsAnsweredIn n said
+    pub all : (n at : ℕ) → at < j → slice_get g.life.events at ≡ Some (event.Info n) → IsUncancelled (request_standing g.life n j) → IsWaiting n st.inclusion ⊎ IsAnsweredIn n said
     pub absent : (n : ℕ) → IsWaiting n st.inclusion → IsAnsweredIn n said → ⊥
     pub asked : (n : ℕ) → IsAnsweredIn n said → (at : ℕ) × (at < j) × (slice_get g.life.events at ≡ Some (event.Info n))
     pub order : InOrder j 0 st.inclusion.queue
@@ -363,7 +363,7 @@ module _ (g : Lived) (here : IsLifeInForm g) (i : ℕ) (its : Event) (is : slice
           by_test false (inr waits) = inl (inr waits)
 
   -- one that waited in the life waits as its event is read, where it isn't cancelled by it
-  module _ (n : ℕ) (left_open : IsUncancelled (standing_of g.life n (suc i))) where
+  module _ (n : ℕ) (left_open : IsUncancelled (request_standing g.life n (suc i))) where
     waited_on : (message : Message U) → Brings g its message → IsWaiting n st.inclusion → IsWaiting n (Before st message).inclusion
     waited_on (Finalized b) brings waits = waits
     waited_on (Sent (EpochInfoOf request)) brings (inl (r, among, same)) = inl (r, among_left r st.inclusion.queue (record { number = request; blocks = []; ended = false } ∷ []) among, same)
@@ -374,7 +374,7 @@ module _ (g : Lived) (here : IsLifeInForm g) (i : ℕ) (its : Event) (is : slice
         of = sends_cancel g its request brings
 
         other : (request == n) ≡ true → ⊥
-        other same = uncut (standing_of g.life n i) (subst (λ (x : Event). IsUncancelled (turns n (standing_of g.life n i) x)) of (subst IsUncancelled (stands_more n g.life i its is) left_open)) same
+        other same = uncut (request_standing g.life n i) (subst (λ (x : Event). IsUncancelled (turns n (request_standing g.life n i) x)) of (subst IsUncancelled (stands_more n g.life i its is) left_open)) same
           where
             uncut : (s : RequestStanding) → IsUncancelled (turns n s (event.Cancel request)) → (request == n) ≡ true → ⊥
             uncut Unmade its_open same = its_open
@@ -567,9 +567,9 @@ module _ (g : Lived) (here : IsLifeInForm g) (i : ℕ) (its : Event) (is : slice
         of_both (inr right) = inr (answer, right)
 
     -- one that was made before now wasn't cancelled before
-    module _ (n at : ℕ) (made : slice_get g.life.events at ≡ Some (event.Info n)) (left_open : IsUncancelled (standing_of g.life n (suc i))) where
-      was_open : at < i → IsUncancelled (standing_of g.life n i)
-      was_open low = before_turn (standing_of g.life n i) (stands_made n Unmade g.life.events at i low made) (subst IsUncancelled (stands_more n g.life i its is) left_open)
+    module _ (n at : ℕ) (made : slice_get g.life.events at ≡ Some (event.Info n)) (left_open : IsUncancelled (request_standing g.life n (suc i))) where
+      was_open : at < i → IsUncancelled (request_standing g.life n i)
+      was_open low = before_turn (request_standing g.life n i) (stands_made n Unmade g.life.events at i low made) (subst IsUncancelled (stands_more n g.life i its is) left_open)
         where
           before_turn : (s : RequestStanding) → IsMade s → IsUncancelled (turns n s its) → IsUncancelled s
           before_turn Unmade made_so its_open = absurd made_so
@@ -617,7 +617,7 @@ module _ (g : Lived) (here : IsLifeInForm g) (i : ℕ) (its : Event) (is : slice
       one : (n : ℕ) → IsKept c reshare n (IsWaiting n before.inclusion) lines.lines end
       one n = stepped reshare out now lines on n
 
-      all_on : (n at : ℕ) → at < suc i → slice_get g.life.events at ≡ Some (event.Info n) → IsUncancelled (standing_of g.life n (suc i)) → IsWaiting n end.inclusion ⊎ IsAnsweredIn n said_now
+      all_on : (n at : ℕ) → at < suc i → slice_get g.life.events at ≡ Some (event.Info n) → IsUncancelled (request_standing g.life n (suc i)) → IsWaiting n end.inclusion ⊎ IsAnsweredIn n said_now
       all_on n at low made left_open = by_case (so_far n at made left_open low)
         where
           right : IsWaiting n end.inclusion ⊎ IsAnsweredIn n lines.lines → IsWaiting n end.inclusion ⊎ IsAnsweredIn n said_now
@@ -647,7 +647,7 @@ module _ (g : Lived) (here : IsLifeInForm g) (i : ℕ) (its : Event) (is : slice
 
     -- WHERE AN EPOCH IS PASSED ON, all that waited are answered.
     module _ (over : TakesOver c any_shares st m.message None mid None) where
-      all_over : (n at : ℕ) → at < suc i → slice_get g.life.events at ≡ Some (event.Info n) → IsUncancelled (standing_of g.life n (suc i)) → IsWaiting n end.inclusion ⊎ IsAnsweredIn n said_now
+      all_over : (n at : ℕ) → at < suc i → slice_get g.life.events at ≡ Some (event.Info n) → IsUncancelled (request_standing g.life n (suc i)) → IsWaiting n end.inclusion ⊎ IsAnsweredIn n said_now
       all_over n at low made left_open = by_case (so_far n at made left_open low)
         where
           by_stage : IsWaiting n st.inclusion → (st.participation.stage ≡ Follows) ⊎ (st.participation.stage ≡ Includes) → IsAnsweredIn n lines.lines
@@ -851,7 +851,7 @@ module _ (g : Lived) (here : IsLifeInForm g) (i : ℕ) (its : Event) (is : slice
                 },
               )
           by_message (Sent (Work handed)) sent its_end =
-              inl (finished st, record { read = its_end.0; ready = ready (Work handed) sent; order = later_order; goes_on = λ job runs. absurd (none_some runs) })
+              inl (verification_ended st, record { read = its_end.0; ready = ready (Work handed) sent; order = later_order; goes_on = λ job runs. absurd (none_some runs) })
 
       at_end : (P : Inclusion U → Type 0) → P mid.inclusion → P end.inclusion
       at_end P so = subst (λ (x : Live U). P x.inclusion) (sym node.same) so

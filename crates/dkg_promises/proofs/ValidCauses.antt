@@ -29,19 +29,19 @@ use Rattle.dkg_text.specs.declared.script.Event.{Event}
 use Rattle.dkg_text.specs.declared.script.Event.TheVariants as event
 use Rattle.dkg_text.specs.declared.script.Life.{Life}
 use Rattle.dkg_text.specs.declared.script.Script.{Script}
-use Rattle.dkg_script.specs.Blocks.{Block, anchor_number, block_at, block_of, blocks, used}
+use Rattle.dkg_script.specs.Blocks.{ScriptBlock, anchor_number, numbered_block, block_of, blocks, used}
 use Rattle.dkg_script.specs.Epochs.{alone}
 use Rattle.dkg_script.specs.Inclusion.{IsEventIn, IsFormOfInclusion}
 use Rattle.dkg_script.specs.Players.{players_at}
-use Rattle.dkg_script.specs.Position.{awaited_epoch, awaited_height, follows, height_after_anchor}
+use Rattle.dkg_script.specs.Position.{awaited_epoch, awaited_height_after, life_follows, height_after_anchor}
 use Rattle.dkg_script.specs.Readings.{Info, Limits, info_in, unit_payload, with_spelled}
 use Rattle.dkg_script.specs.Setting.{CutAt, Setting, blocks_per_epoch, found, life_at, limits}
-use Rattle.dkg_script.specs.Valid.{participants_in}
+use Rattle.dkg_script.specs.Valid.{participants_by}
 use Rattle.dkg_script.proofs.LineBlocks.{of_line}
-use Rattle.dkg_lives.specs.Blamed.{IsBlockCause, IsCause, IsInfoCause, IsLastCause, IsMayCause, IsNextCause, IsOpeningCause, IsProviderCause, IsTakenLast, OnBlock, refusal_in, first_epoch_in, is_beyond, is_first_taken, judged_by, next_epoch, opening_block, round_by, tip_in}
+use Rattle.dkg_lives.specs.Blamed.{IsBlockCause, IsCause, IsInfoCause, IsLastCause, IsMayCause, IsNextCause, IsOpeningCause, IsProviderCause, IsTakenLast, OnBlock, refusal_in, first_epoch_in, is_beyond, is_first_taken, judged_by, epoch_behind, opening_block, round_by, tip_in}
 use Rattle.dkg_lives.specs.Epochs.{IsAnchorAbove}
 use Rattle.dkg_lives.specs.Given.{AreBytes, blocks_in, limits_of, payload_in}
-use Rattle.dkg_script.specs.Valid.{BeginsWell, ComesInTurn, EndsEpoch, HasPlayers, IsValidCase, LiesInRange, ProvidesNext, ServesIn}
+use Rattle.dkg_script.specs.Valid.{BeginsWell, ComesInTurn, MayEndEpoch, HasPlayers, IsValidCase, LiesInRange, ProvidesNext, ServesIn}
 use Rattle.dkg_along.proofs.Alone.{epoch_alike, follows_alike, height_alike}
 use Rattle.dkg_core.specs.Sources.{Tip}
 use Rattle.dkg_lives.proofs.Awaiting.{IsReached, awaited, comes_to}
@@ -85,7 +85,7 @@ module _ (s : Setting) (ends : List (Option CutAt)) (valid : IsValidCase s ends)
   n = blocks_per_epoch s
 
   -- what holds of each used block
-  abbrev Good : Block → Type 0
+  abbrev Good : ScriptBlock → Type 0
   Good b = (LiesInRange s b.height × LiesInRange s (b.height + 1)) × BeginsWell s b
 
   all_good : AllByRecursion Good (used s)
@@ -98,12 +98,12 @@ module _ (s : Setting) (ends : List (Option CutAt)) (valid : IsValidCase s ends)
       below most h low = grind (arith, nat_tests)
 
   -- A BLOCK that begins an epoch serves
-  module _ (number : ℕ) (made_it : IsMadeOf s.script number) (good : IfSome (block_at s number) Good) where
-    abbrev own : Block
+  module _ (number : ℕ) (made_it : IsMadeOf s.script number) (good : IfSome (numbered_block s number) Good) where
+    abbrev own : ScriptBlock
     own = block_of s (take number (blocks s)) made_it.line
 
     own_good : Good own
-    own_good = subst (λ (o : Option Block). IfSome o Good) (of_line s number made_it.line made_it.line_is) good
+    own_good = subst (λ (o : Option ScriptBlock). IfSome o Good) (of_line s number made_it.line made_it.line_is) good
 
     serves : (epoch : ℕ) → (made_it.block).height ≡ boundary n epoch → IsSomeAnd own.info (ServesIn s epoch)
     serves epoch at = own_good.1 epoch (sym made_it.height ∙ at)
@@ -130,8 +130,8 @@ module _ (s : Setting) (ends : List (Option CutAt)) (valid : IsValidCase s ends)
         its_own = its_serves epoch info at carries
 
         accepted : judged_by s.script info ≡ Ok tt
-        accepted = subst (λ (e : ℕ). validation (participants_in (with_spelled unit_spelling info)) (non_zero_u32_get s.script.config.limit) (Some info.output) e ≡ Ok tt) (sym its_own.of_epoch)
-            (subst (λ (l : Limits). validation (participants_in (with_spelled unit_spelling info)) l.limit (Some info.output) epoch ≡ Ok tt) (same_limits s ends form valid.consistent) its_own.accepted)
+        accepted = subst (λ (e : ℕ). validation (participants_by (with_spelled unit_spelling info)) (non_zero_u32_get s.script.config.limit) (Some info.output) e ≡ Ok tt) (sym its_own.of_epoch)
+            (subst (λ (l : Limits). validation (participants_by (with_spelled unit_spelling info)) l.limit (Some info.output) epoch ≡ Ok tt) (same_limits s ends form valid.consistent) its_own.accepted)
     info_clear epoch info at carries (fault.InvalidParticipants (cause.Round e)) why = by_round (round_by s.script epoch info) why.2 (its_serves epoch info at carries).round
       where
         by_round : (r : Result Round RoundError) → r ≡ Err e → IsSome (result_ok r) → ⊥
@@ -153,16 +153,16 @@ module _ (s : Setting) (ends : List (Option CutAt)) (valid : IsValidCase s ends)
   none_provided epoch has its why = absurd why
 
   -- a life without material takes part by the script alone where it does
-  part_alike : (l : ℕ) (life : Life) → life.sync ≡ None → found s l ≡ None → (j : ℕ) → follows (alone s.script) l life (awaited_epoch (alone s.script) l life j) ≡ false
-      → follows s l life (awaited_epoch s l life j) ≡ false
+  part_alike : (l : ℕ) (life : Life) → life.sync ≡ None → found s l ≡ None → (j : ℕ) → life_follows (alone s.script) l life (awaited_epoch (alone s.script) l life j) ≡ false
+      → life_follows s l life (awaited_epoch s l life j) ≡ false
   part_alike l life no_sync none_found j takes_part =
-      ap (follows s l life) (epoch_alike s l life no_sync none_found j) ∙ follows_alike s l life no_sync none_found (awaited_epoch (alone s.script) l life j) ∙ takes_part
+      ap (life_follows s l life) (epoch_alike s l life no_sync none_found j) ∙ follows_alike s l life no_sync none_found (awaited_epoch (alone s.script) l life j) ∙ takes_part
 
   -- A LIFE that began
   module _ (bytes : AreBytes s.script.blocks) (long : 2 ≤ blocks_per_epoch s) (l : ℕ) (life : Life) (life_is : life_at s l ≡ Some life) (anchored : IfSome life.anchor (IsAnchorAbove s.script.blocks)) (no_sync : life.sync ≡ None) (none_found : found s l ≡ None)
       (events_in : AllByRecursion (IsEventIn s.script.blocks) life.events) (in_turn : ComesInTurn s l life) (provides : ProvidesNext s l life) where
     abbrev Numbered : ℕ → Type 0
-    Numbered number = IfSome (block_at s number) Good
+    Numbered number = IfSome (numbered_block s number) Good
 
     -- AN OPENING
 
@@ -187,20 +187,20 @@ module _ (s : Setting) (ends : List (Option CutAt)) (valid : IsValidCase s ends)
                 less : (most m : ℕ) → m < most → 0 * m + m - 1 < most
                 less most m short = omega (arith, short)
 
-        by_block : (o : Option Block) (f : Block → ℕ) → IfSome o (λ b. LiesInRange s (f b)) → LiesInRange s (option_map_or f o 0)
+        by_block : (o : Option ScriptBlock) (f : ScriptBlock → ℕ) → IfSome o (λ b. LiesInRange s (f b)) → LiesInRange s (option_map_or f o 0)
         by_block None f its = zero_in
         by_block (Some b) f its = its
 
-        of_good : (o : Option Block) → IfSome o Good → IfSome o (λ b. LiesInRange s (suc b.height)) × IfSome o (λ b. LiesInRange s b.height)
+        of_good : (o : Option ScriptBlock) → IfSome o Good → IfSome o (λ b. LiesInRange s (suc b.height)) × IfSome o (λ b. LiesInRange s b.height)
         of_good None good = (tt, tt)
         of_good (Some b) good = (subst (λ (h : ℕ). LiesInRange s h) (add-one b.height) good.0.1, good.0.0)
 
         by_anchor : (at : Option Anchor) → life.anchor ≡ at → LiesInRange s (height_after_anchor s at)
         by_anchor None is = zero_in
-        by_anchor (Some (Processed number)) is = by_block (block_at s number) (λ b. suc b.height) (of_good (block_at s number) (of_anchor s l life Good life_is all_good (Processed number) is)).0
-        by_anchor (Some (Absent number)) is = by_block (block_at s number) (λ b. b.height) (of_good (block_at s number) (of_anchor s l life Good life_is all_good (Absent number) is)).1
+        by_anchor (Some (Processed number)) is = by_block (numbered_block s number) (λ b. suc b.height) (of_good (numbered_block s number) (of_anchor s l life Good life_is all_good (Processed number) is)).0
+        by_anchor (Some (Absent number)) is = by_block (numbered_block s number) (λ b. b.height) (of_good (numbered_block s number) (of_anchor s l life Good life_is all_good (Absent number) is)).1
 
-    opens_at : awaited_height (alone s.script) l life 0 ≡ height_after_anchor s life.anchor
+    opens_at : awaited_height_after (alone s.script) l life 0 ≡ height_after_anchor s life.anchor
     opens_at = sym (height_alike s l life no_sync none_found 0) ∙ starts s l life ∙ starts_at_anchor s l life no_sync none_found
 
     -- P of the block that begins its epoch
@@ -217,7 +217,7 @@ module _ (s : Setting) (ends : List (Option CutAt)) (valid : IsValidCase s ends)
             (found.0, made_it.0, found.2, ap (λ (x : made.Block directory.Unit). x.height) made_it.1 ∙ found.3, subst P (sym made_it.1) so)
 
     opening_clear : (its : Fault) → IsOpeningCause s.script l life its → ⊥
-    opening_clear fault.HeightRange why = bools_apart (is_beyond s.script (awaited_height (alone s.script) l life 0)) why (ap (is_beyond s.script) opens_at ∙ within (height_after_anchor s life.anchor) starts_within)
+    opening_clear fault.HeightRange why = bools_apart (is_beyond s.script (awaited_height_after (alone s.script) l life 0)) why (ap (is_beyond s.script) opens_at ∙ within (height_after_anchor s life.anchor) starts_within)
     opening_clear (fault.MissingEpochInfo height) why =
         let its = of_opening (λ b. (height ≡ b.height) × (info_of b.payload ≡ None)) why in
         carries_one its.0 its.1 its.2 (first_epoch_in s.script l life) its.3 its.4.1
@@ -244,7 +244,7 @@ module _ (s : Setting) (ends : List (Option CutAt)) (valid : IsValidCase s ends)
       same_height : (made_it.block).height ≡ (own number made_it good).height
       same_height = made_it.height
 
-      comes : ((own number made_it good).height ≤ awaited_height s l life j) ⊎ ((awaited_height s l life j ≡ 0) × (follows s l life 0 ≡ true))
+      comes : ((own number made_it good).height ≤ awaited_height_after s l life j) ⊎ ((awaited_height_after s l life j ≡ 0) × (life_follows s l life 0 ≡ true))
       comes = in_turn j number (own number made_it good) is reached (of_line s number made_it.line made_it.line_is)
 
       first_taken : (h : ℕ) → h ≡ 0 → ((epoch_of n h == 0) && nat_lt h (midpoint n (epoch_of n h))) ≡ true
@@ -260,15 +260,15 @@ module _ (s : Setting) (ends : List (Option CutAt)) (valid : IsValidCase s ends)
       refused_clear : (its : Fault) → refusal_in s.script l life j made_it.block ≡ Some its → ⊥
       refused_clear its refused = either (refused_so s ends valid.consistent form bytes l life life_is anchored no_sync none_found j number made_it.block is reached made_it.is tips its refused)
         where
-          apart : (h a : ℕ) → (h ≤ a) ⊎ ((a ≡ 0) × (follows s l life 0 ≡ true)) → a < h → 0 < a → ⊥
+          apart : (h a : ℕ) → (h ≤ a) ⊎ ((a ≡ 0) × (life_follows s l life 0 ≡ true)) → a < h → 0 < a → ⊥
           apart h a (inl low) above some = omega (arith, low, above)
           apart h a (inr first) above some = omega (arith, first.0, some)
 
           early : Bool
           early = (epoch_of n (made_it.block).height == 0) && nat_lt (made_it.block).height (midpoint n (epoch_of n (made_it.block).height))
 
-          taken : (h : ℕ) → h ≡ (made_it.block).height → (h ≤ awaited_height s l life j) ⊎ ((awaited_height s l life j ≡ 0) × (follows s l life 0 ≡ true)) → awaited_height s l life j ≡ 0 → is_first_taken s.script l life made_it.block ≡ true
-          taken h at (inl low) first = or_true (follows (alone s.script) l life 0) early (first_taken (made_it.block).height (sym at ∙ none h (awaited_height s l life j) low first))
+          taken : (h : ℕ) → h ≡ (made_it.block).height → (h ≤ awaited_height_after s l life j) ⊎ ((awaited_height_after s l life j ≡ 0) × (life_follows s l life 0 ≡ true)) → awaited_height_after s l life j ≡ 0 → is_first_taken s.script l life made_it.block ≡ true
+          taken h at (inl low) first = or_true (life_follows (alone s.script) l life 0) early (first_taken (made_it.block).height (sym at ∙ none h (awaited_height_after s l life j) low first))
             where
               none : (h a : ℕ) → h ≤ a → a ≡ 0 → h ≡ 0
               none h a low first = omega (arith, low, first)
@@ -281,27 +281,27 @@ module _ (s : Setting) (ends : List (Option CutAt)) (valid : IsValidCase s ends)
           either : ((its ≡ fault.HeightRange) × (is_beyond s.script (made_it.block).height ≡ true))
               ⊎ (IsSkipped s ends valid.consistent form bytes l life life_is anchored no_sync none_found j made_it.block its ⊎ IsOutside s ends valid.consistent form bytes l life life_is anchored no_sync none_found j made_it.block its) → ⊥
           either (inl range) = bools_apart (is_beyond s.script (made_it.block).height) range.1 (ap (is_beyond s.script) same_height ∙ within (own number made_it good).height its_own.0.0)
-          either (inr (inl skipped)) = apart (own number made_it good).height (awaited_height s l life j) comes (subst (λ (h : ℕ). awaited_height s l life j < h) same_height skipped.above) skipped.some
+          either (inr (inl skipped)) = apart (own number made_it good).height (awaited_height_after s l life j) comes (subst (λ (h : ℕ). awaited_height_after s l life j < h) same_height skipped.above) skipped.some
           either (inr (inr out)) = bools_apart (is_first_taken s.script l life made_it.block) (taken (own number made_it good).height (sym same_height) comes out.first) out.untaken
 
-      next_at : IsTakenLast s.script l life j made_it.block → (made_it.block).height ≡ boundary n (next_epoch s.script made_it.block)
+      next_at : IsTakenLast s.script l life j made_it.block → (made_it.block).height ≡ boundary n (epoch_behind s.script made_it.block)
       next_at its = same (made_it.block).height (last n (epoch_of n (made_it.block).height)) its.ends ∙ ap (boundary n) (sym (add-one (epoch_of n (made_it.block).height)))
         where
           same : (a b : ℕ) → (a == b) ≡ true → a ≡ b
           same a b e = grind (arith, nat_tests)
 
       next_clear : IsTakenLast s.script l life j made_it.block → (its : Fault) → IsNextCause s.script made_it.block its → ⊥
-      next_clear taken (fault.MissingEpochInfo height) why = carries_one number made_it good (next_epoch s.script made_it.block) (next_at taken) why.1
+      next_clear taken (fault.MissingEpochInfo height) why = carries_one number made_it good (epoch_behind s.script made_it.block) (next_at taken) why.1
       next_clear taken fault.HeightRange why =
           bools_apart (is_beyond s.script ((made_it.block).height + 1)) why.1 (ap (λ (h : ℕ). is_beyond s.script (h + 1)) same_height ∙ within ((own number made_it good).height + 1) its_own.0.1)
       next_clear taken its why = by_info (info_of (made_it.block).payload) refl why
         where
-          by_info : (o : Option (EpochInfo directory.Unit)) → info_of (made_it.block).payload ≡ o → IsSomeAnd o (λ info. IsInfoCause s.script (next_epoch s.script made_it.block) info its) → ⊥
+          by_info : (o : Option (EpochInfo directory.Unit)) → info_of (made_it.block).payload ≡ o → IsSomeAnd o (λ info. IsInfoCause s.script (epoch_behind s.script made_it.block) info its) → ⊥
           by_info None carries why = absurd why
-          by_info (Some info) carries why = info_clear number made_it good (next_epoch s.script made_it.block) info (next_at taken) carries its why
+          by_info (Some info) carries why = info_clear number made_it good (epoch_behind s.script made_it.block) info (next_at taken) carries its why
 
       -- the last block of an epoch that the life takes part in stands at the height that is awaited
-      stands_next : IsTakenLast s.script l life j made_it.block → follows s l life (awaited_epoch s l life j) ≡ false → (made_it.block).height ≡ awaited_height s l life j
+      stands_next : IsTakenLast s.script l life j made_it.block → life_follows s l life (awaited_epoch s l life j) ≡ false → (made_it.block).height ≡ awaited_height_after s l life j
       stands_next taken takes_part = by_turn comes
         where
           higher : (height tip : ℕ) → nat_le height tip ≡ false → tip + 1 ≤ height
@@ -311,7 +311,7 @@ module _ (s : Setting) (ends : List (Option CutAt)) (valid : IsValidCase s ends)
           by_tip None not = omega arith
           by_tip (Some t) not = higher (made_it.block).height t.height not
 
-          above : awaited_height s l life j ≤ (made_it.block).height
+          above : awaited_height_after s l life j ≤ (made_it.block).height
           above = subst (λ (n : ℕ). n ≤ (made_it.block).height) tips.height (by_tip (tip_in s.script life j) taken.above)
 
           same : (here its next : ℕ) → here ≡ its → its ≤ next → next ≤ here → here ≡ next
@@ -320,21 +320,21 @@ module _ (s : Setting) (ends : List (Option CutAt)) (valid : IsValidCase s ends)
           some : (k : ℕ) → 2 ≤ k → 0 < k
           some k long = omega (arith, long)
 
-          by_turn : ((own number made_it good).height ≤ awaited_height s l life j) ⊎ ((awaited_height s l life j ≡ 0) × (follows s l life 0 ≡ true)) → (made_it.block).height ≡ awaited_height s l life j
-          by_turn (inl low) = same (made_it.block).height (own number made_it good).height (awaited_height s l life j) same_height low above
+          by_turn : ((own number made_it good).height ≤ awaited_height_after s l life j) ⊎ ((awaited_height_after s l life j ≡ 0) × (life_follows s l life 0 ≡ true)) → (made_it.block).height ≡ awaited_height_after s l life j
+          by_turn (inl low) = same (made_it.block).height (own number made_it good).height (awaited_height_after s l life j) same_height low above
           by_turn (inr first) =
               let zeroth : awaited_epoch s l life j ≡ 0 = ap (epoch_of n) first.0 ∙ div-eq_of_lt (some n long) in
-              absurd (bools_apart (follows s l life 0) first.1 (subst (λ (e : ℕ). follows s l life e ≡ false) zeroth takes_part))
+              absurd (bools_apart (life_follows s l life 0) first.1 (subst (λ (e : ℕ). life_follows s l life e ≡ false) zeroth takes_part))
 
-      provider_clear : IsTakenLast s.script l life j made_it.block → follows (alone s.script) l life (awaited_epoch (alone s.script) l life j) ≡ false → (its : Fault)
+      provider_clear : IsTakenLast s.script l life j made_it.block → life_follows (alone s.script) l life (awaited_epoch (alone s.script) l life j) ≡ false → (its : Fault)
           → IsProviderCause s.script (epoch_of n (made_it.block).height) its → ⊥
       provider_clear taken takes_part its why =
           let part = part_alike l life no_sync none_found j takes_part in
-          let at : (made_it.block).height ≡ awaited_height s l life j = stands_next taken part in
+          let at : (made_it.block).height ≡ awaited_height_after s l life j = stands_next taken part in
           let ends_it : (own number made_it good).height ≡ last n (awaited_epoch s l life j) =
           sym same_height ∙ same (made_it.block).height (last n (epoch_of n (made_it.block).height)) taken.ends ∙ ap (λ (h : ℕ). last n (epoch_of n h)) at in
-          let ended : EndsEpoch s (awaited_epoch s l life j) (event.Final number) =
-          subst (λ (o : Option Block). IsSomeAnd o (λ b. b.height ≡ last n (awaited_epoch s l life j))) (sym (of_line s number made_it.line made_it.line_is)) ends_it in
+          let ended : MayEndEpoch s (awaited_epoch s l life j) (event.Final number) =
+          subst (λ (o : Option ScriptBlock). IsSomeAnd o (λ b. b.height ≡ last n (awaited_epoch s l life j))) (sym (of_line s number made_it.line made_it.line_is)) ends_it in
           none_provided (awaited_epoch s l life j) (provides j (event.Final number) is reached ended part) its
           (subst (λ (e : ℕ). IsProviderCause s.script e its) (ap (epoch_of n) at) why)
         where
@@ -354,7 +354,7 @@ module _ (s : Setting) (ends : List (Option CutAt)) (valid : IsValidCase s ends)
     valid_may zero reached its may = absurd may
     valid_may (suc j) reached its may =
         let same : awaited_epoch (alone s.script) l life (may.0).at ≡ awaited_epoch (alone s.script) l life j = (may.0).same_epoch in
-        let part = part_alike l life no_sync none_found (may.0).at (subst (λ (e : ℕ). follows (alone s.script) l life e ≡ false) (sym same) (may.0).takes_part) in
+        let part = part_alike l life no_sync none_found (may.0).at (subst (λ (e : ℕ). life_follows (alone s.script) l life e ≡ false) (sym same) (may.0).takes_part) in
         none_provided (awaited_epoch s l life (may.0).at) (provides (may.0).at (event.Info (may.0).request) (may.0).asked (earlier life.cut (may.0).at (may.0).so_far reached) tt part) its
         (subst (λ (e : ℕ). IsProviderCause s.script e its) (sym same ∙ sym (epoch_alike s l life no_sync none_found (may.0).at)) may.1)
       where

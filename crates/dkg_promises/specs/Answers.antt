@@ -29,12 +29,12 @@ use Rattle.dkg_script.specs.Blocks.{chain, known_info}
 use Rattle.dkg_script.specs.History.{IsWholeHistory}
 use Rattle.dkg_script.specs.Inclusion.{IsFormOfInclusion}
 use Rattle.dkg_script.specs.Players.{players_at}
-use Rattle.dkg_script.specs.Position.{awaited_epoch, event_of_step, follows}
+use Rattle.dkg_script.specs.Position.{awaited_epoch, event_of_step, life_follows}
 use Rattle.dkg_script.specs.Progress.{AtEachEntry, Progress, progress}
 use Rattle.dkg_script.specs.Readings.{with_spelled}
 use Rattle.dkg_script.specs.Setting.{Setting, life_at, setting_of}
 use Rattle.dkg_script.specs.Views.{seen_block}
-use Rattle.dkg_lives.specs.Asks.{IsPathOf, IsRefusedAt, IsShortAt, IsUncancelled, WereAsked, fed_in, next_bytes, standing_of}
+use Rattle.dkg_lives.specs.Asks.{IsPathOf, IsRefusedAt, IsShortAt, IsUncancelled, WereAsked, fed_in, next_bytes, request_standing}
 use Rattle.dkg_lives.specs.Blamed.{IsInfoOf, IsTakenLast, per_epoch, round_by}
 use Rattle.dkg_lives.specs.Given.{blocks_in}
 
@@ -49,7 +49,7 @@ pub record IsAskedFor (script : Script) (l : ℕ) (life : Life) (epoch j request
   pub before : at < j
   pub made : slice_get life.events at ≡ Some (Info request)
   pub same : awaited_epoch (alone script) l life at ≡ epoch
-  pub uncancelled : IsUncancelled (standing_of life request j)
+  pub uncancelled : IsUncancelled (request_standing life request j)
 
 -- The provider names somebody for the epoch two above, and not more than the limit: IsProviderCause of no fault holds of the epoch.
 pub record IsProvidedFor (script : Script) (epoch : ℕ) : Type 0 where
@@ -60,7 +60,7 @@ pub record IsProvidedFor (script : Script) (epoch : ℕ) : Type 0 where
 -- In step j the request is answered by the logs that were asked for as its ancestry was read, in this step or an earlier one that began while this epoch was awaited, in which the life takes part
 -- and for which the provider's set is there.
 pub record IsMadeOf (script : Script) (l : ℕ) (life : Life) (epoch j request : ℕ) (payload : Option (List ℕ)) : Type 0 where
-  pub takes_part : follows (alone script) l life epoch ≡ false
+  pub takes_part : life_follows (alone script) l life epoch ≡ false
   pub provided : IsProvidedFor script epoch
   pub info : EpochInfo U
   pub info_is : IsInfoOf script life j epoch info
@@ -76,9 +76,9 @@ pub record IsMadeOf (script : Script) (l : ℕ) (life : Life) (epoch j request :
 
 -- why none is available
 abbrev pub IsUnavailable : Script → (l : ℕ) → Life → (epoch j request : ℕ) → Why → Type 0
-IsUnavailable script l life epoch j request Following = follows (alone script) l life epoch ≡ true
+IsUnavailable script l life epoch j request Following = life_follows (alone script) l life epoch ≡ true
 IsUnavailable script l life epoch j request Finished =
-    (follows (alone script) l life epoch ≡ false)
+    (life_follows (alone script) l life epoch ≡ false)
     × IsSomeAnd (event_of_step life j) (λ event. (number : ℕ) × (b : Block U) × (event ≡ Final number) × (slice_get (blocks_in script) number ≡ Some b) × IsTakenLast script l life (j - 1) b)
 IsUnavailable script l life epoch j request Short = IsShortAt script life epoch request j
 IsUnavailable script l life epoch j request Terminal = ⊥

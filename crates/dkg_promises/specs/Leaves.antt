@@ -17,9 +17,9 @@ use Rattle.dkg_text.specs.declared.script.Life.{Life}
 use Rattle.dkg_text.specs.declared.script.Script.{Script}
 use Rattle.dkg_script.specs.Epochs.{alone}
 use Rattle.dkg_script.specs.Order.{is_opened}
-use Rattle.dkg_script.specs.Position.{awaited_epoch, awaited_height, follows}
+use Rattle.dkg_script.specs.Position.{awaited_epoch, awaited_height_after, life_follows}
 use Rattle.dkg_core.specs.Laws.{IsAmong}
-use Rattle.dkg_lives.specs.Asks.{IsUncancelled, Open, WereAsked, bounds_in, fed_in, scan_tip, standing_of}
+use Rattle.dkg_lives.specs.Asks.{IsUncancelled, Open, WereAsked, bounds_in, fed_in, scan_tip, request_standing}
 use Rattle.dkg_lives.specs.Blamed.{per_epoch}
 
 abbrev U : Type 0
@@ -34,7 +34,7 @@ pub record IsOpenRequest (life : Life) (j : ℕ) (said : List Entry) (request : 
   pub at : ℕ
   pub before : at < j
   pub made : slice_get life.events at ≡ Some (Info request)
-  pub uncancelled : IsUncancelled (standing_of life request j)
+  pub uncancelled : IsUncancelled (request_standing life request j)
   pub unanswered : LacksAnswer said request
 
 -- .. and it is the oldest that is, made while the epoch was awaited that is awaited then
@@ -45,7 +45,7 @@ pub record IsOldest (script : Script) (l : ℕ) (life : Life) (j : ℕ) (said : 
 
 -- A request needs blocks: its ancestry goes on, and what it was fed is a path that isn't read to the last needed height.
 pub record NeedsBlocks (script : Script) (life : Life) (epoch j request : ℕ) : Type 0 where
-  pub goes_on : standing_of life request j ≡ Open
+  pub goes_on : request_standing life request j ≡ Open
   pub path : List (Block U)
   pub fed : fed_in script life request j ≡ reverse path
   pub under_way : IsUnderWay (bounds_in script epoch) (scan_tip script life j) path
@@ -81,14 +81,14 @@ pub record Verifies (script : Script) (l : ℕ) (life : Life) (epoch j : ℕ) (s
 -- what step j leaves, where the life has written these entries before: in an epoch that it takes part in
 abbrev pub LeavesFew : Script → (l : ℕ) → Life → (j : ℕ) → List Entry → Type 0
 LeavesFew script l life j said =
-    follows (alone script) l life (awaited_epoch (alone script) l life j) ≡ false → midpoint (per_epoch script) (awaited_epoch (alone script) l life j) ≤ awaited_height (alone script) l life j
+    life_follows (alone script) l life (awaited_epoch (alone script) l life j) ≡ false → midpoint (per_epoch script) (awaited_epoch (alone script) l life j) ≤ awaited_height_after (alone script) l life j
     → (request : ℕ) → IsOpenRequest life j said request → Verifies script l life (awaited_epoch (alone script) l life j) j said
     ⊎ ((oldest : ℕ) × IsOldest script l life j said oldest × NeedsBlocks script life (awaited_epoch (alone script) l life j) j oldest)
 
 -- .. and in one that it follows
 abbrev pub LeavesNone : Script → (l : ℕ) → Life → (j : ℕ) → List Entry → Type 0
 LeavesNone script l life j said =
-    LeavesFew script l life j said × (follows (alone script) l life (awaited_epoch (alone script) l life j) ≡ true → (request : ℕ) → IsOpenRequest life j said request → ⊥)
+    LeavesFew script l life j said × (life_follows (alone script) l life (awaited_epoch (alone script) l life j) ≡ true → (request : ℕ) → IsOpenRequest life j said request → ⊥)
 
 -- each completed step of each life, by what the life has written since it opened
 abbrev pub LeavesSo : Script → List Entry → Type 0

@@ -8,7 +8,7 @@ use Rattle.dkg_infos.specs.declared.directory.Unit as directory
 use Rattle.dkg_text.specs.declared.script.Event.TheVariants.{Final}
 use Rattle.dkg_text.specs.declared.script.Life.{Life}
 use Rattle.dkg_script.specs.Epochs.{IsUncutBefore}
-use Rattle.dkg_script.specs.Position.{awaited_height, event_of_step}
+use Rattle.dkg_script.specs.Position.{awaited_height_after, event_of_step}
 use Rattle.dkg_script.specs.Promise.{IsBuilt, IsHonestRun}
 use Rattle.dkg_script.specs.Setting.{Setting, CutAt, life_at}
 use Rattle.dkg_lives.specs.Blamed.{is_first_taken}
@@ -24,14 +24,14 @@ IsRefusal _ = ⊥
 
 -- behind its first j events the life has a position, and the block stands above the height that is awaited
 pub record Skips (s : Setting) (l : ℕ) (life : Life) (j : ℕ) (block : Made directory.Unit) (fault : Fault) : Type 0 where
-  pub fault_is : fault ≡ SkippedHeight (awaited_height s l life j) block.height
-  pub positioned : 0 < awaited_height s l life j
-  pub above : awaited_height s l life j < block.height
+  pub fault_is : fault ≡ SkippedHeight (awaited_height_after s l life j) block.height
+  pub positioned : 0 < awaited_height_after s l life j
+  pub above : awaited_height_after s l life j < block.height
 
 -- .. it has none, and the block is none that it may begin with
 pub record IsNoFirst (s : Setting) (l : ℕ) (life : Life) (j : ℕ) (block : Made directory.Unit) (fault : Fault) : Type 0 where
   pub fault_is : fault ≡ OutOfWindow block.height
-  pub unpositioned : awaited_height s l life j ≡ 0
+  pub unpositioned : awaited_height_after s l life j ≡ 0
   pub untaken : is_first_taken s.script l life block ≡ false
 
 -- A block that a step delivers to which the life comes is such a one, and the fault says so.

@@ -19,12 +19,12 @@ use Rattle.dkg_text.specs.declared.script.Event.TheVariants.{Final}
 use Rattle.dkg_text.specs.declared.script.Life.{Life}
 use Rattle.dkg_text.specs.declared.script.Script.{Script}
 use Rattle.dkg_script.specs.AsCut.{setting_as_cut}
-use Rattle.dkg_script.specs.Blocks.{Block, block_at, known_info}
+use Rattle.dkg_script.specs.Blocks.{ScriptBlock, numbered_block, known_info}
 use Rattle.dkg_script.specs.Consistent.{IsConsistentScript}
 use Rattle.dkg_script.specs.History.{AreChainLogs, CarriesNext, MissesNone}
 use Rattle.dkg_script.specs.Inclusion.{IsFormOfInclusion}
 use Rattle.dkg_script.specs.OwnMarks.{OwnMarks}
-use Rattle.dkg_script.specs.Position.{awaited_epoch, awaited_height, cut_of, event_of_step, follows, lacks_boundary}
+use Rattle.dkg_script.specs.Position.{awaited_epoch, awaited_height_after, cut_of, event_of_step, life_follows, lacks_boundary}
 use Rattle.dkg_script.specs.Progress.{AtEachEntry, Progress, progress}
 use Rattle.dkg_script.specs.Schedule.{first, last}
 use Rattle.dkg_script.specs.Setting.{CutAt, Setting, blocks_per_epoch, life_at, me}
@@ -49,10 +49,10 @@ CommitsFit script files held out = let s = setting_as_cut script files held out 
 pub record Enters (s : Setting) (l : ℕ) (life : Life) (events epoch : ℕ) : Type 0 where
   pub number : ℕ
   pub event : slice_get life.events events ≡ Some (Final number)
-  pub block : Block
-  pub block_is : block_at s number ≡ Some block
+  pub block : ScriptBlock
+  pub block_is : numbered_block s number ≡ Some block
   pub ends_below : block.height + 1 ≡ first (blocks_per_epoch s) epoch
-  pub awaited : awaited_height s l life events ≤ block.height
+  pub awaited : awaited_height_after s l life events ≤ block.height
 
 -- the steps by which a life comes into an epoch, and may store a share of it: an opening that awaits it and has the block that begins it, and the step that enters it
 abbrev pub ComesInto : Setting → (l : ℕ) → Life → (step epoch : ℕ) → Type 0
@@ -123,13 +123,13 @@ pub record EndsEpoch (s : Setting) (p : Progress) (epoch : ℕ) : Type 0 where
   pub life_is : life_at s (length p.cuts) ≡ Some life
   pub number : ℕ
   pub event : event_of_step life p.step ≡ Some (Final number)
-  pub delivers : IsSomeAnd (block_at s number) (λ b. b.height ≡ last (blocks_per_epoch s) epoch)
+  pub delivers : IsSomeAnd (numbered_block s number) (λ b. b.height ≡ last (blocks_per_epoch s) epoch)
   pub awaited : awaited_epoch s (length p.cuts) life (p.step - 1) ≡ epoch
-  pub takes_part : follows s (length p.cuts) life epoch ≡ false
+  pub takes_part : life_follows s (length p.cuts) life epoch ≡ false
 
 -- that block carries what the chain's logs of the epoch make
 abbrev pub EndsHonestly : (s : Setting) (p : Progress) (epoch : ℕ) → EndsEpoch s p epoch → Type 0
-EndsHonestly s p epoch ends_it = IsSomeAnd (block_at s ends_it.number) (CarriesNext s (seen_provided unit_spelling (provided_by s.script)))
+EndsHonestly s p epoch ends_it = IsSomeAnd (numbered_block s ends_it.number) (CarriesNext s (seen_provided unit_spelling (provided_by s.script)))
 
 -- THE PREMISE of the script's past: it is consistent, the logs that were handed in are the chain's, and no block of an epoch's logs was missed. (That is a whole history, whatever blocks have one digest.)
 pub record IsWholePast (s : Setting) (ends : List (Option CutAt)) : Type 0 where

@@ -28,12 +28,12 @@ use Rattle.dkg_reading.specs.declared.stop.Stop.{Stop}
 use Rattle.dkg_reading.specs.declared.stop.Stop.TheVariants.{Line, NoMemory}
 use Rattle.dkg_reading.specs.Allowed.{AreHeld, Is32, Is64, IsAddressLine, IsAnchor, IsBlockLine, IsConfig, IsCut, IsEventAfter, IsKeys, IsLife, IsPlayerLine, IsProbeLine, IsSyncLine}
 use Rattle.dkg_text.specs.Fields.{bytes_field, number_field}
-use Rattle.dkg_reading.specs.Grammar.{absent_from, address_at, anchor_at, block_at, blocks_at, config_at, cut_at, end_at, event_after, event_at, events_at, held_at, is_eventful, life_at, lives_at, nothing_left, opening_at, players_at, probe_at, processed_from, reading_of, sync_at}
+use Rattle.dkg_reading.specs.Grammar.{absent_from, address_line_at, anchor_line_at, block_line_at, blocks_at, config_at, cut_at, end_at, event_line_after, event_line_at, event_lines_at, held_line_at, is_eventful, life_lines_at, lives_at, nothing_left, opening_at, players_line_at, probe_at, processed_from, reading_of, sync_at}
 use Rattle.dkg_reading.specs.Laws.{Begins}
-use Rattle.dkg_reading.specs.Lines.{FailsText, TextReading, begins, checked, checked_at, front_of, line_at, many_at, many_from, maybe_at, row_of, some_read, ◌>=>◌}
+use Rattle.dkg_reading.specs.Lines.{FailsText, TextReading, begins, checked_line, checked_line_at, front_of, line_at, many_lines_at, many_from, maybe_at, row_of, some_read, ◌>=>◌}
 use Rattle.dkg_reading.specs.Rows.{Row, bytes_of, field, four, number_below, decimal_of, set_row, two, ◌>>=◌}
 use Rattle.dkg_reading.specs.Spells.{FitAfter, IsLine}
-use Rattle.dkg_text.specs.Writing.{address_line, anchor_line, block_line, config_text, cut_line, ended, event_line, held_line, life_text, oneshot_line, players_line, probe_line, sync_line}
+use Rattle.dkg_text.specs.Writing.{address_line, anchor_line, block_line, config_text, cut_line, with_line_feed, event_line, held_line, life_text, oneshot_line, players_line, probe_line, sync_line}
 use Rattle.dkg_reading.proofs.ConfigLaws.{AreModes, addresses_law, blocks_law as per_epoch_law, limit_law, me_law, modes_law, modes_line, oneshot_law, players_law, probes_law, space_law, version_law}
 use Rattle.dkg_reading.proofs.EventLaws.{events_law}
 use Rattle.dkg_reading.proofs.LifeLaws.{anchor_found, blocks_law, cut_found, held_found, none_held, number_line_law, sync_found}
@@ -56,10 +56,10 @@ refuses_line : {A : Type 0} (name : List ℕ) (row : Row A) → Refuses (line_at
 unfolding line_at
 refuses_line name row text left e = refused_at text (front_of text >>= row_of name row) left e
 
-refuses_checked : {A B : Type 0} (name : List ℕ) (row : Row A) (fits : A → Option B) → Refuses (checked_at name row fits)
+refuses_checked : {A B : Type 0} (name : List ℕ) (row : Row A) (fits : A → Option B) → Refuses (checked_line_at name row fits)
 refuses_checked {A} {B} name row fits text left e = by_case (line_at name row text) refl e
   where
-    by_case : (r : TextReading A) → line_at name row text ≡ r → checked text fits r ≡ Err left → length text ≡ left
+    by_case : (r : TextReading A) → line_at name row text ≡ r → checked_line text fits r ≡ Err left → length text ≡ left
     by_case (Ok (x, behind)) is e = refused_at text (fits x >>= λ y. Some (y, behind)) left e
     by_case (Err n) is e = (let same : n ≡ left = cc in refuses_line name row text n is ∙ same)
 
@@ -80,36 +80,36 @@ refuses_if test then_read else_read is_then is_else text left e =
 refuses_maybe : {A : Type 0} (name : List ℕ) (read : List ℕ → TextReading A) → Refuses read → Refuses (maybe_at name read)
 refuses_maybe {A} name read law = refuses_if (begins name) (λ t. some_read (read t)) (λ t. Ok (None, t)) (refuses_some read law) (refuses_never {A = Option A} None)
 
-refuses_players : (done : List PlayerLine) → Refuses (players_at done)
-unfolding players_at
+refuses_players : (done : List PlayerLine) → Refuses (players_line_at done)
+unfolding players_line_at
 refuses_players done = refuses_checked _ _ _
 
-refuses_address : (done : List (ℕ × Address)) → Refuses (address_at done)
-unfolding address_at
+refuses_address : (done : List (ℕ × Address)) → Refuses (address_line_at done)
+unfolding address_line_at
 refuses_address done = refuses_checked _ _ _
 
 refuses_probe : (addressed : Bool) → Refuses (probe_at addressed)
 unfolding probe_at
 refuses_probe addressed = refuses_checked _ _ _
 
-refuses_block : (addressed : Bool) (config : ScriptConfig) (done : List BlockLine) → Refuses (block_at addressed config done)
-unfolding block_at
+refuses_block : (addressed : Bool) (config : ScriptConfig) (done : List BlockLine) → Refuses (block_line_at addressed config done)
+unfolding block_line_at
 refuses_block addressed config done = refuses_checked _ _ _
 
 abbrev processed_read : List BlockLine → List ℕ → TextReading (Option Anchor)
-processed_read blocks text = some_read (checked_at (codes "processed") (field (number_below (2 ^ 32))) (processed_from blocks) text)
+processed_read blocks text = some_read (checked_line_at (codes "processed") (field (number_below (2 ^ 32))) (processed_from blocks) text)
 
 abbrev absent_read : List BlockLine → List ℕ → TextReading (Option Anchor)
-absent_read blocks text = if begins (codes "absent") text then some_read (checked_at (codes "absent") (field (number_below (2 ^ 32))) (absent_from blocks) text) else Ok (None, text)
+absent_read blocks text = if begins (codes "absent") text then some_read (checked_line_at (codes "absent") (field (number_below (2 ^ 32))) (absent_from blocks) text) else Ok (None, text)
 
-refuses_anchor : (blocks : List BlockLine) → Refuses (anchor_at blocks)
-unfolding anchor_at
+refuses_anchor : (blocks : List BlockLine) → Refuses (anchor_line_at blocks)
+unfolding anchor_line_at
 refuses_anchor blocks =
     refuses_if (begins (codes "processed")) (processed_read blocks) (absent_read blocks) (refuses_some _ (refuses_checked (codes "processed") (field (number_below (2 ^ 32))) (processed_from blocks)))
-    (refuses_maybe (codes "absent") (checked_at (codes "absent") (field (number_below (2 ^ 32))) (absent_from blocks)) (refuses_checked (codes "absent") (field (number_below (2 ^ 32))) (absent_from blocks)))
+    (refuses_maybe (codes "absent") (checked_line_at (codes "absent") (field (number_below (2 ^ 32))) (absent_from blocks)) (refuses_checked (codes "absent") (field (number_below (2 ^ 32))) (absent_from blocks)))
 
-refuses_held : (blocks : ℕ) → Refuses (held_at blocks)
-unfolding held_at
+refuses_held : (blocks : ℕ) → Refuses (held_line_at blocks)
+unfolding held_line_at
 refuses_held blocks = refuses_if _ _ _ (refuses_checked _ _ _) (refuses_never _)
 
 refuses_sync : (addressed oneshot : Bool) (blocks : ℕ) → Refuses (sync_at addressed oneshot blocks)
@@ -125,9 +125,9 @@ sync_refused addressed oneshot blocks text NoMemory on is = tt
 sync_refused addressed true blocks text (Line left) on is = rw on (ap (λ (n : ℕ). let r : TextReading (Option SyncLine) = Err n in r) (refuses_line (codes "sync") (four bytes_of decimal_of decimal_of (number_below (2 ^ 32))) text left is))
 sync_refused addressed false blocks text (Line left) on is = rw (on, is) refl
 
-refuses_event : (blocks : ℕ) (probe : Bool) (done : List Event) → Refuses (event_at blocks probe done)
-unfolding event_at
-refuses_event blocks probe done text left e = refused_at text (front_of text >>= event_after blocks probe done) left e
+refuses_event : (blocks : ℕ) (probe : Bool) (done : List Event) → Refuses (event_line_at blocks probe done)
+unfolding event_line_at
+refuses_event blocks probe done text left e = refused_at text (front_of text >>= event_line_after blocks probe done) left e
 
 refuses_cut : (events : ℕ) → Refuses (cut_at events)
 unfolding cut_at
@@ -211,7 +211,7 @@ module _ {A : Type 0} (P : List ℕ → Type 0) (before : List ℕ) (goes_on : L
         | inr off ↦ absurd (let there : Ok (done, text) ≡ Err left = rw off at e in cc)
       ]
 
-  begun_many : Begun P before (many_at goes_on read)
+  begun_many : Begun P before (many_lines_at goes_on read)
   begun_many text left e =
       let s = begun_from (suc (length text)) [] tt text left e in
       record { front = s.front; rest = s.rest; is = s.is; size = s.size; begun = subst P (ap (λ (t : List ℕ). t ++ s.front) (append-nil before)) s.begun }
@@ -245,22 +245,22 @@ abbrev one_64 : NonZeroU64
 one_64 = record { value = suc zero; ok = zero-lt-suc zero }
 
 abbrev me_text : ℕ → List ℕ
-me_text k = ended (codes "me" ++ number_field k)
+me_text k = with_line_feed (codes "me" ++ number_field k)
 
 abbrev per_epoch_text : NonZeroU64 → List ℕ
-per_epoch_text n = ended (codes "blocks" ++ number_field (non_zero_u64_get n))
+per_epoch_text n = with_line_feed (codes "blocks" ++ number_field (non_zero_u64_get n))
 
 abbrev limit_text : NonZeroU32 → List ℕ
-limit_text n = ended (codes "limit" ++ number_field (non_zero_u32_get n))
+limit_text n = with_line_feed (codes "limit" ++ number_field (non_zero_u32_get n))
 
 abbrev space_text : List ℕ → List ℕ
-space_text bytes = ended (codes "space" ++ bytes_field bytes)
+space_text bytes = with_line_feed (codes "space" ++ bytes_field bytes)
 
 abbrev word_text : ℕ → List ℕ
-word_text n = ended (codes "life" ++ number_field n)
+word_text n = with_line_feed (codes "life" ++ number_field n)
 
 abbrev stop_text : ℕ → List ℕ
-stop_text n = ended (codes "stop" ++ number_field n)
+stop_text n = with_line_feed (codes "stop" ++ number_field n)
 
 abbrev or_none : {A : Type 0} → (A → List ℕ) → Option A → List ℕ
 or_none text (Some x) = text x
@@ -293,21 +293,21 @@ module _ (addressed : Bool) where
 
   module _ (config : ScriptConfig) (a : IsConfig addressed config) where
     to_end : (blocks : List BlockLine) (lives : List Life) → FitAfter (IsBlockLine addressed config) [] blocks → FitAfter (λ _. IsLife addressed config blocks) [] lives
-        → P (((config_text config ++ flat_map block_line blocks) ++ flat_map life_text lives) ++ ended (codes "end"))
+        → P (((config_text config ++ flat_map block_line blocks) ++ flat_map life_text lives) ++ with_line_feed (codes "end"))
     to_end blocks lives b c =
         let whole : Script = record { addressed = addressed; config = config; blocks = blocks; lives = lives } in
-        let text = ((config_text config ++ flat_map block_line blocks) ++ flat_map life_text lives) ++ ended (codes "end") in
+        let text = ((config_text config ++ flat_map block_line blocks) ++ flat_map life_text lives) ++ with_line_feed (codes "end") in
         record {
           script = whole;
           allowed = record { config = a; blocks = b; lives = c };
           directories = refl;
           rest = [];
-          text = four_left (config_text config) (flat_map block_line blocks) (flat_map life_text lives) (ended (codes "end")) ∙ sym (append-nil text);
+          text = four_left (config_text config) (flat_map block_line blocks) (flat_map life_text lives) (with_line_feed (codes "end")) ∙ sym (append-nil text);
         }
 
     to_lives : (blocks : List BlockLine) (lives : List Life) → FitAfter (IsBlockLine addressed config) [] blocks → FitAfter (λ _. IsLife addressed config blocks) [] lives
         → P ((config_text config ++ flat_map block_line blocks) ++ flat_map life_text lives)
-    to_lives blocks lives b c = cut _ (ended (codes "end")) (to_end blocks lives b c)
+    to_lives blocks lives b c = cut _ (with_line_feed (codes "end")) (to_end blocks lives b c)
 
     to_blocks : (blocks : List BlockLine) → FitAfter (IsBlockLine addressed config) [] blocks → P (config_text config ++ flat_map block_line blocks)
     to_blocks blocks b = cut _ [] (to_lives blocks [] b tt)
@@ -402,10 +402,10 @@ module _ (addressed : Bool) where
       begun_then P [] FitsOpening lines_of opening_at _ opening_found begun_opening (λ o fo.
       begun_then P (lines_of o) (λ n. IfSome n IsKeys) (or_none oneshot_line) _ _ (maybe_found (codes "oneshot") IsKeys oneshot_line (line_at (codes "oneshot") set_row) oneshot_law)
       (begun_here P _ _ (refuses_maybe _ _ (refuses_line _ _)) (to_opening o fo)) (λ n fn.
-      begun_then P (lines_of o ++ or_none oneshot_line n) (FitAfter IsPlayerLine []) (flat_map players_line) _ _ (many_found (begins (codes "players")) IsPlayerLine players_line players_at players_law)
-      (begun_many P (lines_of o ++ or_none oneshot_line n) (begins (codes "players")) IsPlayerLine players_line players_at players_law (λ done fit. begun_here P _ _ (refuses_players done) (to_players o fo n done fn fit))) (λ p fp.
-      begun_then P ((lines_of o ++ or_none oneshot_line n) ++ flat_map players_line p) (FitAfter IsAddressLine []) (flat_map address_line) _ _ (many_found (begins (codes "address")) IsAddressLine address_line address_at addresses_law)
-      (begun_many P ((lines_of o ++ or_none oneshot_line n) ++ flat_map players_line p) (begins (codes "address")) IsAddressLine address_line address_at addresses_law
+      begun_then P (lines_of o ++ or_none oneshot_line n) (FitAfter IsPlayerLine []) (flat_map players_line) _ _ (many_found (begins (codes "players")) IsPlayerLine players_line players_line_at players_law)
+      (begun_many P (lines_of o ++ or_none oneshot_line n) (begins (codes "players")) IsPlayerLine players_line players_line_at players_law (λ done fit. begun_here P _ _ (refuses_players done) (to_players o fo n done fn fit))) (λ p fp.
+      begun_then P ((lines_of o ++ or_none oneshot_line n) ++ flat_map players_line p) (FitAfter IsAddressLine []) (flat_map address_line) _ _ (many_found (begins (codes "address")) IsAddressLine address_line address_line_at addresses_law)
+      (begun_many P ((lines_of o ++ or_none oneshot_line n) ++ flat_map players_line p) (begins (codes "address")) IsAddressLine address_line address_line_at addresses_law
       (λ done fit. begun_here P _ _ (refuses_address done) (to_addresses o fo n p done fn fp fit))) (λ a fa.
       begun_then P (((lines_of o ++ or_none oneshot_line n) ++ flat_map players_line p) ++ flat_map address_line a) (λ r. IfSome r (IsProbeLine addressed)) (or_none probe_line) _ _ (maybe_found (codes "probe") (IsProbeLine addressed) probe_line (probe_at addressed) (probes_law addressed))
       (begun_here P _ _ (refuses_maybe _ _ (refuses_probe addressed)) (to_addresses o fo n p a fn fp fa)) (λ r fr.
@@ -437,8 +437,8 @@ module _ (addressed : Bool) where
       to_word : P (before ++ word_text w)
       to_word = cut _ [] (to_anchor None tt)
 
-    begun_life : Begun P before (life_at addressed config blocks)
-    unfolding life_at events_at
+    begun_life : Begun P before (life_lines_at addressed config blocks)
+    unfolding life_lines_at event_lines_at
     begun_life =
         begun_then P before Is64 word_text _ _ (number_line_law (codes "life") refl).found (begun_here P before _ (refuses_line _ _) here) (λ w fw.
         begun_then P (before ++ word_text w) (λ a. IfSome a (IsAnchor blocks)) (or_none anchor_line) _ _ (anchor_found blocks) (begun_here P _ _ (refuses_anchor blocks) (to_word w fw)) (λ a fa.
@@ -446,8 +446,8 @@ module _ (addressed : Bool) where
         begun_then P (((before ++ word_text w) ++ or_none anchor_line a) ++ held_line h) (λ s. IfSome s (IsSyncLine addressed (is_some config.oneshot) (length blocks))) (or_none sync_line) _ _ (sync_found addressed (length blocks) (is_some config.oneshot))
         (begun_here P _ _ (refuses_sync addressed (is_some config.oneshot) (length blocks)) (to_held w fw a h fa fh)) (λ s fs.
         begun_then P ((((before ++ word_text w) ++ or_none anchor_line a) ++ held_line h) ++ or_none sync_line s) (FitAfter (IsEventAfter (length blocks) (is_some config.probe)) []) (flat_map event_line) _ _
-        (many_found is_eventful (IsEventAfter (length blocks) (is_some config.probe)) event_line (event_at (length blocks) (is_some config.probe)) (events_law (length blocks) (is_some config.probe)))
-        (begun_many P ((((before ++ word_text w) ++ or_none anchor_line a) ++ held_line h) ++ or_none sync_line s) is_eventful (IsEventAfter (length blocks) (is_some config.probe)) event_line (event_at (length blocks) (is_some config.probe)) (events_law (length blocks) (is_some config.probe))
+        (many_found is_eventful (IsEventAfter (length blocks) (is_some config.probe)) event_line (event_line_at (length blocks) (is_some config.probe)) (events_law (length blocks) (is_some config.probe)))
+        (begun_many P ((((before ++ word_text w) ++ or_none anchor_line a) ++ held_line h) ++ or_none sync_line s) is_eventful (IsEventAfter (length blocks) (is_some config.probe)) event_line (event_line_at (length blocks) (is_some config.probe)) (events_law (length blocks) (is_some config.probe))
         (λ done fit. begun_here P _ _ (refuses_event (length blocks) (is_some config.probe) done) (to_events w fw a h s done fa fh fs fit))) (λ e fe.
         begun_then P (((((before ++ word_text w) ++ or_none anchor_line a) ++ held_line h) ++ or_none sync_line s) ++ flat_map event_line e) (λ c. IfSome c (IsCut (length e))) (or_none cut_line) _ _ (cut_found (length e))
         (begun_here P _ _ (refuses_cut (length e)) (to_events w fw a h s e fa fh fs fe)) (λ c fc.
@@ -457,23 +457,23 @@ module _ (addressed : Bool) where
 
   -- THE SCRIPT, line by line
 
-  begun_end : (before : List ℕ) → P before → P (before ++ ended (codes "end")) → Begun P before end_at
+  begun_end : (before : List ℕ) → P before → P (before ++ with_line_feed (codes "end")) → Begun P before end_at
   unfolding end_at
   begun_end before here over =
-      begun_then P before (λ (x : Unit {0}). Unit {0}) (λ x. ended (codes "end")) _ _ end_line_law.found (begun_here P before _ (refuses_line _ _) here) (λ x fx. begun_here P _ _ refuses_more over)
+      begun_then P before (λ (x : Unit {0}). Unit {0}) (λ x. with_line_feed (codes "end")) _ _ end_line_law.found (begun_here P before _ (refuses_line _ _) here) (λ x fx. begun_here P _ _ refuses_more over)
 
   module _ (config : ScriptConfig) (a : IsConfig addressed config) where
     begun_blocks : Begun P (config_text config) (blocks_at addressed config)
     unfolding blocks_at
     begun_blocks =
-        begun_many P (config_text config) (begins (codes "block")) (IsBlockLine addressed config) block_line (block_at addressed config) (blocks_law addressed config)
+        begun_many P (config_text config) (begins (codes "block")) (IsBlockLine addressed config) block_line (block_line_at addressed config) (blocks_law addressed config)
         (λ done fit. begun_here P _ _ (refuses_block addressed config done) (to_blocks config a done fit))
 
     begun_lives : (blocks : List BlockLine) → FitAfter (IsBlockLine addressed config) [] blocks → Begun P (config_text config ++ flat_map block_line blocks) (lives_at addressed config blocks)
     unfolding lives_at
     begun_lives blocks b =
         let before = config_text config ++ flat_map block_line blocks in
-        begun_many P before (begins (codes "life")) (λ _. IsLife addressed config blocks) life_text (λ _. life_at addressed config blocks) (λ _. life_law addressed config blocks) (λ done fit.
+        begun_many P before (begins (codes "life")) (λ _. IsLife addressed config blocks) life_text (λ _. life_lines_at addressed config blocks) (λ _. life_law addressed config blocks) (λ done fit.
         begun_life config blocks (before ++ flat_map life_text done) (to_lives config a blocks done b fit) (λ life fl.
         subst P (sym (flat_map_more life_text before done life)) (to_lives config a blocks (done ++ life ∷ []) b (fit_more (λ _. IsLife addressed config blocks) [] done life fit fl))))
 
@@ -481,8 +481,8 @@ module _ (addressed : Bool) where
   unfolding reading_of blocks_at lives_at
   begun_all =
       begun_then P [] (IsConfig addressed) config_text (config_at addressed) _ (config_found addressed) begun_config (λ config a.
-      begun_then P (config_text config) (FitAfter (IsBlockLine addressed config) []) (flat_map block_line) _ _ (many_found (begins (codes "block")) (IsBlockLine addressed config) block_line (block_at addressed config) (blocks_law addressed config)) (begun_blocks config a) (λ blocks b.
-      begun_then P (config_text config ++ flat_map block_line blocks) (FitAfter (λ _. IsLife addressed config blocks) []) (flat_map life_text) _ _ (many_found (begins (codes "life")) (λ _. IsLife addressed config blocks) life_text (λ _. life_at addressed config blocks) (λ _. life_law addressed config blocks)) (begun_lives config a blocks b) (λ lives c.
+      begun_then P (config_text config) (FitAfter (IsBlockLine addressed config) []) (flat_map block_line) _ _ (many_found (begins (codes "block")) (IsBlockLine addressed config) block_line (block_line_at addressed config) (blocks_law addressed config)) (begun_blocks config a) (λ blocks b.
+      begun_then P (config_text config ++ flat_map block_line blocks) (FitAfter (λ _. IsLife addressed config blocks) []) (flat_map life_text) _ _ (many_found (begins (codes "life")) (λ _. IsLife addressed config blocks) life_text (λ _. life_lines_at addressed config blocks) (λ _. life_law addressed config blocks)) (begun_lives config a blocks b) (λ lives c.
       begun_last P _ end_at _ (begun_end ((config_text config ++ flat_map block_line blocks) ++ flat_map life_text lives) (to_lives config a blocks lives b c) (to_end config a blocks lives b c)))))
 
 -- a text that is no script's, up to where its reading stops

@@ -16,12 +16,12 @@ use Rattle.dkg_text.specs.declared.script.ProbeLine.{ProbeLine}
 use Rattle.dkg_reading.specs.Allowed.{Is32, Is64, IsAddress, IsAddressLine, IsKeys, IsPlayerLine, IsProbeLine}
 use Rattle.dkg_text.specs.PayloadKinds.{is_info}
 use Rattle.dkg_text.specs.Fields.{bytes_field, hex_text, number_field}
-use Rattle.dkg_reading.specs.Grammar.{address_after, address_at, is_above, limit_from, players_after, players_at, probe_at, probe_from, version_one}
-use Rattle.dkg_reading.specs.Lines.{checked_at, line_at}
+use Rattle.dkg_reading.specs.Grammar.{address_line_after, address_line_at, is_above, limit_from, players_after, players_line_at, probe_at, probe_from, version_one}
+use Rattle.dkg_reading.specs.Lines.{checked_line_at, line_at}
 use Rattle.dkg_reading.specs.Positive.{positive_32, positive_64}
 use Rattle.dkg_reading.specs.Rows.{address_row, beside, bytes_of, dash_or, field, four, mode_of, number_below, decimal_of, set_row, two, version_of}
 use Rattle.dkg_reading.specs.Spells.{IsFieldText, IsLastRow, IsLine}
-use Rattle.dkg_text.specs.Writing.{address_fields, address_line, ended, mode_number, number_or_dash, numbers_fields, oneshot_line, or_dash, players_line, probe_line}
+use Rattle.dkg_text.specs.Writing.{address_fields, address_line, with_line_feed, mode_number, number_or_dash, numbers_fields, oneshot_line, or_dash, players_line, probe_line}
 use Rattle.dkg_reading.proofs.FieldLaws.{bytes_law, mode_law, number_law, number_or_dash_law, version_law as version_field_law}
 use Rattle.dkg_reading.proofs.Guards.{if_some, some_is}
 use Rattle.dkg_reading.proofs.LineLaws.{HasName, checked_law, line_law, line_named}
@@ -56,15 +56,15 @@ bytes_row = last IsBytes bytes_field (field bytes_of) (field_law IsBytes hex_tex
 
 -- THE LINES THAT EVERY SCRIPT HAS
 
-pub me_law : IsLine Is32 (λ k. ended (codes "me" ++ number_field k)) (line_at (codes "me") (field (number_below (2 ^ 32))))
+pub me_law : IsLine Is32 (λ k. with_line_feed (codes "me" ++ number_field k)) (line_at (codes "me") (field (number_below (2 ^ 32))))
 me_law = line_law (codes "me") (plain_name (codes "me") refl) Is32 number_field (field (number_below (2 ^ 32))) number_32_row
 
 is_one : (n : ℕ) (x : Unit {0}) → Is64 n → version_one n ≡ Some x → Unit {0} × (1 ≡ n)
 is_one n x fit e = let g = if_some (n == 1) (Some tt) x e in (tt, sym (eqb-true n 1 g.0))
 
-pub version_law : IsLine (λ (x : Unit {0}). Unit {0}) (λ x. ended (codes "dkg" ++ number_field 1)) (checked_at (codes "dkg") (field decimal_of) version_one)
+pub version_law : IsLine (λ (x : Unit {0}). Unit {0}) (λ x. with_line_feed (codes "dkg" ++ number_field 1)) (checked_line_at (codes "dkg") (field decimal_of) version_one)
 version_law =
-    checked_law Is64 (λ n. ended (codes "dkg" ++ number_field n)) (line_at (codes "dkg") (field decimal_of)) (line_law (codes "dkg") (plain_name (codes "dkg") refl) Is64 number_field (field decimal_of) number_row)
+    checked_law Is64 (λ n. with_line_feed (codes "dkg" ++ number_field n)) (line_at (codes "dkg") (field decimal_of)) (line_law (codes "dkg") (plain_name (codes "dkg") refl) Is64 number_field (field decimal_of) number_row)
     version_one (λ x. Unit {0}) (λ x. 1) is_one (λ x fit. (omega arith, refl))
 
 positive_64_is : (n : ℕ) (x : NonZeroU64) → positive_64 n ≡ Some x → non_zero_u64_get x ≡ n
@@ -75,9 +75,9 @@ positive_32_is : (n : ℕ) (x : NonZeroU32) → positive_32 n ≡ Some x → non
 positive_32_is zero x e = cc e
 positive_32_is (suc n) x e = ap non_zero_u32_get (sym (some_is _ x e))
 
-pub blocks_law : IsLine (λ x. Is64 (non_zero_u64_get x)) (λ x. ended (codes "blocks" ++ number_field (non_zero_u64_get x))) (checked_at (codes "blocks") (field decimal_of) positive_64)
+pub blocks_law : IsLine (λ x. Is64 (non_zero_u64_get x)) (λ x. with_line_feed (codes "blocks" ++ number_field (non_zero_u64_get x))) (checked_line_at (codes "blocks") (field decimal_of) positive_64)
 blocks_law =
-    checked_law Is64 (λ n. ended (codes "blocks" ++ number_field n)) (line_at (codes "blocks") (field decimal_of)) (line_law (codes "blocks") (plain_name (codes "blocks") refl) Is64 number_field (field decimal_of) number_row)
+    checked_law Is64 (λ n. with_line_feed (codes "blocks" ++ number_field n)) (line_at (codes "blocks") (field decimal_of)) (line_law (codes "blocks") (plain_name (codes "blocks") refl) Is64 number_field (field decimal_of) number_row)
     positive_64 (λ x. Is64 (non_zero_u64_get x)) non_zero_u64_get
     (λ n x fit e. let is = positive_64_is n x e in (subst Is64 (sym is) fit, is))
     (λ x fit. (fit, sym (is_64 x (non_zero_u64_get x) refl)))
@@ -100,9 +100,9 @@ limit_again x fit =
     let below : nat_lt (2 ^ 30) (non_zero_u32_get x) ≡ false = grind (arith, nat_tests) in
     (omega (arith, fit), rw below (sym (is_32 x (non_zero_u32_get x) refl)))
 
-pub limit_law : IsLine (λ x. non_zero_u32_get x ≤ 2 ^ 30) (λ x. ended (codes "limit" ++ number_field (non_zero_u32_get x))) (checked_at (codes "limit") (field (number_below (2 ^ 32))) limit_from)
+pub limit_law : IsLine (λ x. non_zero_u32_get x ≤ 2 ^ 30) (λ x. with_line_feed (codes "limit" ++ number_field (non_zero_u32_get x))) (checked_line_at (codes "limit") (field (number_below (2 ^ 32))) limit_from)
 limit_law =
-    checked_law Is32 (λ n. ended (codes "limit" ++ number_field n)) (line_at (codes "limit") (field (number_below (2 ^ 32))))
+    checked_law Is32 (λ n. with_line_feed (codes "limit" ++ number_field n)) (line_at (codes "limit") (field (number_below (2 ^ 32))))
     (line_law (codes "limit") (plain_name (codes "limit") refl) Is32 number_field (field (number_below (2 ^ 32))) number_32_row)
     limit_from (λ x. non_zero_u32_get x ≤ 2 ^ 30) non_zero_u32_get limit_is limit_again
 
@@ -110,13 +110,13 @@ abbrev pub AreModes : Mode × ModeVersion → Type 0
 AreModes m = Unit {0} × (m.1.0 < 2)
 
 abbrev pub modes_line : Mode × ModeVersion → List ℕ
-modes_line m = ended (codes "mode" ++ number_field (mode_number m.0) ++ number_field m.1.0)
+modes_line m = with_line_feed (codes "mode" ++ number_field (mode_number m.0) ++ number_field m.1.0)
 
 pub modes_law : IsLine AreModes modes_line (line_at (codes "mode") (two mode_of version_of))
 modes_law = line_law (codes "mode") (plain_name (codes "mode") refl) AreModes (λ m. number_field (mode_number m.0) ++ number_field m.1.0) (two mode_of version_of)
     (two_law (λ (m : Mode). Unit {0}) (λ m. decimal (mode_number m)) mode_of mode_law (λ (v : ModeVersion). v.0 < 2) (λ v. decimal v.0) version_of version_field_law)
 
-pub space_law : IsLine IsBytes (λ bytes. ended (codes "space" ++ bytes_field bytes)) (line_at (codes "space") (field bytes_of))
+pub space_law : IsLine IsBytes (λ bytes. with_line_feed (codes "space" ++ bytes_field bytes)) (line_at (codes "space") (field bytes_of))
 space_law = line_law (codes "space") (plain_name (codes "space") refl) IsBytes bytes_field (field bytes_of) bytes_row
 
 -- ONE-SHOT PARTICIPANTS
@@ -152,10 +152,10 @@ players_to done p l fit e =
 players_from : (done : List PlayerLine) (l : PlayerLine) → IsPlayerLine done l → ArePlayers (players_back l) × (players_after done (players_back l) ≡ Some l)
 players_from done l fit = ((fit.epoch, fit.players), rw fit.above refl)
 
-pub players_law : (done : List PlayerLine) → IsLine (IsPlayerLine done) players_line (players_at done)
-unfolding players_at
+pub players_law : (done : List PlayerLine) → IsLine (IsPlayerLine done) players_line (players_line_at done)
+unfolding players_line_at
 players_law done =
-    checked_law ArePlayers (λ p. ended (codes "players" ++ players_text p)) (line_at (codes "players") (beside (field decimal_of) set_row))
+    checked_law ArePlayers (λ p. with_line_feed (codes "players" ++ players_text p)) (line_at (codes "players") (beside (field decimal_of) set_row))
     (line_law (codes "players") (plain_name (codes "players") refl) ArePlayers players_text (beside (field decimal_of) set_row) players_row)
     (players_after done) (IsPlayerLine done) players_back (players_to done) (players_from done)
 
@@ -173,7 +173,7 @@ IsReached p = Is32 p.0 × IsAddress p.1
 reached_row : IsLastRow IsReached address_text (beside (field (number_below (2 ^ 32))) address_row)
 reached_row = beside_law Is32 number_field (field (number_below (2 ^ 32))) (field_law Is32 decimal (number_below (2 ^ 32)) key_law) IsAddress address_fields address_row address_law
 
-address_to : (done : List (ℕ × Address)) (p l : ℕ × Address) → IsReached p → address_after done p ≡ Some l → IsAddressLine done l × (l ≡ p)
+address_to : (done : List (ℕ × Address)) (p l : ℕ × Address) → IsReached p → address_line_after done p ≡ Some l → IsAddressLine done l × (l ≡ p)
 address_to done p l fit e =
     let above = is_above (keys_of done) p.0 in
     let few = nat_lt (length done + 1) (2 ^ 32) in
@@ -183,15 +183,15 @@ address_to done p l fit e =
     let is : IsAddressLine done p = record { key = fit.0; address = fit.1; above = parts.0; in_bound = ltb-true (length done + 1) (2 ^ 32) parts.1 } in
     (subst (IsAddressLine done) same is, sym same)
 
-address_from : (done : List (ℕ × Address)) (l : ℕ × Address) → IsAddressLine done l → IsReached l × (address_after done l ≡ Some l)
+address_from : (done : List (ℕ × Address)) (l : ℕ × Address) → IsAddressLine done l → IsReached l × (address_line_after done l ≡ Some l)
 address_from done l fit = ((fit.key, fit.address), rw (fit.above, lt-ltb (length done + 1) (2 ^ 32) fit.in_bound) refl)
 
-pub addresses_law : (done : List (ℕ × Address)) → IsLine (IsAddressLine done) address_line (address_at done)
-unfolding address_at
+pub addresses_law : (done : List (ℕ × Address)) → IsLine (IsAddressLine done) address_line (address_line_at done)
+unfolding address_line_at
 addresses_law done =
-    checked_law IsReached (λ p. ended (codes "address" ++ address_text p)) (line_at (codes "address") (beside (field (number_below (2 ^ 32))) address_row))
+    checked_law IsReached (λ p. with_line_feed (codes "address" ++ address_text p)) (line_at (codes "address") (beside (field (number_below (2 ^ 32))) address_row))
     (line_law (codes "address") (plain_name (codes "address") refl) IsReached address_text (beside (field (number_below (2 ^ 32))) address_row) reached_row)
-    (address_after done) (IsAddressLine done) (λ l. l) (address_to done) (address_from done)
+    (address_line_after done) (IsAddressLine done) (λ l. l) (address_to done) (address_from done)
 
 pub address_named : (done : List (ℕ × Address)) (l : ℕ × Address) (rest : List ℕ) → IsAddressLine done l → HasName (codes "address") (address_line l ++ rest)
 address_named done l rest fit = line_named (codes "address") (plain_name (codes "address") refl) IsReached address_text (beside (field (number_below (2 ^ 32))) address_row) reached_row l rest (fit.key, fit.address)
@@ -228,7 +228,7 @@ probe_of addressed l fit = ((fit.checkpoint, (fit.floor, (fit.checkpoint_bytes, 
 pub probes_law : (addressed : Bool) → IsLine (IsProbeLine addressed) probe_line (probe_at addressed)
 unfolding probe_at
 probes_law addressed =
-    checked_law IsProbed (λ p. ended (codes "probe" ++ probe_text p)) (line_at (codes "probe") (four decimal_of (dash_or decimal_of) bytes_of bytes_of))
+    checked_law IsProbed (λ p. with_line_feed (codes "probe" ++ probe_text p)) (line_at (codes "probe") (four decimal_of (dash_or decimal_of) bytes_of bytes_of))
     (line_law (codes "probe") (plain_name (codes "probe") refl) IsProbed probe_text (four decimal_of (dash_or decimal_of) bytes_of bytes_of) probe_row)
     (probe_from addressed) (IsProbeLine addressed) probe_back (probe_to addressed) (probe_of addressed)
 

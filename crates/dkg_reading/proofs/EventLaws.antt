@@ -9,11 +9,11 @@ use Rattle.dkg_text.specs.declared.script.Event.{Event}
 use Rattle.dkg_text.specs.declared.script.Event.TheVariants.{Peer, Final, Next, Release, Info, Feed, Over, Cancel, Work, Prepare, Propose, Verify, Later, Subscribe, Unsubscribe, Attach, Reply, Retry}
 use Rattle.dkg_reading.specs.Allowed.{Is32, Is64, IsEventAfter, IsEventInRange}
 use Rattle.dkg_text.specs.Fields.{bytes_field, hex_text, number_field}
-use Rattle.dkg_reading.specs.Grammar.{event_after, event_at, event_of, event_row, event_table, is_event, is_eventful}
+use Rattle.dkg_reading.specs.Grammar.{event_line_after, event_line_at, event_named, event_row, event_table, is_allowed_event, is_eventful}
 use Rattle.dkg_reading.specs.Lines.{begins, front_of}
-use Rattle.dkg_reading.specs.Rows.{Row, all, bytes_of, field, nothing, number_below, decimal_of, two, whole, ◌>>=◌}
+use Rattle.dkg_reading.specs.Rows.{Row, all, bytes_of, field, no_fields, number_below, decimal_of, two, whole_row, ◌>>=◌}
 use Rattle.dkg_reading.specs.Spells.{AreFieldTexts, IsFieldText, IsLastRow, IsLine, spaced}
-use Rattle.dkg_text.specs.Writing.{ended, event_line, event_text, numbers_fields}
+use Rattle.dkg_text.specs.Writing.{with_line_feed, event_line, event_text, numbers_fields}
 use Rattle.dkg_reading.proofs.ConfigLaws.{is_plain, number_32_row, number_row, plain_name}
 use Rattle.dkg_reading.proofs.FieldLaws.{bytes_law, number_law}
 use Rattle.dkg_reading.proofs.Guards.{allowed_ok, bind_some, if_some, some_is}
@@ -58,7 +58,7 @@ module _ {A : Type 0} (name : List ℕ) (fits : A → Type 0) (text : A → List
     (range : (x : A) → fits x → IsEventInRange (make x)) (is : (x : A) → name ++ text x ≡ event_text (make x)) where
   row_found : (fields : List (List ℕ)) (event : Event) → event_row row make fields ≡ Some event → IsNamed name fields event
   row_found fields event e =
-      let b = bind_some (whole (row fields)) (λ x. Some (make x)) event e in
+      let b = bind_some (whole_row (row fields)) (λ x. Some (make x)) event e in
       let f = law.found fields b.0 [] (whole_found (row fields) b.0 b.1) in
       let text_is : name ++ spaced fields ≡ event_text (make b.0) = ap (λ (t : List ℕ). name ++ t) (f.1 ∙ append-nil (text b.0)) ∙ is b.0 in
       subst (IsNamed name fields) (some_is (make b.0) event b.2) (range b.0 f.0, text_is)
@@ -82,7 +82,7 @@ record IsSpeltEvent (event : Event) : Type 0 where
   plain_text : IsFieldText name
   plain : AreFieldTexts fields
   text_is : name ++ spaced fields ≡ event_text event
-  reads : event_of name fields ≡ Some event
+  reads : event_named name fields ≡ Some event
   no_cut : bytes_eq name (codes "cut") ≡ false
   no_stop : bytes_eq name (codes "stop") ≡ false
   no_early : list_any (bytes_eq name) (codes "processed" ∷ codes "absent" ∷ codes "held" ∷ codes "sync" ∷ []) ≡ false
@@ -99,7 +99,7 @@ or_named name other fields o rest event here more e = by_case (bytes_eq name oth
 no_event : (name : List ℕ) (fields : List (List ℕ)) (event : Event) → None ≡ Some event → IsNamed name fields event
 no_event name fields event e = cc e
 
-pub event_found : (name : List ℕ) (fields : List (List ℕ)) (event : Event) → event_of name fields ≡ Some event → IsNamed name fields event
+pub event_found : (name : List ℕ) (fields : List (List ℕ)) (event : Event) → event_named name fields ≡ Some event → IsNamed name fields event
 unfolding event_table
 event_found name fields event e =
     or_named name (codes "peer") fields _ _ event (row_found (codes "peer") IsMessage (λ p. number_field p.0 ++ bytes_field p.1) (two (number_below (2 ^ 32)) bytes_of) message_row (λ x. Peer x.0 x.1) (λ x fit. fit) (λ x. refl) fields event) (λ e.
@@ -110,21 +110,21 @@ event_found name fields event e =
     or_named name (codes "feed") fields _ _ event (row_found (codes "feed") IsFed (λ p. number_field p.0 ++ number_field p.1) (two decimal_of (number_below (2 ^ 32))) fed_row (λ x. Feed x.0 x.1) (λ x fit. fit) (λ x. refl) fields event) (λ e.
     or_named name (codes "over") fields _ _ event (row_found (codes "over") Is64 number_field (field decimal_of) number_row (λ x. Over x) (λ x fit. fit) (λ x. refl) fields event) (λ e.
     or_named name (codes "cancel") fields _ _ event (row_found (codes "cancel") Is64 number_field (field decimal_of) number_row (λ x. Cancel x) (λ x fit. fit) (λ x. refl) fields event) (λ e.
-    or_named name (codes "work") fields _ _ event (row_found (codes "work") (λ x. Unit {0}) (λ x. []) nothing nothing_law (λ x. Work) (λ x fit. fit) (λ x. refl) fields event) (λ e.
+    or_named name (codes "work") fields _ _ event (row_found (codes "work") (λ x. Unit {0}) (λ x. []) no_fields nothing_law (λ x. Work) (λ x fit. fit) (λ x. refl) fields event) (λ e.
     or_named name (codes "prepare") fields _ _ event (row_found (codes "prepare") index_each numbers_fields (all (number_below (2 ^ 32))) indexes_row (λ x. Prepare x) (λ x fit. fit) (λ x. refl) fields event) (λ e.
     or_named name (codes "propose") fields _ _ event (row_found (codes "propose") index_each numbers_fields (all (number_below (2 ^ 32))) indexes_row (λ x. Propose x) (λ x fit. fit) (λ x. refl) fields event) (λ e.
     or_named name (codes "verify") fields _ _ event (row_found (codes "verify") index_each numbers_fields (all (number_below (2 ^ 32))) indexes_row (λ x. Verify x) (λ x fit. fit) (λ x. refl) fields event) (λ e.
     or_named name (codes "later") fields _ _ event (row_found (codes "later") IsFrom (λ p. number_field p.0 ++ number_field p.1) (two (number_below (2 ^ 32)) decimal_of) from_row (λ x. Later x.0 x.1) (λ x fit. fit) (λ x. refl) fields event) (λ e.
-    or_named name (codes "subscribe") fields _ _ event (row_found (codes "subscribe") (λ x. Unit {0}) (λ x. []) nothing nothing_law (λ x. Subscribe) (λ x fit. fit) (λ x. refl) fields event) (λ e.
-    or_named name (codes "unsubscribe") fields _ _ event (row_found (codes "unsubscribe") (λ x. Unit {0}) (λ x. []) nothing nothing_law (λ x. Unsubscribe) (λ x fit. fit) (λ x. refl) fields event) (λ e.
-    or_named name (codes "attach") fields _ _ event (row_found (codes "attach") (λ x. Unit {0}) (λ x. []) nothing nothing_law (λ x. Attach) (λ x fit. fit) (λ x. refl) fields event) (λ e.
+    or_named name (codes "subscribe") fields _ _ event (row_found (codes "subscribe") (λ x. Unit {0}) (λ x. []) no_fields nothing_law (λ x. Subscribe) (λ x fit. fit) (λ x. refl) fields event) (λ e.
+    or_named name (codes "unsubscribe") fields _ _ event (row_found (codes "unsubscribe") (λ x. Unit {0}) (λ x. []) no_fields nothing_law (λ x. Unsubscribe) (λ x fit. fit) (λ x. refl) fields event) (λ e.
+    or_named name (codes "attach") fields _ _ event (row_found (codes "attach") (λ x. Unit {0}) (λ x. []) no_fields nothing_law (λ x. Attach) (λ x fit. fit) (λ x. refl) fields event) (λ e.
     or_named name (codes "reply") fields _ _ event (row_found (codes "reply") IsMessage (λ p. number_field p.0 ++ bytes_field p.1) (two (number_below (2 ^ 32)) bytes_of) message_row (λ x. Reply x.0 x.1) (λ x fit. fit) (λ x. refl) fields event) (λ e.
-    or_named name (codes "retry") fields _ _ event (row_found (codes "retry") (λ x. Unit {0}) (λ x. []) nothing nothing_law (λ x. Retry) (λ x fit. fit) (λ x. refl) fields event)
+    or_named name (codes "retry") fields _ _ event (row_found (codes "retry") (λ x. Unit {0}) (λ x. []) no_fields nothing_law (λ x. Retry) (λ x fit. fit) (λ x. refl) fields event)
     (no_event name fields event) e) e) e) e) e) e) e) e) e) e) e) e) e) e) e) e) e) e
 
 -- the row of an event, where its name is one of the table
 spelt_as : {A : Type 0} (name : List ℕ) (row : Row A) (make : A → Event) (event : Event) (fields : List (List ℕ)) → is_plain name ≡ true → AreFieldTexts fields → name ++ spaced fields ≡ event_text event
-    → event_of name fields ≡ event_row row make fields → event_row row make fields ≡ Some event → bytes_eq name (codes "cut") ≡ false → bytes_eq name (codes "stop") ≡ false
+    → event_named name fields ≡ event_row row make fields → event_row row make fields ≡ Some event → bytes_eq name (codes "cut") ≡ false → bytes_eq name (codes "stop") ≡ false
     → list_any (bytes_eq name) (codes "processed" ∷ codes "absent" ∷ codes "held" ∷ codes "sync" ∷ []) ≡ false → IsSpeltEvent event
 spelt_as name row make event fields named plain text_is there reads no_cut no_stop no_early = record {
   name = name;
@@ -165,8 +165,8 @@ event_spelt (Cancel request) fit =
     let s = row_again (codes "cancel") Is64 number_field (field decimal_of) number_row (λ x. Cancel x) (λ x f. f) (λ x. refl) request fit in
     spelt_as (codes "cancel") (field decimal_of) (λ x. Cancel x) (Cancel request) s.fields refl s.plain s.text_is refl s.reads refl refl refl
 event_spelt Work fit =
-    let s = row_again (codes "work") (λ x. Unit {0}) (λ x. []) nothing nothing_law (λ x. Work) (λ x f. f) (λ x. refl) tt fit in
-    spelt_as (codes "work") nothing (λ x. Work) Work s.fields refl s.plain s.text_is refl s.reads refl refl refl
+    let s = row_again (codes "work") (λ x. Unit {0}) (λ x. []) no_fields nothing_law (λ x. Work) (λ x f. f) (λ x. refl) tt fit in
+    spelt_as (codes "work") no_fields (λ x. Work) Work s.fields refl s.plain s.text_is refl s.reads refl refl refl
 event_spelt (Prepare ancestry) fit =
     let s = row_again (codes "prepare") index_each numbers_fields (all (number_below (2 ^ 32))) indexes_row (λ x. Prepare x) (λ x f. f) (λ x. refl) ancestry fit in
     spelt_as (codes "prepare") (all (number_below (2 ^ 32))) (λ x. Prepare x) (Prepare ancestry) s.fields refl s.plain s.text_is refl s.reads refl refl refl
@@ -180,20 +180,20 @@ event_spelt (Later from epoch) fit =
     let s = row_again (codes "later") IsFrom (λ p. number_field p.0 ++ number_field p.1) (two (number_below (2 ^ 32)) decimal_of) from_row (λ x. Later x.0 x.1) (λ x f. f) (λ x. refl) (from, epoch) fit in
     spelt_as (codes "later") (two (number_below (2 ^ 32)) decimal_of) (λ x. Later x.0 x.1) (Later from epoch) s.fields refl s.plain s.text_is refl s.reads refl refl refl
 event_spelt Subscribe fit =
-    let s = row_again (codes "subscribe") (λ x. Unit {0}) (λ x. []) nothing nothing_law (λ x. Subscribe) (λ x f. f) (λ x. refl) tt fit in
-    spelt_as (codes "subscribe") nothing (λ x. Subscribe) Subscribe s.fields refl s.plain s.text_is refl s.reads refl refl refl
+    let s = row_again (codes "subscribe") (λ x. Unit {0}) (λ x. []) no_fields nothing_law (λ x. Subscribe) (λ x f. f) (λ x. refl) tt fit in
+    spelt_as (codes "subscribe") no_fields (λ x. Subscribe) Subscribe s.fields refl s.plain s.text_is refl s.reads refl refl refl
 event_spelt Unsubscribe fit =
-    let s = row_again (codes "unsubscribe") (λ x. Unit {0}) (λ x. []) nothing nothing_law (λ x. Unsubscribe) (λ x f. f) (λ x. refl) tt fit in
-    spelt_as (codes "unsubscribe") nothing (λ x. Unsubscribe) Unsubscribe s.fields refl s.plain s.text_is refl s.reads refl refl refl
+    let s = row_again (codes "unsubscribe") (λ x. Unit {0}) (λ x. []) no_fields nothing_law (λ x. Unsubscribe) (λ x f. f) (λ x. refl) tt fit in
+    spelt_as (codes "unsubscribe") no_fields (λ x. Unsubscribe) Unsubscribe s.fields refl s.plain s.text_is refl s.reads refl refl refl
 event_spelt Attach fit =
-    let s = row_again (codes "attach") (λ x. Unit {0}) (λ x. []) nothing nothing_law (λ x. Attach) (λ x f. f) (λ x. refl) tt fit in
-    spelt_as (codes "attach") nothing (λ x. Attach) Attach s.fields refl s.plain s.text_is refl s.reads refl refl refl
+    let s = row_again (codes "attach") (λ x. Unit {0}) (λ x. []) no_fields nothing_law (λ x. Attach) (λ x f. f) (λ x. refl) tt fit in
+    spelt_as (codes "attach") no_fields (λ x. Attach) Attach s.fields refl s.plain s.text_is refl s.reads refl refl refl
 event_spelt (Reply from bytes) fit =
     let s = row_again (codes "reply") IsMessage (λ p. number_field p.0 ++ bytes_field p.1) (two (number_below (2 ^ 32)) bytes_of) message_row (λ x. Reply x.0 x.1) (λ x f. f) (λ x. refl) (from, bytes) fit in
     spelt_as (codes "reply") (two (number_below (2 ^ 32)) bytes_of) (λ x. Reply x.0 x.1) (Reply from bytes) s.fields refl s.plain s.text_is refl s.reads refl refl refl
 event_spelt Retry fit =
-    let s = row_again (codes "retry") (λ x. Unit {0}) (λ x. []) nothing nothing_law (λ x. Retry) (λ x f. f) (λ x. refl) tt fit in
-    spelt_as (codes "retry") nothing (λ x. Retry) Retry s.fields refl s.plain s.text_is refl s.reads refl refl refl
+    let s = row_again (codes "retry") (λ x. Unit {0}) (λ x. []) no_fields nothing_law (λ x. Retry) (λ x f. f) (λ x. refl) tt fit in
+    spelt_as (codes "retry") no_fields (λ x. Retry) Retry s.fields refl s.plain s.text_is refl s.reads refl refl refl
 
 -- ---- what does not begin the part of a life before its events
 pub record IsNoEarlier (text : List ℕ) : Type 0 where
@@ -239,19 +239,19 @@ eventless text among = by_case (bytes_eq among.name (codes "cut")) refl (bytes_e
     by_case false a true e one = rw (cut_is, a, stop_is, e) refl
     by_case false a false e one = cc one
 
-pub long : (text : List ℕ) → 0 < length (ended text)
+pub long : (text : List ℕ) → 0 < length (with_line_feed text)
 long text = let size = length-append text (10 ∷ []) in omega (arith, size)
 
 -- LINES OF EVENTS
 
 module _ (blocks : ℕ) (probe : Bool) where
-  line_found : (done : List Event) (text : List ℕ) (event : Event) (rest : List ℕ) → event_at blocks probe done text ≡ Ok (event, rest) → IsEventAfter blocks probe done event × (text ≡ event_line event ++ rest)
-  unfolding event_at
+  line_found : (done : List Event) (text : List ℕ) (event : Event) (rest : List ℕ) → event_line_at blocks probe done text ≡ Ok (event, rest) → IsEventAfter blocks probe done event × (text ≡ event_line event ++ rest)
+  unfolding event_line_at
   line_found done text event rest e =
-      let o = allowed_ok text (front_of text >>= event_after blocks probe done) (event, rest) e in
-      let l = bind_some (front_of text) (event_after blocks probe done) (event, rest) o in
-      let v = bind_some (event_of l.0.0 l.0.1.0) (λ x. cond (is_event blocks probe done x) (Some (x, l.0.1.1)) None) (event, rest) l.2 in
-      let g = if_some (is_event blocks probe done v.0) (Some (v.0, l.0.1.1)) (event, rest) v.2 in
+      let o = allowed_ok text (front_of text >>= event_line_after blocks probe done) (event, rest) e in
+      let l = bind_some (front_of text) (event_line_after blocks probe done) (event, rest) o in
+      let v = bind_some (event_named l.0.0 l.0.1.0) (λ x. cond (is_allowed_event blocks probe done x) (Some (x, l.0.1.1)) None) (event, rest) l.2 in
+      let g = if_some (is_allowed_event blocks probe done v.0) (Some (v.0, l.0.1.1)) (event, rest) v.2 in
       let named = event_found l.0.0 l.0.1.0 v.0 v.1 in
       let there : text ≡ event_line v.0 ++ l.0.1.1 = front_found text l.0 l.1 ∙ (ap (λ (t : List ℕ). t ++ 10 ∷ l.0.1.1) named.1 ∙ sym (ended_before (event_text v.0) l.0.1.1)) in
       subst (λ (z : Event × List ℕ). IsEventAfter blocks probe done z.0 × (text ≡ event_line z.0 ++ z.1)) (some_is (v.0, l.0.1.1) (event, rest) g.1)
@@ -262,12 +262,12 @@ module _ (blocks : ℕ) (probe : Bool) where
       let line : event_line event ++ rest ≡ (s.name ++ spaced s.fields) ++ 10 ∷ rest = ended_before (event_text event) rest ∙ ap (λ (u : List ℕ). u ++ 10 ∷ rest) (sym s.text_is) in
       ap front_of line ∙ front_again s.name s.fields rest s.plain_text s.plain
 
-  read_front : (done : List Event) (text : List ℕ) (name : List ℕ) (fields : List (List ℕ)) (event : Event) (rest : List ℕ) → front_of text ≡ Some (name, (fields, rest)) → event_of name fields ≡ Some event → is_event blocks probe done event ≡ true
-      → event_at blocks probe done text ≡ Ok (event, rest)
-  unfolding event_at
+  read_front : (done : List Event) (text : List ℕ) (name : List ℕ) (fields : List (List ℕ)) (event : Event) (rest : List ℕ) → front_of text ≡ Some (name, (fields, rest)) → event_named name fields ≡ Some event → is_allowed_event blocks probe done event ≡ true
+      → event_line_at blocks probe done text ≡ Ok (event, rest)
+  unfolding event_line_at
   read_front done text name fields event rest front reads stands = rw (front, reads, stands) refl
 
-  pub events_law : (done : List Event) → IsLine (IsEventAfter blocks probe done) event_line (event_at blocks probe done)
+  pub events_law : (done : List Event) → IsLine (IsEventAfter blocks probe done) event_line (event_line_at blocks probe done)
   events_law done = record {
     found = line_found done;
     again = λ event rest fit.

@@ -16,11 +16,11 @@ use Rattle.dkg_text.specs.declared.script.SyncLine.{SyncLine}
 use Rattle.dkg_reading.specs.Allowed.{AreHeld, AreSomeBytes, Is32, Is64, IsAnchor, IsBlockLine, IsCut, IsSyncLine}
 use Rattle.dkg_text.specs.PayloadKinds.{is_info}
 use Rattle.dkg_text.specs.Fields.{bytes_field, hex_text, number_field}
-use Rattle.dkg_reading.specs.Grammar.{absent_from, anchor_at, are_blocks, block_after, block_at, cut_at, cut_from, held_at, held_from, is_parent, is_payload, limit_of, processed_from, sync_at, sync_from}
-use Rattle.dkg_reading.specs.Lines.{TextReading, begins, checked_at, line_at, some_read}
+use Rattle.dkg_reading.specs.Grammar.{absent_from, anchor_line_at, are_blocks, block_after, block_line_at, cut_at, cut_from, held_line_at, held_from, is_parent, is_payload, limit_of, processed_from, sync_at, sync_from}
+use Rattle.dkg_reading.specs.Lines.{TextReading, begins, checked_line_at, line_at, some_read}
 use Rattle.dkg_reading.specs.Rows.{all, bytes_of, dash_or, field, four, number_below, decimal_of, three}
 use Rattle.dkg_reading.specs.Spells.{IsLastRow, IsLine}
-use Rattle.dkg_text.specs.Writing.{anchor_line, block_line, bytes_or_dash, cut_line, ended, held_line, number_or_dash, numbers_fields, or_dash, sync_line, text_or_none}
+use Rattle.dkg_text.specs.Writing.{anchor_line, block_line, bytes_or_dash, cut_line, with_line_feed, held_line, number_or_dash, numbers_fields, or_dash, sync_line, text_or_none}
 use Rattle.dkg_reading.proofs.ConfigLaws.{is_plain, number_32_row, number_row, plain_name}
 use Rattle.dkg_reading.proofs.FieldLaws.{below_or_dash_law, bytes_law, bytes_or_dash_law, number_law}
 use Rattle.dkg_reading.proofs.Guards.{bind_some, if_some, some_is}
@@ -61,10 +61,10 @@ module _ (addressed : Bool) (config : ScriptConfig) where
   block_from : (done : List BlockLine) (b : BlockLine) → IsBlockLine addressed config done b → IsBlocked (block_back b) × (block_after addressed config done (block_back b) ≡ Some b)
   block_from done b fit = ((fit.height, (fit.parent, (fit.view, fit.payload))), rw (fit.earlier, fit.carried) refl)
 
-  pub blocks_law : (done : List BlockLine) → IsLine (IsBlockLine addressed config done) block_line (block_at addressed config done)
-  unfolding block_at
+  pub blocks_law : (done : List BlockLine) → IsLine (IsBlockLine addressed config done) block_line (block_line_at addressed config done)
+  unfolding block_line_at
   blocks_law done =
-      checked_law IsBlocked (λ p. ended (codes "block" ++ block_text p)) (line_at (codes "block") (four decimal_of (dash_or (number_below (2 ^ 32))) decimal_of (dash_or bytes_of)))
+      checked_law IsBlocked (λ p. with_line_feed (codes "block" ++ block_text p)) (line_at (codes "block") (four decimal_of (dash_or (number_below (2 ^ 32))) decimal_of (dash_or bytes_of)))
       (line_law (codes "block") (plain_name (codes "block") refl) IsBlocked block_text (four decimal_of (dash_or (number_below (2 ^ 32))) decimal_of (dash_or bytes_of)) block_row)
       (block_after addressed config done) (IsBlockLine addressed config done) block_back (block_to done) (block_from done)
 
@@ -75,18 +75,18 @@ module _ (addressed : Bool) (config : ScriptConfig) where
 
 -- A NAME AND A NUMBER
 
-pub number_line_law : (name : List ℕ) → (plain : is_plain name ≡ true) → IsLine Is64 (λ n. ended (name ++ number_field n)) (line_at name (field decimal_of))
+pub number_line_law : (name : List ℕ) → (plain : is_plain name ≡ true) → IsLine Is64 (λ n. with_line_feed (name ++ number_field n)) (line_at name (field decimal_of))
 number_line_law name plain = line_law name (plain_name name plain) Is64 number_field (field decimal_of) number_row
 
-pub number_line_named : (name : List ℕ) → (plain : is_plain name ≡ true) → (n : ℕ) (rest : List ℕ) → Is64 n → HasName name (ended (name ++ number_field n) ++ rest)
+pub number_line_named : (name : List ℕ) → (plain : is_plain name ≡ true) → (n : ℕ) (rest : List ℕ) → Is64 n → HasName name (with_line_feed (name ++ number_field n) ++ rest)
 number_line_named name plain = line_named name (plain_name name plain) Is64 number_field (field decimal_of) number_row
 
 -- ANCHORS
 
-index_line_law : (name : List ℕ) → (plain : is_plain name ≡ true) → IsLine Is32 (λ n. ended (name ++ number_field n)) (line_at name (field (number_below (2 ^ 32))))
+index_line_law : (name : List ℕ) → (plain : is_plain name ≡ true) → IsLine Is32 (λ n. with_line_feed (name ++ number_field n)) (line_at name (field (number_below (2 ^ 32))))
 index_line_law name plain = line_law name (plain_name name plain) Is32 number_field (field (number_below (2 ^ 32))) number_32_row
 
-index_line_named : (name : List ℕ) → (plain : is_plain name ≡ true) → (n : ℕ) (rest : List ℕ) → Is32 n → HasName name (ended (name ++ number_field n) ++ rest)
+index_line_named : (name : List ℕ) → (plain : is_plain name ≡ true) → (n : ℕ) (rest : List ℕ) → Is32 n → HasName name (with_line_feed (name ++ number_field n) ++ rest)
 index_line_named name plain = line_named name (plain_name name plain) Is32 number_field (field (number_below (2 ^ 32))) number_32_row
 
 module _ (blocks : List BlockLine) where
@@ -125,51 +125,51 @@ module _ (blocks : List BlockLine) where
   absent_of (Processed n) fit = absurd fit
   absent_of (Absent n) fit = fit
 
-  processed_law : IsLine IsProcessed (λ a. ended (codes "processed" ++ number_field (number_in a))) (checked_at (codes "processed") (field (number_below (2 ^ 32))) (processed_from blocks))
-  processed_law = checked_law Is32 (λ n. ended (codes "processed" ++ number_field n)) (line_at (codes "processed") (field (number_below (2 ^ 32)))) (index_line_law (codes "processed") refl) (processed_from blocks) IsProcessed number_in processed_to processed_of
+  processed_law : IsLine IsProcessed (λ a. with_line_feed (codes "processed" ++ number_field (number_in a))) (checked_line_at (codes "processed") (field (number_below (2 ^ 32))) (processed_from blocks))
+  processed_law = checked_law Is32 (λ n. with_line_feed (codes "processed" ++ number_field n)) (line_at (codes "processed") (field (number_below (2 ^ 32)))) (index_line_law (codes "processed") refl) (processed_from blocks) IsProcessed number_in processed_to processed_of
 
-  absents_law : IsLine IsAbsent (λ a. ended (codes "absent" ++ number_field (number_in a))) (checked_at (codes "absent") (field (number_below (2 ^ 32))) (absent_from blocks))
-  absents_law = checked_law Is32 (λ n. ended (codes "absent" ++ number_field n)) (line_at (codes "absent") (field (number_below (2 ^ 32)))) (index_line_law (codes "absent") refl) (absent_from blocks) IsAbsent number_in absent_to absent_of
+  absents_law : IsLine IsAbsent (λ a. with_line_feed (codes "absent" ++ number_field (number_in a))) (checked_line_at (codes "absent") (field (number_below (2 ^ 32))) (absent_from blocks))
+  absents_law = checked_law Is32 (λ n. with_line_feed (codes "absent" ++ number_field n)) (line_at (codes "absent") (field (number_below (2 ^ 32)))) (index_line_law (codes "absent") refl) (absent_from blocks) IsAbsent number_in absent_to absent_of
 
-  from_processed : (a : Anchor) → IsProcessed a → IsAnchor blocks a × (ended (codes "processed" ++ number_field (number_in a)) ≡ anchor_line a)
+  from_processed : (a : Anchor) → IsProcessed a → IsAnchor blocks a × (with_line_feed (codes "processed" ++ number_field (number_in a)) ≡ anchor_line a)
   from_processed (Processed n) fit = (fit, refl)
   from_processed (Absent n) fit = absurd fit
 
-  from_absent : (a : Anchor) → IsAbsent a → IsAnchor blocks a × (ended (codes "absent" ++ number_field (number_in a)) ≡ anchor_line a)
+  from_absent : (a : Anchor) → IsAbsent a → IsAnchor blocks a × (with_line_feed (codes "absent" ++ number_field (number_in a)) ≡ anchor_line a)
   from_absent (Processed n) fit = absurd fit
   from_absent (Absent n) fit = (fit, refl)
 
-  pub anchor_found : (text : List ℕ) (o : Option Anchor) (rest : List ℕ) → anchor_at blocks text ≡ Ok (o, rest) → IfSome o (IsAnchor blocks) × (text ≡ text_or_none anchor_line o ++ rest)
-  unfolding anchor_at
+  pub anchor_found : (text : List ℕ) (o : Option Anchor) (rest : List ℕ) → anchor_line_at blocks text ≡ Ok (o, rest) → IfSome o (IsAnchor blocks) × (text ≡ text_or_none anchor_line o ++ rest)
+  unfolding anchor_line_at
   anchor_found text o rest e = by_processed (begins (codes "processed") text) e
     where
-      processed_is : (p : Option Anchor) → IfSome p IsProcessed × (text ≡ text_or_none (λ a. ended (codes "processed" ++ number_field (number_in a))) p ++ rest) → IfSome p (IsAnchor blocks) × (text ≡ text_or_none anchor_line p ++ rest)
+      processed_is : (p : Option Anchor) → IfSome p IsProcessed × (text ≡ text_or_none (λ a. with_line_feed (codes "processed" ++ number_field (number_in a))) p ++ rest) → IfSome p (IsAnchor blocks) × (text ≡ text_or_none anchor_line p ++ rest)
       processed_is None f = f
       processed_is (Some a) f = let is = from_processed a f.0 in (is.0, f.1 ∙ ap (λ (l : List ℕ). l ++ rest) is.1)
 
-      absent_is : (p : Option Anchor) → IfSome p IsAbsent × (text ≡ text_or_none (λ a. ended (codes "absent" ++ number_field (number_in a))) p ++ rest) → IfSome p (IsAnchor blocks) × (text ≡ text_or_none anchor_line p ++ rest)
+      absent_is : (p : Option Anchor) → IfSome p IsAbsent × (text ≡ text_or_none (λ a. with_line_feed (codes "absent" ++ number_field (number_in a))) p ++ rest) → IfSome p (IsAnchor blocks) × (text ≡ text_or_none anchor_line p ++ rest)
       absent_is None f = f
       absent_is (Some a) f = let is = from_absent a f.0 in (is.0, f.1 ∙ ap (λ (l : List ℕ). l ++ rest) is.1)
 
-      by_absent : (b : Bool) → cond b (some_read (checked_at (codes "absent") (field (number_below (2 ^ 32))) (absent_from blocks) text)) (Ok (None, text)) ≡ Ok (o, rest) → IfSome o (IsAnchor blocks) × (text ≡ text_or_none anchor_line o ++ rest)
-      by_absent true e = absent_is o (some_found (codes "absent") IsAbsent (λ a. ended (codes "absent" ++ number_field (number_in a))) (checked_at (codes "absent") (field (number_below (2 ^ 32))) (absent_from blocks)) absents_law text o rest e)
+      by_absent : (b : Bool) → cond b (some_read (checked_line_at (codes "absent") (field (number_below (2 ^ 32))) (absent_from blocks) text)) (Ok (None, text)) ≡ Ok (o, rest) → IfSome o (IsAnchor blocks) × (text ≡ text_or_none anchor_line o ++ rest)
+      by_absent true e = absent_is o (some_found (codes "absent") IsAbsent (λ a. with_line_feed (codes "absent" ++ number_field (number_in a))) (checked_line_at (codes "absent") (field (number_below (2 ^ 32))) (absent_from blocks)) absents_law text o rest e)
       by_absent false e = read_is (λ (p : Option Anchor) (r : List ℕ). IfSome p (IsAnchor blocks) × (text ≡ text_or_none anchor_line p ++ r)) None o text rest e (tt, refl)
 
-      by_processed : (b : Bool) → cond b (some_read (checked_at (codes "processed") (field (number_below (2 ^ 32))) (processed_from blocks) text)) (cond (begins (codes "absent") text) (some_read (checked_at (codes "absent") (field (number_below (2 ^ 32))) (absent_from blocks) text)) (Ok (None, text))) ≡ Ok (o, rest) → IfSome o (IsAnchor blocks) × (text ≡ text_or_none anchor_line o ++ rest)
-      by_processed true e = processed_is o (some_found (codes "processed") IsProcessed (λ a. ended (codes "processed" ++ number_field (number_in a))) (checked_at (codes "processed") (field (number_below (2 ^ 32))) (processed_from blocks)) processed_law text o rest e)
+      by_processed : (b : Bool) → cond b (some_read (checked_line_at (codes "processed") (field (number_below (2 ^ 32))) (processed_from blocks) text)) (cond (begins (codes "absent") text) (some_read (checked_line_at (codes "absent") (field (number_below (2 ^ 32))) (absent_from blocks) text)) (Ok (None, text))) ≡ Ok (o, rest) → IfSome o (IsAnchor blocks) × (text ≡ text_or_none anchor_line o ++ rest)
+      by_processed true e = processed_is o (some_found (codes "processed") IsProcessed (λ a. with_line_feed (codes "processed" ++ number_field (number_in a))) (checked_line_at (codes "processed") (field (number_below (2 ^ 32))) (processed_from blocks)) processed_law text o rest e)
       by_processed false e = by_absent (begins (codes "absent") text) e
 
-  pub anchor_again : (o : Option Anchor) (rest : List ℕ) → IfSome o (IsAnchor blocks) → begins (codes "processed") rest ≡ false → begins (codes "absent") rest ≡ false → anchor_at blocks (text_or_none anchor_line o ++ rest) ≡ Ok (o, rest)
-  unfolding anchor_at
+  pub anchor_again : (o : Option Anchor) (rest : List ℕ) → IfSome o (IsAnchor blocks) → begins (codes "processed") rest ≡ false → begins (codes "absent") rest ≡ false → anchor_line_at blocks (text_or_none anchor_line o ++ rest) ≡ Ok (o, rest)
+  unfolding anchor_line_at
   anchor_again None rest fit no_processed no_absent = rw (no_processed, no_absent) refl
   anchor_again (Some (Processed n)) rest fit no_processed no_absent =
       let named = index_line_named (codes "processed") refl n rest fit.0 in
       rw (begins_so (codes "processed") _ named)
-      (some_again (codes "processed") IsProcessed (λ a. ended (codes "processed" ++ number_field (number_in a))) (checked_at (codes "processed") (field (number_below (2 ^ 32))) (processed_from blocks)) processed_law (Processed n) rest fit)
+      (some_again (codes "processed") IsProcessed (λ a. with_line_feed (codes "processed" ++ number_field (number_in a))) (checked_line_at (codes "processed") (field (number_below (2 ^ 32))) (processed_from blocks)) processed_law (Processed n) rest fit)
   anchor_again (Some (Absent n)) rest fit no_processed no_absent =
       let named = index_line_named (codes "absent") refl n rest fit.0 in
       rw (begins_as (codes "absent") (codes "processed") _ named, begins_so (codes "absent") _ named)
-      (some_again (codes "absent") IsAbsent (λ a. ended (codes "absent" ++ number_field (number_in a))) (checked_at (codes "absent") (field (number_below (2 ^ 32))) (absent_from blocks)) absents_law (Absent n) rest fit)
+      (some_again (codes "absent") IsAbsent (λ a. with_line_feed (codes "absent" ++ number_field (number_in a))) (checked_line_at (codes "absent") (field (number_below (2 ^ 32))) (absent_from blocks)) absents_law (Absent n) rest fit)
 
 -- WHAT IS HELD
 
@@ -196,23 +196,23 @@ module _ (blocks : ℕ) where
   held_of [] fit = absurd (let some = fit.nonempty in omega (arith, some))
   held_of (n ∷ ns) fit = (fit.each.small, rw (fit.each.rising, fit.each.named) refl)
 
-  held_law : IsLine AreSomeHeld (λ h. ended (codes "held" ++ numbers_fields h)) (checked_at (codes "held") (all (number_below (2 ^ 32))) (held_from blocks))
+  held_law : IsLine AreSomeHeld (λ h. with_line_feed (codes "held" ++ numbers_fields h)) (checked_line_at (codes "held") (all (number_below (2 ^ 32))) (held_from blocks))
   held_law =
-      checked_law index_each (λ h. ended (codes "held" ++ numbers_fields h)) (line_at (codes "held") (all (number_below (2 ^ 32))))
+      checked_law index_each (λ h. with_line_feed (codes "held" ++ numbers_fields h)) (line_at (codes "held") (all (number_below (2 ^ 32))))
       (line_law (codes "held") (plain_name (codes "held") refl) index_each numbers_fields (all (number_below (2 ^ 32))) indexes_row) (held_from blocks) AreSomeHeld (λ h. h) held_to held_of
 
-  some_line : (h : List ℕ) → 0 < length h → ended (codes "held" ++ numbers_fields h) ≡ held_line h
+  some_line : (h : List ℕ) → 0 < length h → with_line_feed (codes "held" ++ numbers_fields h) ≡ held_line h
   some_line [] some = absurd (omega (arith, some))
   some_line (n ∷ ns) some = refl
 
   pub none_held : AreHeld blocks []
   none_held = record { small = tt; rising = refl; named = refl }
 
-  pub held_found : (text held rest : List ℕ) → held_at blocks text ≡ Ok (held, rest) → AreHeld blocks held × (text ≡ held_line held ++ rest)
-  unfolding held_at
+  pub held_found : (text held rest : List ℕ) → held_line_at blocks text ≡ Ok (held, rest) → AreHeld blocks held × (text ≡ held_line held ++ rest)
+  unfolding held_line_at
   held_found text held rest e = by_case (begins (codes "held") text) e
     where
-      by_case : (b : Bool) → cond b (checked_at (codes "held") (all (number_below (2 ^ 32))) (held_from blocks) text) (Ok ([], text)) ≡ Ok (held, rest) → AreHeld blocks held × (text ≡ held_line held ++ rest)
+      by_case : (b : Bool) → cond b (checked_line_at (codes "held") (all (number_below (2 ^ 32))) (held_from blocks) text) (Ok ([], text)) ≡ Ok (held, rest) → AreHeld blocks held × (text ≡ held_line held ++ rest)
       by_case true e =
           let f = held_law.found text held rest e in
           (f.0.each, f.1 ∙ ap (λ (l : List ℕ). l ++ rest) (some_line held f.0.nonempty))
@@ -221,8 +221,8 @@ module _ (blocks : ℕ) where
   held_named : (n : ℕ) (ns rest : List ℕ) → AreHeld blocks (n ∷ ns) → HasName (codes "held") (held_line (n ∷ ns) ++ rest)
   held_named n ns rest fit = line_named (codes "held") (plain_name (codes "held") refl) index_each numbers_fields (all (number_below (2 ^ 32))) indexes_row (n ∷ ns) rest fit.small
 
-  pub held_again : (held rest : List ℕ) → AreHeld blocks held → begins (codes "held") rest ≡ false → held_at blocks (held_line held ++ rest) ≡ Ok (held, rest)
-  unfolding held_at
+  pub held_again : (held rest : List ℕ) → AreHeld blocks held → begins (codes "held") rest ≡ false → held_line_at blocks (held_line held ++ rest) ≡ Ok (held, rest)
+  unfolding held_line_at
   held_again [] rest fit over = rw over refl
   held_again (n ∷ ns) rest fit over =
       rw (begins_so (codes "held") (held_line (n ∷ ns) ++ rest) (held_named n ns rest fit)) (held_law.again (n ∷ ns) rest (record { each = fit; nonempty = omega arith }))
@@ -262,9 +262,9 @@ module _ (addressed : Bool) (blocks : ℕ) where
   sync_of : (s : SyncLine) → IsSyncLine addressed false blocks s → IsSynced (sync_back s) × (sync_from addressed blocks (sync_back s) ≡ Some s)
   sync_of s fit = ((fit.bytes, (fit.epoch, (fit.view, fit.block))), rw (lt-ltb s.block blocks fit.named, fit.info) refl)
 
-  syncs_law : IsLine (IsSyncLine addressed false blocks) sync_line (checked_at (codes "sync") (four bytes_of decimal_of decimal_of (number_below (2 ^ 32))) (sync_from addressed blocks))
+  syncs_law : IsLine (IsSyncLine addressed false blocks) sync_line (checked_line_at (codes "sync") (four bytes_of decimal_of decimal_of (number_below (2 ^ 32))) (sync_from addressed blocks))
   syncs_law =
-      checked_law IsSynced (λ p. ended (codes "sync" ++ sync_text p)) (line_at (codes "sync") (four bytes_of decimal_of decimal_of (number_below (2 ^ 32))))
+      checked_law IsSynced (λ p. with_line_feed (codes "sync" ++ sync_text p)) (line_at (codes "sync") (four bytes_of decimal_of decimal_of (number_below (2 ^ 32))))
       (line_law (codes "sync") (plain_name (codes "sync") refl) IsSynced sync_text (four bytes_of decimal_of decimal_of (number_below (2 ^ 32))) sync_row)
       (sync_from addressed blocks) (IsSyncLine addressed false blocks) sync_back sync_to sync_of
 
@@ -273,7 +273,7 @@ module _ (addressed : Bool) (blocks : ℕ) where
       line_named (codes "sync") (plain_name (codes "sync") refl) IsSynced sync_text (four bytes_of decimal_of decimal_of (number_below (2 ^ 32))) sync_row (sync_back s) rest (fit.bytes, (fit.epoch, (fit.view, fit.block)))
 
   abbrev sync_reader : List ℕ → TextReading SyncLine
-  sync_reader text = checked_at (codes "sync") (four bytes_of decimal_of decimal_of (number_below (2 ^ 32))) (sync_from addressed blocks) text
+  sync_reader text = checked_line_at (codes "sync") (four bytes_of decimal_of decimal_of (number_below (2 ^ 32))) (sync_from addressed blocks) text
 
   pub sync_found : (oneshot : Bool) (text : List ℕ) (o : Option SyncLine) (rest : List ℕ) → sync_at addressed oneshot blocks text ≡ Ok (o, rest) → IfSome o (IsSyncLine addressed oneshot blocks) × (text ≡ text_or_none sync_line o ++ rest)
   unfolding sync_at
@@ -334,9 +334,9 @@ module _ (events : ℕ) where
       let below : nat_lt events c.step ≡ false = grind (arith, nat_tests) in
       ((fit.step, (fit.call, fit.pick)), rw below refl)
 
-  cuts_law : IsLine (IsCut events) cut_line (checked_at (codes "cut") (three decimal_of decimal_of decimal_of) (cut_from events))
+  cuts_law : IsLine (IsCut events) cut_line (checked_line_at (codes "cut") (three decimal_of decimal_of decimal_of) (cut_from events))
   cuts_law =
-      checked_law IsCuts (λ p. ended (codes "cut" ++ cut_text p)) (line_at (codes "cut") (three decimal_of decimal_of decimal_of))
+      checked_law IsCuts (λ p. with_line_feed (codes "cut" ++ cut_text p)) (line_at (codes "cut") (three decimal_of decimal_of decimal_of))
       (line_law (codes "cut") (plain_name (codes "cut") refl) IsCuts cut_text (three decimal_of decimal_of decimal_of) cut_row)
       (cut_from events) (IsCut events) cut_back cut_to cut_of
 
@@ -344,7 +344,7 @@ module _ (events : ℕ) where
   cut_named c rest fit = line_named (codes "cut") (plain_name (codes "cut") refl) IsCuts cut_text (three decimal_of decimal_of decimal_of) cut_row (cut_back c) rest (fit.step, (fit.call, fit.pick))
 
   abbrev cut_reader : List ℕ → TextReading Cut
-  cut_reader text = checked_at (codes "cut") (three decimal_of decimal_of decimal_of) (cut_from events) text
+  cut_reader text = checked_line_at (codes "cut") (three decimal_of decimal_of decimal_of) (cut_from events) text
 
   pub cut_found : (text : List ℕ) (o : Option Cut) (rest : List ℕ) → cut_at events text ≡ Ok (o, rest) → IfSome o (IsCut events) × (text ≡ text_or_none cut_line o ++ rest)
   unfolding cut_at

@@ -4,10 +4,10 @@ use Rattle.std.specs.Prelude.{IfSome}
 use Rattle.std.specs.List.{flat_map, list_any}
 use Rattle.std.specs.Str.{bytes_eq}
 use Rattle.std.proofs.lemmas.Slice.Eq.{bytes_eq-Decides}
-use Rattle.dkg_reading.specs.Lines.{TextReading, begins, checked, front_of, line_at, many_at, many_from, maybe_at, row_of, some_read, ◌>=>◌}
-use Rattle.dkg_reading.specs.Rows.{Row, whole, ◌>>=◌}
+use Rattle.dkg_reading.specs.Lines.{TextReading, begins, checked_line, front_of, line_at, many_lines_at, many_from, maybe_at, row_of, some_read, ◌>=>◌}
+use Rattle.dkg_reading.specs.Rows.{Row, whole_row, ◌>>=◌}
 use Rattle.dkg_reading.specs.Spells.{FitAfter, IsFieldText, IsLastRow, IsLine, IsSpeltLast, spaced}
-use Rattle.dkg_text.specs.Writing.{ended, text_or_none}
+use Rattle.dkg_text.specs.Writing.{with_line_feed, text_or_none}
 use Rattle.dkg_reading.proofs.Guards.{allowed_ok, bind_ok, bind_some, if_some, ok_is, some_is}
 use Rattle.dkg_reading.proofs.Spelled.{same_text}
 use Rattle.dkg_reading.proofs.Split.{front_again, front_found}
@@ -16,12 +16,12 @@ use Rattle.dkg_reading.proofs.Split.{front_again, front_found}
 pub read_is : {A : Type 0} (P : A → List ℕ → Type 0) (a c : A) (b d : List ℕ) → ◌≡◌ {A = TextReading A} (Ok (a, b)) (Ok (c, d)) → P a b → P c d
 read_is {A} P a c b d e p = subst (λ (x : A × List ℕ). P x.0 x.1) (ok_is (a, b) (c, d) e) p
 
-pub ended_before : (line rest : List ℕ) → ended line ++ rest ≡ line ++ 10 ∷ rest
+pub ended_before : (line rest : List ℕ) → with_line_feed line ++ rest ≡ line ++ 10 ∷ rest
 ended_before line rest = append_assoc line (10 ∷ []) rest
 
 -- A LINE
 
-pub whole_found : {A : Type 0} (o : Option (A × List (List ℕ))) (x : A) → whole o ≡ Some x → o ≡ Some (x, [])
+pub whole_found : {A : Type 0} (o : Option (A × List (List ℕ))) (x : A) → whole_row o ≡ Some x → o ≡ Some (x, [])
 whole_found {A} None x e = cc e
 whole_found {A} (Some (y, [])) x e = ap (λ (z : A). Some (z, [])) (some_is y x e)
 whole_found {A} (Some (y, f ∷ fs)) x e = cc e
@@ -33,36 +33,36 @@ pub record HasName (name text : List ℕ) : Type 0 where
   pub front : front_of text ≡ Some (name, (fields, behind))
 
 module _ {A : Type 0} (name : List ℕ) (plain : IsFieldText name) (fits : A → Type 0) (text : A → List ℕ) (row : Row A) (law : IsLastRow fits text row) where
-  line_found : (t : List ℕ) (x : A) (rest : List ℕ) → line_at name row t ≡ Ok (x, rest) → fits x × (t ≡ ended (name ++ text x) ++ rest)
+  line_found : (t : List ℕ) (x : A) (rest : List ℕ) → line_at name row t ≡ Ok (x, rest) → fits x × (t ≡ with_line_feed (name ++ text x) ++ rest)
   unfolding line_at
   line_found t x rest e =
       let o = allowed_ok t (front_of t >>= row_of name row) (x, rest) e in
       let l = bind_some (front_of t) (row_of name row) (x, rest) o in
-      let g = if_some (bytes_eq l.0.0 name) (whole (row l.0.1.0) >>= λ y. Some (y, l.0.1.1)) (x, rest) l.2 in
-      let w = bind_some (whole (row l.0.1.0)) (λ y. Some (y, l.0.1.1)) (x, rest) g.1 in
+      let g = if_some (bytes_eq l.0.0 name) (whole_row (row l.0.1.0) >>= λ y. Some (y, l.0.1.1)) (x, rest) l.2 in
+      let w = bind_some (whole_row (row l.0.1.0)) (λ y. Some (y, l.0.1.1)) (x, rest) g.1 in
       let named : l.0.0 ≡ name = (bytes_eq-Decides l.0.0 name).0 g.0 in
       let f = law.found l.0.1.0 w.0 [] (whole_found (row l.0.1.0) w.0 w.1) in
       let fields : spaced l.0.1.0 ≡ text w.0 = f.1 ∙ append-nil (text w.0) in
       let line : l.0.0 ++ spaced l.0.1.0 ≡ name ++ text w.0 = ap (λ (n : List ℕ). n ++ spaced l.0.1.0) named ∙ ap (λ (r : List ℕ). name ++ r) fields in
-      let there : t ≡ ended (name ++ text w.0) ++ l.0.1.1 = front_found t l.0 l.1 ∙ (ap (λ (u : List ℕ). u ++ 10 ∷ l.0.1.1) line ∙ sym (ended_before (name ++ text w.0) l.0.1.1)) in
-      subst (λ (z : A × List ℕ). fits z.0 × (t ≡ ended (name ++ text z.0) ++ z.1)) (some_is (w.0, l.0.1.1) (x, rest) w.2) (f.0, there)
+      let there : t ≡ with_line_feed (name ++ text w.0) ++ l.0.1.1 = front_found t l.0 l.1 ∙ (ap (λ (u : List ℕ). u ++ 10 ∷ l.0.1.1) line ∙ sym (ended_before (name ++ text w.0) l.0.1.1)) in
+      subst (λ (z : A × List ℕ). fits z.0 × (t ≡ with_line_feed (name ++ text z.0) ++ z.1)) (some_is (w.0, l.0.1.1) (x, rest) w.2) (f.0, there)
 
-  front_is : (x : A) (rest : List ℕ) (s : IsSpeltLast row (text x) x) → front_of (ended (name ++ text x) ++ rest) ≡ Some (name, (s.fields, rest))
+  front_is : (x : A) (rest : List ℕ) (s : IsSpeltLast row (text x) x) → front_of (with_line_feed (name ++ text x) ++ rest) ≡ Some (name, (s.fields, rest))
   front_is x rest s =
-      let line : ended (name ++ text x) ++ rest ≡ (name ++ spaced s.fields) ++ 10 ∷ rest = ended_before (name ++ text x) rest ∙ ap (λ (u : List ℕ). (name ++ u) ++ 10 ∷ rest) (sym s.text_is) in
+      let line : with_line_feed (name ++ text x) ++ rest ≡ (name ++ spaced s.fields) ++ 10 ∷ rest = ended_before (name ++ text x) rest ∙ ap (λ (u : List ℕ). (name ++ u) ++ 10 ∷ rest) (sym s.text_is) in
       ap front_of line ∙ front_again name s.fields rest plain s.plain
 
   read_front : (t : List ℕ) (fields : List (List ℕ)) (x : A) (rest : List ℕ) → front_of t ≡ Some (name, (fields, rest)) → row fields ≡ Some (x, []) → line_at name row t ≡ Ok (x, rest)
   unfolding line_at
   read_front t fields x rest front reads = rw (front, same_text name name refl, reads) refl
 
-  pub line_law : IsLine fits (λ x. ended (name ++ text x)) (line_at name row)
+  pub line_law : IsLine fits (λ x. with_line_feed (name ++ text x)) (line_at name row)
   line_law = record {
     found = line_found;
-    again = λ x rest fit. let s = law.again x fit in read_front (ended (name ++ text x) ++ rest) s.fields x rest (front_is x rest s) s.reads;
+    again = λ x rest fit. let s = law.again x fit in read_front (with_line_feed (name ++ text x) ++ rest) s.fields x rest (front_is x rest s) s.reads;
   }
 
-  pub line_named : (x : A) (rest : List ℕ) → fits x → HasName name (ended (name ++ text x) ++ rest)
+  pub line_named : (x : A) (rest : List ℕ) → fits x → HasName name (with_line_feed (name ++ text x) ++ rest)
   line_named x rest fit = let s = law.again x fit in record { fields = s.fields; behind = rest; front = front_is x rest s }
 
 -- THE NAME OF THE LINE IN FRONT
@@ -111,10 +111,10 @@ not_begun other names text among none = begins_as among.name other text among.ha
 
 module _ {A B : Type 0} (fits : A → Type 0) (line : A → List ℕ) (read : List ℕ → TextReading A) (law : IsLine fits line read) (check : A → Option B) (good : B → Type 0) (back : B → A)
     (to : (a : A) (b : B) → fits a → check a ≡ Some b → good b × (back b ≡ a)) (from : (b : B) → good b → fits (back b) × (check (back b) ≡ Some b)) where
-  checked_found : (text : List ℕ) (b : B) (rest : List ℕ) → checked text check (read text) ≡ Ok (b, rest) → good b × (text ≡ line (back b) ++ rest)
+  checked_found : (text : List ℕ) (b : B) (rest : List ℕ) → checked_line text check (read text) ≡ Ok (b, rest) → good b × (text ≡ line (back b) ++ rest)
   checked_found text b rest e = by_case (read text) refl e
     where
-      by_case : (r : TextReading A) → read text ≡ r → checked text check r ≡ Ok (b, rest) → good b × (text ≡ line (back b) ++ rest)
+      by_case : (r : TextReading A) → read text ≡ r → checked_line text check r ≡ Ok (b, rest) → good b × (text ≡ line (back b) ++ rest)
       by_case (Ok (a, behind)) is e =
           let c = bind_some (check a) (λ y. Some (y, behind)) (b, rest) (allowed_ok text (check a >>= λ y. Some (y, behind)) (b, rest) e) in
           let f = law.found text a behind is in
@@ -123,14 +123,14 @@ module _ {A B : Type 0} (fits : A → Type 0) (line : A → List ℕ) (read : Li
           subst (λ (z : B × List ℕ). good z.0 × (text ≡ line (back z.0) ++ z.1)) (some_is (c.0, behind) (b, rest) c.2) (t.0, there)
       by_case (Err n) is e = cc e
 
-  checked_again : (b : B) (rest : List ℕ) → good b → checked (line (back b) ++ rest) check (read (line (back b) ++ rest)) ≡ Ok (b, rest)
+  checked_again : (b : B) (rest : List ℕ) → good b → checked_line (line (back b) ++ rest) check (read (line (back b) ++ rest)) ≡ Ok (b, rest)
   checked_again b rest fit =
       let f = from b fit in
       let read_back : read (line (back b) ++ rest) ≡ Ok (back b, rest) = law.again (back b) rest f.0 in
       let is : check (back b) ≡ Some b = f.1 in
       rw (read_back, is) refl
 
-  pub checked_law : IsLine good (λ b. line (back b)) (λ text. checked text check (read text))
+  pub checked_law : IsLine good (λ b. line (back b)) (λ text. checked_line text check (read text))
   checked_law = record { found = checked_found; again = checked_again }
 
 -- A LINE THAT MAY BE MISSING
@@ -200,7 +200,7 @@ module _ {A : Type 0} (goes_on : List ℕ → Bool) (fits : List A → A → Typ
           one_more done text b.0.0 b.0.1 all rest ((law done).found text b.0.0 b.0.1 b.1) (later b.0.0 b.0.1 b.2)
       by_case false later e = none_more done text all rest e
 
-  pub many_found : (text : List ℕ) (all : List A) (rest : List ℕ) → many_at goes_on read text ≡ Ok (all, rest) → FitAfter fits [] all × (text ≡ flat_map line all ++ rest)
+  pub many_found : (text : List ℕ) (all : List A) (rest : List ℕ) → many_lines_at goes_on read text ≡ Ok (all, rest) → FitAfter fits [] all × (text ≡ flat_map line all ++ rest)
   many_found text all rest e =
       let f = from_found (suc (length text)) [] text all rest e in
       subst (λ (xs : List A). FitAfter fits [] xs × (text ≡ flat_map line xs ++ rest)) (sym f.all_is) (f.fit, f.text_is)
@@ -222,7 +222,7 @@ module _ {A : Type 0} (goes_on : List ℕ → Bool) (fits : List A → A → Typ
         let step : many_from goes_on read (suc most) done (line x ++ tail) ≡ Ok ((done ++ x ∷ []) ++ xs, rest) = rw (on, is) rest_is in
         ap (many_from goes_on read (suc most) done) text_is ∙ (step ∙ ap (λ (ys : List A). Ok (ys, rest)) (append_assoc done (x ∷ []) xs))
 
-    pub many_again : (xs : List A) (rest : List ℕ) → FitAfter fits [] xs → goes_on rest ≡ false → many_at goes_on read (flat_map line xs ++ rest) ≡ Ok (xs, rest)
+    pub many_again : (xs : List A) (rest : List ℕ) → FitAfter fits [] xs → goes_on rest ≡ false → many_lines_at goes_on read (flat_map line xs ++ rest) ≡ Ok (xs, rest)
     many_again xs rest fit over = from_again (suc (length (flat_map line xs ++ rest))) [] xs rest fit over (omega arith)
 
   pub many_among : (names : List (List ℕ)) → ((done : List A) (x : A) (rest : List ℕ) → fits done x → IsAmong names (line x ++ rest)) → (done xs : List A) (rest : List ℕ) → FitAfter fits done xs → IsAmong names rest → IsAmong names (flat_map line xs ++ rest)

@@ -9,10 +9,10 @@ use Rattle.dkg_text.specs.declared.script.BlockLine.{BlockLine}
 use Rattle.dkg_text.specs.declared.script.Event.{Event}
 use Rattle.dkg_text.specs.declared.script.Script.{Script}
 use Rattle.dkg_text.specs.declared.script.ScriptConfig.{ScriptConfig}
-use Rattle.dkg_reading.specs.Grammar.{address_at, anchor_at, block_at, blocks_at, config_at, cut_at, end_at, event_after, event_at, event_of, events_at, held_at, is_event, is_eventful, life_at, lives_at, nothing_left, opening_at, players_at, probe_at, reading_of, script_of, script_or_place, sync_at, with_place}
+use Rattle.dkg_reading.specs.Grammar.{address_line_at, anchor_line_at, block_line_at, blocks_at, config_at, cut_at, end_at, event_line_after, event_line_at, event_named, event_lines_at, held_line_at, is_allowed_event, is_eventful, life_lines_at, lives_at, nothing_left, opening_at, players_line_at, probe_at, reading_of, script_of, script_or_place, sync_at, with_place}
 use Rattle.dkg_reading.specs.Laws.{Begins, IsAllowed, IsPlaceFound, IsPlace, first_line}
-use Rattle.dkg_reading.specs.Lines.{Front, TextReading, allowed, begins, checked, checked_at, front_of, line_at, maybe_at, row_of, some_read, ◌>=>◌}
-use Rattle.dkg_reading.specs.Rows.{Row, cut_of, whole, ◌>>=◌}
+use Rattle.dkg_reading.specs.Lines.{LineFront, TextReading, allowed, begins, checked_line, checked_line_at, front_of, line_at, maybe_at, row_of, some_read, ◌>=>◌}
+use Rattle.dkg_reading.specs.Rows.{Row, cut_at_byte, whole_row, ◌>>=◌}
 use Rattle.dkg_text.specs.Writing.{text_of}
 use Rattle.dkg_reading.proofs.Begun.{begun_reading}
 use Rattle.dkg_reading.proofs.ScriptLaws.{read_again}
@@ -22,15 +22,15 @@ use Rattle.dkg_reading.proofs.WholeLines.{Alike, IsLined, IsOfFront, Moves, Stop
 
 module _ {A : Type 0} (name : List ℕ) (row : Row A) where
   abbrev of_row : List ℕ → List (List ℕ) → Option A
-  of_row its fields = if bytes_eq its name then whole (row fields) else None
+  of_row its fields = if bytes_eq its name then whole_row (row fields) else None
 
   row_same : (b : Bool) (o : Option A) (behind : List ℕ) → beside_rest (if b then o else None) behind ≡ (if b then beside_rest o behind else None)
   row_same true o behind = refl
   row_same false o behind = refl
 
-  line_same : (text : List ℕ) (o : Option Front) → allowed text (o >>= λ line. beside_rest (of_row line.0 line.1.0) line.1.1) ≡ allowed text (o >>= row_of name row)
+  line_same : (text : List ℕ) (o : Option LineFront) → allowed text (o >>= λ line. beside_rest (of_row line.0 line.1.0) line.1.1) ≡ allowed text (o >>= row_of name row)
   line_same text None = refl
-  line_same text (Some line) = ap (allowed text) (row_same (bytes_eq line.0 name) (whole (row line.1.0)) line.1.1)
+  line_same text (Some line) = ap (allowed text) (row_same (bytes_eq line.0 name) (whole_row (row line.1.0)) line.1.1)
 
   line_is : (text : List ℕ) → by_front of_row text ≡ line_at name row text
   unfolding line_at
@@ -46,22 +46,22 @@ module _ {A B : Type 0} (name : List ℕ) (row : Row A) (fits : A → Option B) 
   abbrev of_checked : List ℕ → List (List ℕ) → Option B
   of_checked its fields = of_row name row its fields >>= fits
 
-  checked_row : (text : List ℕ) (o : Option A) (behind : List ℕ) → allowed text (beside_rest (o >>= fits) behind) ≡ checked text fits (allowed text (beside_rest o behind))
+  checked_row : (text : List ℕ) (o : Option A) (behind : List ℕ) → allowed text (beside_rest (o >>= fits) behind) ≡ checked_line text fits (allowed text (beside_rest o behind))
   checked_row text None behind = refl
   checked_row text (Some x) behind = refl
 
-  checked_same : (text : List ℕ) (o : Option Front) → allowed text (o >>= λ line. beside_rest (of_checked line.0 line.1.0) line.1.1) ≡ checked text fits (allowed text (o >>= λ line. beside_rest (of_row name row line.0 line.1.0) line.1.1))
+  checked_same : (text : List ℕ) (o : Option LineFront) → allowed text (o >>= λ line. beside_rest (of_checked line.0 line.1.0) line.1.1) ≡ checked_line text fits (allowed text (o >>= λ line. beside_rest (of_row name row line.0 line.1.0) line.1.1))
   checked_same text None = refl
   checked_same text (Some line) = checked_row text (of_row name row line.0 line.1.0) line.1.1
 
-  checked_is : (text : List ℕ) → by_front of_checked text ≡ checked_at name row fits text
-  checked_is text = checked_same text (front_of text) ∙ ap (checked text fits) (line_is name row text)
+  checked_is : (text : List ℕ) → by_front of_checked text ≡ checked_line_at name row fits text
+  checked_is text = checked_same text (front_of text) ∙ ap (checked_line text fits) (line_is name row text)
 
-  pub lined_checked : IsLined (checked_at name row fits)
-  lined_checked = lined_as (by_front of_checked) (checked_at name row fits) checked_is (lined_front of_checked)
+  pub lined_checked : IsLined (checked_line_at name row fits)
+  lined_checked = lined_as (by_front of_checked) (checked_line_at name row fits) checked_is (lined_front of_checked)
 
-  pub moves_checked : Moves (checked_at name row fits)
-  moves_checked = moves_as (by_front of_checked) (checked_at name row fits) checked_is (moves_front of_checked)
+  pub moves_checked : Moves (checked_line_at name row fits)
+  moves_checked = moves_as (by_front of_checked) (checked_line_at name row fits) checked_is (moves_front of_checked)
 
 lined_some : {A : Type 0} (read : List ℕ → TextReading A) → IsLined read → IsLined (λ t. some_read (read t))
 lined_some {A} read law = lined_then read (λ x. Ok (Some x.0, x.1)) law (λ x. lined_done (Some x))
@@ -81,20 +81,20 @@ lined_opening =
     lined_then _ _ (lined_line _ _) (λ modes.
     lined_then _ _ (lined_line _ _) (λ space. lined_done _))))))
 
-lined_players : (done : _) → IsLined (players_at done)
-unfolding players_at
+lined_players : (done : _) → IsLined (players_line_at done)
+unfolding players_line_at
 lined_players done = lined_checked _ _ _
 
-moves_players : (done : _) → Moves (players_at done)
-unfolding players_at
+moves_players : (done : _) → Moves (players_line_at done)
+unfolding players_line_at
 moves_players done = moves_checked _ _ _
 
-lined_address : (done : _) → IsLined (address_at done)
-unfolding address_at
+lined_address : (done : _) → IsLined (address_line_at done)
+unfolding address_line_at
 lined_address done = lined_checked _ _ _
 
-moves_address : (done : _) → Moves (address_at done)
-unfolding address_at
+moves_address : (done : _) → Moves (address_line_at done)
+unfolding address_line_at
 moves_address done = moves_checked _ _ _
 
 lined_probe : (addressed : Bool) → IsLined (probe_at addressed)
@@ -106,29 +106,29 @@ unfolding config_at
 lined_config addressed =
     lined_then _ _ lined_opening (λ opening.
     lined_then _ _ (lined_maybe _ _ (lined_line _ _)) (λ oneshot.
-    lined_then _ _ (lined_many (begins (codes "players")) players_at (begins_of_front (codes "players")) lined_players moves_players) (λ players.
-    lined_then _ _ (lined_many (begins (codes "address")) address_at (begins_of_front (codes "address")) lined_address moves_address) (λ addresses.
+    lined_then _ _ (lined_many (begins (codes "players")) players_line_at (begins_of_front (codes "players")) lined_players moves_players) (λ players.
+    lined_then _ _ (lined_many (begins (codes "address")) address_line_at (begins_of_front (codes "address")) lined_address moves_address) (λ addresses.
     lined_then _ _ (lined_maybe _ _ (lined_probe addressed)) (λ probe. lined_done _)))))
 
 -- THE BLOCKS
 
-lined_block : (addressed : Bool) (config : ScriptConfig) (done : List BlockLine) → IsLined (block_at addressed config done)
-unfolding block_at
+lined_block : (addressed : Bool) (config : ScriptConfig) (done : List BlockLine) → IsLined (block_line_at addressed config done)
+unfolding block_line_at
 lined_block addressed config done = lined_checked _ _ _
 
-moves_block : (addressed : Bool) (config : ScriptConfig) (done : List BlockLine) → Moves (block_at addressed config done)
-unfolding block_at
+moves_block : (addressed : Bool) (config : ScriptConfig) (done : List BlockLine) → Moves (block_line_at addressed config done)
+unfolding block_line_at
 moves_block addressed config done = moves_checked _ _ _
 
 lined_blocks : (addressed : Bool) (config : ScriptConfig) → IsLined (blocks_at addressed config)
 unfolding blocks_at
-lined_blocks addressed config = lined_many (begins (codes "block")) (block_at addressed config) (begins_of_front (codes "block")) (lined_block addressed config) (moves_block addressed config)
+lined_blocks addressed config = lined_many (begins (codes "block")) (block_line_at addressed config) (begins_of_front (codes "block")) (lined_block addressed config) (moves_block addressed config)
 
 -- THE LIVES
 
 module _ (blocks : ℕ) (probe : Bool) where
   abbrev of_event : List Event → List ℕ → List (List ℕ) → Option Event
-  of_event done name fields = event_of name fields >>= λ event. if is_event blocks probe done event then Some event else None
+  of_event done name fields = event_named name fields >>= λ event. if is_allowed_event blocks probe done event then Some event else None
 
   abbrev event_or : Bool → Event → List ℕ → Option (Event × List ℕ)
   event_or b event behind = if b then Some (event, behind) else None
@@ -137,40 +137,40 @@ module _ (blocks : ℕ) (probe : Bool) where
   event_tested true event behind = refl
   event_tested false event behind = refl
 
-  event_made : (done : List Event) (o : Option Event) (behind : List ℕ) → beside_rest (o >>= λ event. if is_event blocks probe done event then Some event else None) behind ≡ (o >>= λ event. event_or (is_event blocks probe done event) event behind)
+  event_made : (done : List Event) (o : Option Event) (behind : List ℕ) → beside_rest (o >>= λ event. if is_allowed_event blocks probe done event then Some event else None) behind ≡ (o >>= λ event. event_or (is_allowed_event blocks probe done event) event behind)
   event_made done None behind = refl
-  event_made done (Some event) behind = event_tested (is_event blocks probe done event) event behind
+  event_made done (Some event) behind = event_tested (is_allowed_event blocks probe done event) event behind
 
-  event_same : (done : List Event) (text : List ℕ) (o : Option Front) → allowed text (o >>= λ line. beside_rest (of_event done line.0 line.1.0) line.1.1) ≡ allowed text (o >>= event_after blocks probe done)
+  event_same : (done : List Event) (text : List ℕ) (o : Option LineFront) → allowed text (o >>= λ line. beside_rest (of_event done line.0 line.1.0) line.1.1) ≡ allowed text (o >>= event_line_after blocks probe done)
   event_same done text None = refl
-  event_same done text (Some line) = ap (allowed text) (event_made done (event_of line.0 line.1.0) line.1.1)
+  event_same done text (Some line) = ap (allowed text) (event_made done (event_named line.0 line.1.0) line.1.1)
 
-  event_is : (done : List Event) (text : List ℕ) → by_front (of_event done) text ≡ event_at blocks probe done text
-  unfolding event_at
+  event_is : (done : List Event) (text : List ℕ) → by_front (of_event done) text ≡ event_line_at blocks probe done text
+  unfolding event_line_at
   event_is done text = event_same done text (front_of text)
 
-  lined_event : (done : List Event) → IsLined (event_at blocks probe done)
-  lined_event done = lined_as (by_front (of_event done)) (event_at blocks probe done) (event_is done) (lined_front (of_event done))
+  lined_event : (done : List Event) → IsLined (event_line_at blocks probe done)
+  lined_event done = lined_as (by_front (of_event done)) (event_line_at blocks probe done) (event_is done) (lined_front (of_event done))
 
-  moves_event : (done : List Event) → Moves (event_at blocks probe done)
-  moves_event done = moves_as (by_front (of_event done)) (event_at blocks probe done) (event_is done) (moves_front (of_event done))
+  moves_event : (done : List Event) → Moves (event_line_at blocks probe done)
+  moves_event done = moves_as (by_front (of_event done)) (event_line_at blocks probe done) (event_is done) (moves_front (of_event done))
 
   eventful_of_front : IsOfFront is_eventful
   unfolding is_eventful
   eventful_of_front one other a = rw (begins_of_front (codes "cut") one other a, begins_of_front (codes "stop") one other a) refl
 
-  lined_events : IsLined (events_at blocks probe)
-  unfolding events_at
-  lined_events = lined_many is_eventful (event_at blocks probe) eventful_of_front lined_event moves_event
+  lined_events : IsLined (event_lines_at blocks probe)
+  unfolding event_lines_at
+  lined_events = lined_many is_eventful (event_line_at blocks probe) eventful_of_front lined_event moves_event
 
-lined_anchor : (blocks : List BlockLine) → IsLined (anchor_at blocks)
-unfolding anchor_at
+lined_anchor : (blocks : List BlockLine) → IsLined (anchor_line_at blocks)
+unfolding anchor_line_at
 lined_anchor blocks =
     lined_if _ _ _ (begins_of_front (codes "processed")) (lined_some _ (lined_checked _ _ _))
     (lined_if _ _ _ (begins_of_front (codes "absent")) (lined_some _ (lined_checked _ _ _)) (lined_done _))
 
-lined_held : (blocks : ℕ) → IsLined (held_at blocks)
-unfolding held_at
+lined_held : (blocks : ℕ) → IsLined (held_line_at blocks)
+unfolding held_line_at
 lined_held blocks = lined_if _ _ _ (begins_of_front (codes "held")) (lined_checked _ _ _) (lined_done _)
 
 lined_sync : (addressed oneshot : Bool) (blocks : ℕ) → IsLined (sync_at addressed oneshot blocks)
@@ -183,8 +183,8 @@ unfolding cut_at
 lined_cut events = lined_maybe _ _ (lined_checked _ _ _)
 
 module _ (addressed : Bool) (config : ScriptConfig) (blocks : List BlockLine) where
-  lined_life : IsLined (life_at addressed config blocks)
-  unfolding life_at
+  lined_life : IsLined (life_lines_at addressed config blocks)
+  unfolding life_lines_at
   lined_life =
       lined_then _ _ (lined_line _ _) (λ word.
       lined_then _ _ (lined_anchor blocks) (λ anchor.
@@ -194,8 +194,8 @@ module _ (addressed : Bool) (config : ScriptConfig) (blocks : List BlockLine) wh
       lined_then _ _ (lined_cut (length events)) (λ cut.
       lined_then _ _ (lined_line _ _) (λ pick. lined_done _)))))))
 
-  moves_life : Moves (life_at addressed config blocks)
-  unfolding life_at
+  moves_life : Moves (life_lines_at addressed config blocks)
+  unfolding life_lines_at
   moves_life =
       moves_then _ _ (moves_line _ _) (λ word.
       lined_then _ _ (lined_anchor blocks) (λ anchor.
@@ -207,12 +207,12 @@ module _ (addressed : Bool) (config : ScriptConfig) (blocks : List BlockLine) wh
 
   lined_lives : IsLined (lives_at addressed config blocks)
   unfolding lives_at
-  lined_lives = lined_many (begins (codes "life")) (λ _. life_at addressed config blocks) (begins_of_front (codes "life")) (λ done. lined_life) (λ done. moves_life)
+  lined_lives = lined_many (begins (codes "life")) (λ _. life_lines_at addressed config blocks) (begins_of_front (codes "life")) (λ done. lined_life) (λ done. moves_life)
 
 -- THE SCRIPT
 
 stops_over : Stops nothing_left
-unfolding cut_of
+unfolding cut_at_byte
 stops_over [] left e = absurd cc
 stops_over (b ∷ bs) left e = record {
   front = [];

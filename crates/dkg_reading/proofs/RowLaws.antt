@@ -9,7 +9,7 @@ use Rattle.dkg_types.specs.declared.addresses.Socket.{Socket}
 use Rattle.dkg_values.specs.Rising.{rises}
 use Rattle.dkg_reading.specs.Allowed.{Is16, Is32, IsAddress, IsKeys, IsSocket}
 use Rattle.dkg_text.specs.Fields.{number_field, word_field}
-use Rattle.dkg_reading.specs.Rows.{Row, address_row, all, all_of, as_set, beside, field, four, nothing, number_below, second_socket, set_row, socket_row, three, two, ◌>>=◌}
+use Rattle.dkg_reading.specs.Rows.{Row, address_row, all, all_of, as_set, beside, field, four, no_fields, number_below, second_socket, set_row, socket_row, three, two, ◌>>=◌}
 use Rattle.dkg_reading.specs.Spells.{AreFieldTexts, IsField, IsLastRow, IsRow, IsSpeltLast, spaced}
 use Rattle.dkg_text.specs.Writing.{address_fields, numbers_fields, socket_fields}
 use Rattle.dkg_reading.proofs.FieldLaws.{below_law}
@@ -24,7 +24,7 @@ all_plain [] other p q = q
 all_plain (f ∷ fs) other p q = (p.0, all_plain fs other p.1 q)
 
 -- nothing at all
-pub nothing_law : IsLastRow (λ (x : Unit {0}). Unit {0}) (λ x. []) nothing
+pub nothing_law : IsLastRow (λ (x : Unit {0}). Unit {0}) (λ x. []) no_fields
 nothing_law = record {
   found = λ fields x rest e. pair_is (λ (y : Unit {0}) (r : List (List ℕ)). Unit {0} × (spaced fields ≡ spaced r)) tt x fields rest e (tt, refl);
   again = λ x fit. record { fields = []; plain = tt; text_is = refl; reads = refl };

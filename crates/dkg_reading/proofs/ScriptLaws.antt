@@ -20,13 +20,13 @@ use Rattle.dkg_text.specs.declared.script.ScriptConfig.{ScriptConfig}
 use Rattle.dkg_text.specs.declared.script.SyncLine.{SyncLine}
 use Rattle.dkg_reading.specs.Allowed.{Is32, Is64, IsAddressLine, IsBlockLine, IsConfig, IsEventAfter, IsKeys, IsLife, IsOpening, IsPlayerLine, IsProbeLine, IsScript}
 use Rattle.dkg_text.specs.Fields.{bytes_field, number_field}
-use Rattle.dkg_reading.specs.Grammar.{address_at, anchor_at, block_at, blocks_at, config_at, cut_at, end_at, event_at, events_at, held_at, is_eventful, life_at, limit_from, lives_at, nothing_left, opening_at, players_at, probe_at, reading_of, script_of, sync_at, version_one}
+use Rattle.dkg_reading.specs.Grammar.{address_line_at, anchor_line_at, block_line_at, blocks_at, config_at, cut_at, end_at, event_line_at, event_lines_at, held_line_at, is_eventful, life_lines_at, limit_from, lives_at, nothing_left, opening_at, players_line_at, probe_at, reading_of, script_of, sync_at, version_one}
 use Rattle.dkg_reading.specs.Laws.{IsReadAgain, IsWrittenAgain}
-use Rattle.dkg_reading.specs.Lines.{begins, checked_at, line_at, many_at, maybe_at}
+use Rattle.dkg_reading.specs.Lines.{begins, checked_line_at, line_at, many_lines_at, maybe_at}
 use Rattle.dkg_reading.specs.Positive.{positive_64}
-use Rattle.dkg_reading.specs.Rows.{bytes_of, field, mode_of, nothing, number_below, decimal_of, set_row, two, version_of}
+use Rattle.dkg_reading.specs.Rows.{bytes_of, field, mode_of, no_fields, number_below, decimal_of, set_row, two, version_of}
 use Rattle.dkg_reading.specs.Spells.{FitAfter, IsLine}
-use Rattle.dkg_text.specs.Writing.{address_fields, address_line, bytes_or_dash, anchor_line, block_line, config_text, cut_line, ended, event_line, held_line, life_text, number_or_dash, numbers_fields, oneshot_line, opening_text, players_line, probe_line, sync_line, text_of, text_or_none}
+use Rattle.dkg_text.specs.Writing.{address_fields, address_line, bytes_or_dash, anchor_line, block_line, config_text, cut_line, with_line_feed, event_line, held_line, life_text, number_or_dash, numbers_fields, oneshot_line, opening_text, players_line, probe_line, sync_line, text_of, text_or_none}
 use Rattle.dkg_reading.proofs.ConfigLaws.{address_named, addresses_law, blocks_law as per_epoch_law, limit_law, me_law, modes_law, modes_line, oneshot_law, oneshot_named, plain_name, players_law, players_named, probe_named, probes_law, space_law, version_law}
 use Rattle.dkg_reading.proofs.EventLaws.{IsNoEarlier, eventless, events_law, goes_on, line_long, long, no_earlier, of_among}
 use Rattle.dkg_reading.proofs.Guards.{bind_is, bind_ok, ok_is, some_is}
@@ -62,19 +62,19 @@ pub record FitsOpening (o : Opening) : Type 0 where
   pub namespace : IsBytes o.namespace
 
 abbrev pub dkg_line : List ℕ
-dkg_line = ended (codes "dkg" ++ number_field 1)
+dkg_line = with_line_feed (codes "dkg" ++ number_field 1)
 
 abbrev pub me_line : Opening → List ℕ
-me_line o = ended (codes "me" ++ number_field o.me)
+me_line o = with_line_feed (codes "me" ++ number_field o.me)
 
 abbrev pub blocks_line : Opening → List ℕ
-blocks_line o = ended (codes "blocks" ++ number_field (non_zero_u64_get o.blocks_per_epoch))
+blocks_line o = with_line_feed (codes "blocks" ++ number_field (non_zero_u64_get o.blocks_per_epoch))
 
 abbrev pub limit_line : Opening → List ℕ
-limit_line o = ended (codes "limit" ++ number_field (non_zero_u32_get o.limit))
+limit_line o = with_line_feed (codes "limit" ++ number_field (non_zero_u32_get o.limit))
 
 abbrev pub space_line : Opening → List ℕ
-space_line o = ended (codes "space" ++ bytes_field o.namespace)
+space_line o = with_line_feed (codes "space" ++ bytes_field o.namespace)
 
 abbrev pub lines_of : Opening → List ℕ
 lines_of o = (dkg_line ++ (me_line o ++ blocks_line o)) ++ (limit_line o ++ (modes_line o.modes ++ space_line o))
@@ -82,10 +82,10 @@ lines_of o = (dkg_line ++ (me_line o ++ blocks_line o)) ++ (limit_line o ++ (mod
 pub opening_found : (text : List ℕ) (o : Opening) (rest : List ℕ) → opening_at text ≡ Ok (o, rest) → FitsOpening o × (text ≡ lines_of o ++ rest)
 unfolding opening_at
 opening_found text o rest e =
-    let v = bind_ok (checked_at (codes "dkg") (field decimal_of) version_one text) _ (o, rest) e in
+    let v = bind_ok (checked_line_at (codes "dkg") (field decimal_of) version_one text) _ (o, rest) e in
     let m = bind_ok (line_at (codes "me") (field (number_below (2 ^ 32))) v.0.1) _ (o, rest) v.2 in
-    let b = bind_ok (checked_at (codes "blocks") (field decimal_of) positive_64 m.0.1) _ (o, rest) m.2 in
-    let l = bind_ok (checked_at (codes "limit") (field (number_below (2 ^ 32))) limit_from b.0.1) _ (o, rest) b.2 in
+    let b = bind_ok (checked_line_at (codes "blocks") (field decimal_of) positive_64 m.0.1) _ (o, rest) m.2 in
+    let l = bind_ok (checked_line_at (codes "limit") (field (number_below (2 ^ 32))) limit_from b.0.1) _ (o, rest) b.2 in
     let d = bind_ok (line_at (codes "mode") (two mode_of version_of) l.0.1) _ (o, rest) l.2 in
     let s = bind_ok (line_at (codes "space") (field bytes_of) d.0.1) _ (o, rest) d.2 in
     let fv = version_law.found text v.0.0 v.0.1 v.1 in
@@ -133,13 +133,13 @@ unfolding config_at
 config_found addressed text config rest e =
     let o = bind_ok (opening_at text) _ (config, rest) e in
     let n = bind_ok (maybe_at (codes "oneshot") (line_at (codes "oneshot") set_row) o.0.1) _ (config, rest) o.2 in
-    let p = bind_ok (many_at (begins (codes "players")) players_at n.0.1) _ (config, rest) n.2 in
-    let a = bind_ok (many_at (begins (codes "address")) address_at p.0.1) _ (config, rest) p.2 in
+    let p = bind_ok (many_lines_at (begins (codes "players")) players_line_at n.0.1) _ (config, rest) n.2 in
+    let a = bind_ok (many_lines_at (begins (codes "address")) address_line_at p.0.1) _ (config, rest) p.2 in
     let r = bind_ok (maybe_at (codes "probe") (probe_at addressed) a.0.1) _ (config, rest) a.2 in
     let fo = opening_found text o.0.0 o.0.1 o.1 in
     let fn = maybe_found (codes "oneshot") IsKeys oneshot_line (line_at (codes "oneshot") set_row) oneshot_law o.0.1 n.0.0 n.0.1 n.1 in
-    let fp = many_found (begins (codes "players")) IsPlayerLine players_line players_at players_law n.0.1 p.0.0 p.0.1 p.1 in
-    let fa = many_found (begins (codes "address")) IsAddressLine address_line address_at addresses_law p.0.1 a.0.0 a.0.1 a.1 in
+    let fp = many_found (begins (codes "players")) IsPlayerLine players_line players_line_at players_law n.0.1 p.0.0 p.0.1 p.1 in
+    let fa = many_found (begins (codes "address")) IsAddressLine address_line address_line_at addresses_law p.0.1 a.0.0 a.0.1 a.1 in
     let fr = maybe_found (codes "probe") (IsProbeLine addressed) probe_line (probe_at addressed) (probes_law addressed) a.0.1 r.0.0 r.0.1 r.1 in
     let made : ScriptConfig = record {
       me = o.0.0.me;
@@ -188,13 +188,13 @@ module _ (addressed : Bool) (config : ScriptConfig) (fit : IsConfig addressed co
 
   addresses_among : IsAmong after_players from_addresses
   addresses_among =
-      many_among (begins (codes "address")) IsAddressLine address_line address_at addresses_law after_players
+      many_among (begins (codes "address")) IsAddressLine address_line address_line_at addresses_law after_players
       (λ done x more f. here (codes "address") after_addresses (address_line x ++ more) (address_named done x more f))
       [] config.addresses from_probe fit.addresses (later (codes "address") after_addresses from_probe probe_among)
 
   players_among : IsAmong after_oneshot from_players
   players_among =
-      many_among (begins (codes "players")) IsPlayerLine players_line players_at players_law after_oneshot
+      many_among (begins (codes "players")) IsPlayerLine players_line players_line_at players_law after_oneshot
       (λ done x more f. here (codes "players") after_players (players_line x ++ more) (players_named done x more f))
       [] config.players from_addresses fit.players (later (codes "players") after_players from_addresses addresses_among)
 
@@ -205,8 +205,8 @@ module _ (addressed : Bool) (config : ScriptConfig) (fit : IsConfig addressed co
       let fits : FitsOpening opening = record { me = fit.opening.me; blocks = fit.opening.blocks_per_epoch; limit = fit.opening.limit; version = fit.opening.version; namespace = fit.opening.namespace } in
       bind_is _ _ _ _ (opening_again opening (oneshot_text config.oneshot ++ from_players) fits)
       (bind_is _ _ _ _ (maybe_again (codes "oneshot") IsKeys oneshot_line (line_at (codes "oneshot") set_row) oneshot_law oneshot_named config.oneshot from_players fit.oneshot (not_begun (codes "oneshot") after_oneshot from_players players_among refl))
-      (bind_is _ _ _ _ (many_again (begins (codes "players")) IsPlayerLine players_line players_at players_law (λ done x more f. begins_so (codes "players") (players_line x ++ more) (players_named done x more f)) (λ x. long (codes "players" ++ number_field x.epoch ++ numbers_fields x.players)) config.players from_addresses fit.players (not_begun (codes "players") after_players from_addresses addresses_among refl))
-      (bind_is _ _ _ _ (many_again (begins (codes "address")) IsAddressLine address_line address_at addresses_law (λ done x more f. begins_so (codes "address") (address_line x ++ more) (address_named done x more f)) (λ x. long (codes "address" ++ number_field x.0 ++ address_fields x.1)) config.addresses from_probe fit.addresses (not_begun (codes "address") after_addresses from_probe probe_among refl))
+      (bind_is _ _ _ _ (many_again (begins (codes "players")) IsPlayerLine players_line players_line_at players_law (λ done x more f. begins_so (codes "players") (players_line x ++ more) (players_named done x more f)) (λ x. long (codes "players" ++ number_field x.epoch ++ numbers_fields x.players)) config.players from_addresses fit.players (not_begun (codes "players") after_players from_addresses addresses_among refl))
+      (bind_is _ _ _ _ (many_again (begins (codes "address")) IsAddressLine address_line address_line_at addresses_law (λ done x more f. begins_so (codes "address") (address_line x ++ more) (address_named done x more f)) (λ x. long (codes "address" ++ number_field x.0 ++ address_fields x.1)) config.addresses from_probe fit.addresses (not_begun (codes "address") after_addresses from_probe probe_among refl))
       (bind_is _ _ _ _ (maybe_again (codes "probe") (IsProbeLine addressed) probe_line (probe_at addressed) (probes_law addressed) (probe_named addressed) config.probe rest fit.probe (not_begun (codes "probe") after_config rest among refl)) refl))))
 
   config_again : config_at addressed (config_text config ++ rest) ≡ Ok (config, rest)
@@ -228,26 +228,26 @@ module _ (addressed : Bool) (config : ScriptConfig) (blocks : List BlockLine) wh
   cut_text o = text_or_none cut_line o
 
   abbrev pub word_line : ℕ → List ℕ
-  word_line n = ended (codes "life" ++ number_field n)
+  word_line n = with_line_feed (codes "life" ++ number_field n)
 
   abbrev pub stop_line : ℕ → List ℕ
-  stop_line n = ended (codes "stop" ++ number_field n)
+  stop_line n = with_line_feed (codes "stop" ++ number_field n)
 
-  life_found : (text : List ℕ) (life : Life) (rest : List ℕ) → life_at addressed config blocks text ≡ Ok (life, rest) → IsLife addressed config blocks life × (text ≡ life_text life ++ rest)
-  unfolding life_at events_at
+  life_found : (text : List ℕ) (life : Life) (rest : List ℕ) → life_lines_at addressed config blocks text ≡ Ok (life, rest) → IsLife addressed config blocks life × (text ≡ life_text life ++ rest)
+  unfolding life_lines_at event_lines_at
   life_found text life rest e =
       let w = bind_ok (line_at (codes "life") (field decimal_of) text) _ (life, rest) e in
-      let a = bind_ok (anchor_at blocks w.0.1) _ (life, rest) w.2 in
-      let h = bind_ok (held_at (length blocks) a.0.1) _ (life, rest) a.2 in
+      let a = bind_ok (anchor_line_at blocks w.0.1) _ (life, rest) w.2 in
+      let h = bind_ok (held_line_at (length blocks) a.0.1) _ (life, rest) a.2 in
       let s = bind_ok (sync_at addressed (is_some config.oneshot) (length blocks) h.0.1) _ (life, rest) h.2 in
-      let v = bind_ok (many_at is_eventful (event_at (length blocks) (is_some config.probe)) s.0.1) _ (life, rest) s.2 in
+      let v = bind_ok (many_lines_at is_eventful (event_line_at (length blocks) (is_some config.probe)) s.0.1) _ (life, rest) s.2 in
       let c = bind_ok (cut_at (length v.0.0) v.0.1) _ (life, rest) v.2 in
       let p = bind_ok (line_at (codes "stop") (field decimal_of) c.0.1) _ (life, rest) c.2 in
       let fw = (number_line_law (codes "life") refl).found text w.0.0 w.0.1 w.1 in
       let fa = anchor_found blocks w.0.1 a.0.0 a.0.1 a.1 in
       let fh = held_found (length blocks) a.0.1 h.0.0 h.0.1 h.1 in
       let fs = sync_found addressed (length blocks) (is_some config.oneshot) h.0.1 s.0.0 s.0.1 s.1 in
-      let fv = many_found is_eventful (IsEventAfter (length blocks) (is_some config.probe)) event_line (event_at (length blocks) (is_some config.probe)) (events_law (length blocks) (is_some config.probe)) s.0.1 v.0.0 v.0.1 v.1 in
+      let fv = many_found is_eventful (IsEventAfter (length blocks) (is_some config.probe)) event_line (event_line_at (length blocks) (is_some config.probe)) (events_law (length blocks) (is_some config.probe)) s.0.1 v.0.0 v.0.1 v.1 in
       let fc = cut_found (length v.0.0) v.0.1 c.0.0 c.0.1 c.1 in
       let fp = (number_line_law (codes "stop") refl).found c.0.1 p.0.0 p.0.1 p.1 in
       let made : Life = record { word = w.0.0; anchor = a.0.0; held = h.0.0; sync = s.0.0; events = v.0.0; cut = c.0.0; pick = p.0.0 } in
@@ -301,8 +301,8 @@ module _ (addressed : Bool) (config : ScriptConfig) (blocks : List BlockLine) wh
     at_held : (name : List ℕ) → bytes_eq (codes "held") name ≡ false → begins name from_sync ≡ false → begins name from_held ≡ false
     at_held name apart over = held_keeps (length blocks) name apart life.held from_sync fit.held over
 
-    life_read : life_at addressed config blocks (word_line life.word ++ (anchor_text life.anchor ++ from_held)) ≡ Ok (life, rest)
-    unfolding life_at events_at
+    life_read : life_lines_at addressed config blocks (word_line life.word ++ (anchor_text life.anchor ++ from_held)) ≡ Ok (life, rest)
+    unfolding life_lines_at event_lines_at
     life_read =
         let early = no_earlier_at_events in
         let held_over = at_sync (codes "held") refl early.held in
@@ -312,19 +312,19 @@ module _ (addressed : Bool) (config : ScriptConfig) (blocks : List BlockLine) wh
         (bind_is _ _ _ _ (anchor_again blocks life.anchor from_held fit.anchor no_processed no_absent)
         (bind_is _ _ _ _ (held_again (length blocks) life.held from_sync fit.held held_over)
         (bind_is _ _ _ _ (sync_again addressed (length blocks) (is_some config.oneshot) life.sync from_events fit.sync early.sync)
-        (bind_is _ _ _ _ (many_again is_eventful (IsEventAfter (length blocks) (is_some config.probe)) event_line (event_at (length blocks) (is_some config.probe)) (events_law (length blocks) (is_some config.probe)) (goes_on (length blocks) (is_some config.probe)) line_long life.events from_cut fit.events no_event_at_cut)
+        (bind_is _ _ _ _ (many_again is_eventful (IsEventAfter (length blocks) (is_some config.probe)) event_line (event_line_at (length blocks) (is_some config.probe)) (events_law (length blocks) (is_some config.probe)) (goes_on (length blocks) (is_some config.probe)) line_long life.events from_cut fit.events no_event_at_cut)
         (bind_is _ _ _ _ (cut_again (length life.events) life.cut from_stop fit.cut no_cut_at_stop)
         (bind_is _ _ _ _ ((number_line_law (codes "stop") refl).again life.pick rest fit.pick) refl))))))
 
-    life_again : life_at addressed config blocks (life_text life ++ rest) ≡ Ok (life, rest)
-    life_again = ap (life_at addressed config blocks) (seven (word_line life.word) (anchor_text life.anchor) (held_line life.held) (sync_text life.sync) (events_text life.events) (cut_text life.cut) (stop_line life.pick) rest) ∙ life_read
+    life_again : life_lines_at addressed config blocks (life_text life ++ rest) ≡ Ok (life, rest)
+    life_again = ap (life_lines_at addressed config blocks) (seven (word_line life.word) (anchor_text life.anchor) (held_line life.held) (sync_text life.sync) (events_text life.events) (cut_text life.cut) (stop_line life.pick) rest) ∙ life_read
 
     life_named : HasName (codes "life") (life_text life ++ rest)
     life_named =
         subst (HasName (codes "life")) (sym (append_assoc (word_line life.word) (anchor_text life.anchor ++ (held_line life.held ++ (sync_text life.sync ++ (events_text life.events ++ (cut_text life.cut ++ stop_line life.pick))))) rest))
         (number_line_named (codes "life") refl life.word ((anchor_text life.anchor ++ (held_line life.held ++ (sync_text life.sync ++ (events_text life.events ++ (cut_text life.cut ++ stop_line life.pick))))) ++ rest) fit.word)
 
-  pub life_law : IsLine (IsLife addressed config blocks) life_text (life_at addressed config blocks)
+  pub life_law : IsLine (IsLife addressed config blocks) life_text (life_lines_at addressed config blocks)
   life_law = record { found = life_found; again = λ life rest fit. life_again life rest fit }
 
   life_long : (life : Life) → 0 < length (life_text life)
@@ -336,26 +336,26 @@ module _ (addressed : Bool) (config : ScriptConfig) (blocks : List BlockLine) wh
 
 -- THE LAST LINE
 
-pub end_line_law : IsLine (λ (x : Unit {0}). Unit {0}) (λ x. ended (codes "end")) (line_at (codes "end") nothing)
-end_line_law = line_law (codes "end") (plain_name (codes "end") refl) (λ (x : Unit {0}). Unit {0}) (λ x. []) nothing nothing_law
+pub end_line_law : IsLine (λ (x : Unit {0}). Unit {0}) (λ x. with_line_feed (codes "end")) (line_at (codes "end") no_fields)
+end_line_law = line_law (codes "end") (plain_name (codes "end") refl) (λ (x : Unit {0}). Unit {0}) (λ x. []) no_fields nothing_law
 
-end_found : (text : List ℕ) (x : Unit {0}) → end_at text ≡ Ok x → text ≡ ended (codes "end")
+end_found : (text : List ℕ) (x : Unit {0}) → end_at text ≡ Ok x → text ≡ with_line_feed (codes "end")
 unfolding end_at
 end_found text x e =
-    let b = bind_ok (line_at (codes "end") nothing text) _ x e in
+    let b = bind_ok (line_at (codes "end") no_fields text) _ x e in
     let f = end_line_law.found text b.0.0 b.0.1 b.1 in
     by_case b.0.1 f.1 b.2
   where
-    by_case : (left : List ℕ) → text ≡ ended (codes "end") ++ left → nothing_left left ≡ Ok x → text ≡ ended (codes "end")
+    by_case : (left : List ℕ) → text ≡ with_line_feed (codes "end") ++ left → nothing_left left ≡ Ok x → text ≡ with_line_feed (codes "end")
     by_case [] is e = is
     by_case (c ∷ cs) is e = cc e
 
-end_again : end_at (ended (codes "end")) ≡ Ok tt
+end_again : end_at (with_line_feed (codes "end")) ≡ Ok tt
 unfolding end_at
 end_again = bind_is _ _ _ _ (end_line_law.again tt [] tt) refl
 
-end_named : HasName (codes "end") (ended (codes "end"))
-end_named = line_named (codes "end") (plain_name (codes "end") refl) (λ (x : Unit {0}). Unit {0}) (λ x. []) nothing nothing_law tt [] tt
+end_named : HasName (codes "end") (with_line_feed (codes "end"))
+end_named = line_named (codes "end") (plain_name (codes "end") refl) (λ (x : Unit {0}). Unit {0}) (λ x. []) no_fields nothing_law tt [] tt
 
 -- THE SCRIPT
 
@@ -363,12 +363,12 @@ script_found : (addressed : Bool) (text : List ℕ) (script : Script) → readin
 unfolding reading_of blocks_at lives_at
 script_found addressed text script e =
     let c = bind_ok (config_at addressed text) _ script e in
-    let b = bind_ok (many_at (begins (codes "block")) (block_at addressed c.0.0) c.0.1) _ script c.2 in
-    let l = bind_ok (many_at (begins (codes "life")) (λ _. life_at addressed c.0.0 b.0.0) b.0.1) _ script b.2 in
+    let b = bind_ok (many_lines_at (begins (codes "block")) (block_line_at addressed c.0.0) c.0.1) _ script c.2 in
+    let l = bind_ok (many_lines_at (begins (codes "life")) (λ _. life_lines_at addressed c.0.0 b.0.0) b.0.1) _ script b.2 in
     let n = bind_ok (end_at l.0.1) _ script l.2 in
     let fc = config_found addressed text c.0.0 c.0.1 c.1 in
-    let fb = many_found (begins (codes "block")) (IsBlockLine addressed c.0.0) block_line (block_at addressed c.0.0) (blocks_law addressed c.0.0) c.0.1 b.0.0 b.0.1 b.1 in
-    let fl = many_found (begins (codes "life")) (λ _. IsLife addressed c.0.0 b.0.0) life_text (λ _. life_at addressed c.0.0 b.0.0) (λ _. life_law addressed c.0.0 b.0.0) b.0.1 l.0.0 l.0.1 l.1 in
+    let fb = many_found (begins (codes "block")) (IsBlockLine addressed c.0.0) block_line (block_line_at addressed c.0.0) (blocks_law addressed c.0.0) c.0.1 b.0.0 b.0.1 b.1 in
+    let fl = many_found (begins (codes "life")) (λ _. IsLife addressed c.0.0 b.0.0) life_text (λ _. life_lines_at addressed c.0.0 b.0.0) (λ _. life_law addressed c.0.0 b.0.0) b.0.1 l.0.0 l.0.1 l.1 in
     let fn = end_found l.0.1 n.0 n.1 in
     let made : Script = record { addressed = addressed; config = c.0.0; blocks = b.0.0; lives = l.0.0 } in
     let fits : IsScript made = record { config = fc.0; blocks = fb.0; lives = fl.0 } in
@@ -377,7 +377,7 @@ script_found addressed text script e =
 
 module _ (script : Script) (fit : IsScript script) where
   abbrev from_end : List ℕ
-  from_end = ended (codes "end")
+  from_end = with_line_feed (codes "end")
 
   abbrev from_lives : List ℕ
   from_lives = flat_map life_text script.lives ++ from_end
@@ -390,13 +390,13 @@ module _ (script : Script) (fit : IsScript script) where
 
   lives_among : IsAmong (codes "life" ∷ codes "end" ∷ []) from_lives
   lives_among =
-      many_among (begins (codes "life")) (λ _. IsLife script.addressed script.config script.blocks) life_text (λ _. life_at script.addressed script.config script.blocks) (λ _. life_law script.addressed script.config script.blocks) (codes "life" ∷ codes "end" ∷ [])
+      many_among (begins (codes "life")) (λ _. IsLife script.addressed script.config script.blocks) life_text (λ _. life_lines_at script.addressed script.config script.blocks) (λ _. life_law script.addressed script.config script.blocks) (codes "life" ∷ codes "end" ∷ [])
       (λ done x more f. here (codes "life") (codes "end" ∷ []) (life_text x ++ more) (life_named script.addressed script.config script.blocks x more f))
       [] script.lives from_end fit.lives (later (codes "life") (codes "end" ∷ []) from_end end_is_among)
 
   blocks_among : IsAmong after_config from_blocks
   blocks_among =
-      many_among (begins (codes "block")) (IsBlockLine script.addressed script.config) block_line (block_at script.addressed script.config) (blocks_law script.addressed script.config) after_config
+      many_among (begins (codes "block")) (IsBlockLine script.addressed script.config) block_line (block_line_at script.addressed script.config) (blocks_law script.addressed script.config) after_config
       (λ done x more f. here (codes "block") (codes "life" ∷ codes "end" ∷ []) (block_line x ++ more) (block_named script.addressed script.config done x more f))
       [] script.blocks from_lives fit.blocks (later (codes "block") (codes "life" ∷ codes "end" ∷ []) from_lives lives_among)
 
@@ -404,10 +404,10 @@ module _ (script : Script) (fit : IsScript script) where
   unfolding reading_of blocks_at lives_at
   script_again =
       bind_is _ _ _ _ (config_again script.addressed script.config fit.config from_blocks blocks_among)
-      (bind_is _ _ _ _ (many_again (begins (codes "block")) (IsBlockLine script.addressed script.config) block_line (block_at script.addressed script.config) (blocks_law script.addressed script.config)
+      (bind_is _ _ _ _ (many_again (begins (codes "block")) (IsBlockLine script.addressed script.config) block_line (block_line_at script.addressed script.config) (blocks_law script.addressed script.config)
       (λ done x more f. begins_so (codes "block") (block_line x ++ more) (block_named script.addressed script.config done x more f)) (λ x. long (codes "block" ++ (number_field x.height ++ (number_or_dash x.parent ++ (number_field x.view ++ bytes_or_dash x.payload)))))
       script.blocks from_lives fit.blocks (not_begun (codes "block") (codes "life" ∷ codes "end" ∷ []) from_lives lives_among refl))
-      (bind_is _ _ _ _ (many_again (begins (codes "life")) (λ _. IsLife script.addressed script.config script.blocks) life_text (λ _. life_at script.addressed script.config script.blocks) (λ _. life_law script.addressed script.config script.blocks)
+      (bind_is _ _ _ _ (many_again (begins (codes "life")) (λ _. IsLife script.addressed script.config script.blocks) life_text (λ _. life_lines_at script.addressed script.config script.blocks) (λ _. life_law script.addressed script.config script.blocks)
       (λ done x more f. begins_so (codes "life") (life_text x ++ more) (life_named script.addressed script.config script.blocks x more f)) (life_long script.addressed script.config script.blocks)
       script.lives from_end fit.lives (not_begun (codes "life") (codes "end" ∷ []) from_end end_is_among refl))
       (bind_is _ _ _ _ end_again refl)))

@@ -12,7 +12,7 @@ use Rattle.hex.specs.declared.error.FromHexError.{FromHexError}
 use Rattle.hex.specs.Hex.{decode_of}
 use Rattle.hex.proofs.HexLemmas.{decode_of-ok}
 use Rattle.dkg_text.specs.Fields.{IsCutAt, IsLower, IsLowerDigit, hex_text}
-use Rattle.dkg_reading.specs.Rows.{bytes_of, cut_of, decimal_of, ◌>>=◌}
+use Rattle.dkg_reading.specs.Rows.{bytes_of, cut_at_byte, decimal_of, ◌>>=◌}
 use Rattle.dkg_text.proofs.Hex.{Decoded, digits, text_back}
 use Rattle.dkg_reading.proofs.Numbers.{Parses, spells}
 
@@ -52,16 +52,16 @@ number_value text None parses is only = sym (no_number text (λ n small same. cc
 
 -- CUTS
 
-first_cut : (at : ℕ) (before after : List ℕ) → All (λ b. b ≡ at → ⊥) before → cut_of at (before ++ at ∷ after) ≡ Some (before, after)
-unfolding cut_of
+first_cut : (at : ℕ) (before after : List ℕ) → All (λ b. b ≡ at → ⊥) before → cut_at_byte at (before ++ at ∷ after) ≡ Some (before, after)
+unfolding cut_at_byte
 first_cut at [] after all = rw (eq-eqb at at refl) refl
 first_cut at (b ∷ bs) after all =
     let other = ne_eqb b at (All-head (λ b. b ≡ at → ⊥) b bs all) in
     let rest = first_cut at bs after (All-tail (λ b. b ≡ at → ⊥) b bs all) in
     rw (other, rest) refl
 
-pub no_cut : (at : ℕ) (text : List ℕ) → All (λ b. b ≡ at → ⊥) text → cut_of at text ≡ None
-unfolding cut_of
+pub no_cut : (at : ℕ) (text : List ℕ) → All (λ b. b ≡ at → ⊥) text → cut_at_byte at text ≡ None
+unfolding cut_at_byte
 no_cut at [] all = refl
 no_cut at (b ∷ bs) all =
     let other = ne_eqb b at (All-head (λ b. b ≡ at → ⊥) b bs all) in
@@ -69,7 +69,7 @@ no_cut at (b ∷ bs) all =
     rw (other, rest) refl
 
 pub cut_value : (at : ℕ) (text : List ℕ) (r : Option (Bor (List ℕ) × Bor (List ℕ))) → MatchOption r (All (λ b. b ≡ at → ⊥) text) (λ parts. IsCutAt at text parts.0.now parts.1.now)
-    → MatchOption r (cut_of at text ≡ None) (λ parts. cut_of at text ≡ Some (parts.0.now, parts.1.now))
+    → MatchOption r (cut_at_byte at text ≡ None) (λ parts. cut_at_byte at text ≡ Some (parts.0.now, parts.1.now))
 cut_value at text None all = no_cut at text all
 cut_value at text (Some parts) is = rw is.whole (first_cut at parts.0.now parts.1.now is.first)
 

@@ -2,10 +2,10 @@
 use Rattle.std.proofs.Common.{◌≡◌, ℕ, ◌==◌, Bool, Bor, true, false, cond, List, [], ◌∷◌, ◌++◌, Option, Some, None, is_some, not, refl, sym, ap, subst, ◌∙◌, append-nil, arith}
 use Rattle.std.proofs.lemmas.Bool.{eqb-true, ne_eqb}
 use Rattle.dkg_text.specs.Fields.{word_field}
-use Rattle.dkg_reading.specs.Lines.{Front, front_of, named}
+use Rattle.dkg_reading.specs.Lines.{LineFront, front_of, named}
 use Rattle.dkg_reading.specs.Spells.{AreFieldTexts, IsFieldText, spaced}
 use Rattle.dkg_reading.proofs.Guards.{bind_some, some_is}
-use Rattle.dkg_reading.specs.Rows.{byte_before, cut_of, fields_in, fields_left, is_over_of, ◌>>=◌}
+use Rattle.dkg_reading.specs.Rows.{byte_before, cut_at_byte, fields_in, fields_left, is_over_of, ◌>>=◌}
 
 -- a line has one field at least
 some_field : (text : List ℕ) → (first : List ℕ) × (rest : List (List ℕ)) × (fields_in text ≡ first ∷ rest)
@@ -46,13 +46,13 @@ later_space b bs first rest (Some parts) more is =
     let split : fields_in bs ≡ parts.0 ∷ fields_in parts.1 = more parts.0 parts.1 refl in
     ap (byte_before b) split ∙ ap (λ (p : List ℕ × List ℕ). p.0 ∷ fields_in p.1) same
 
-pub at_space : (text first rest : List ℕ) → cut_of 32 text ≡ Some (first, rest) → fields_in text ≡ first ∷ fields_in rest
-unfolding cut_of fields_in
+pub at_space : (text first rest : List ℕ) → cut_at_byte 32 text ≡ Some (first, rest) → fields_in text ≡ first ∷ fields_in rest
+unfolding cut_at_byte fields_in
 at_space [] first rest is = cc is
-at_space (b ∷ bs) first rest is = by_case (b == 32) (later_space b bs first rest (cut_of 32 bs) (λ one other e. at_space bs one other e)) is
+at_space (b ∷ bs) first rest is = by_case (b == 32) (later_space b bs first rest (cut_at_byte 32 bs) (λ one other e. at_space bs one other e)) is
   where
-    by_case : (t : Bool) → (IsPair (cut_of 32 bs >>= more_before b) first rest → byte_before b (fields_in bs) ≡ first ∷ fields_in rest)
-        → IsPair (cond t (Some ([], bs)) (cut_of 32 bs >>= more_before b)) first rest → cond t ([] ∷ fields_in bs) (byte_before b (fields_in bs)) ≡ first ∷ fields_in rest
+    by_case : (t : Bool) → (IsPair (cut_at_byte 32 bs >>= more_before b) first rest → byte_before b (fields_in bs) ≡ first ∷ fields_in rest)
+        → IsPair (cond t (Some ([], bs)) (cut_at_byte 32 bs >>= more_before b)) first rest → cond t ([] ∷ fields_in bs) (byte_before b (fields_in bs)) ≡ first ∷ fields_in rest
     by_case true more is = ap (λ (p : List ℕ × List ℕ). p.0 ∷ fields_in p.1) (some_is ([], bs) (first, rest) is)
     by_case false more is = more is
 
@@ -60,13 +60,13 @@ later_none : (b : ℕ) (bs : List ℕ) (o : Option (List ℕ × List ℕ)) → (
 later_none b bs None more is = ap (byte_before b) (more refl)
 later_none b bs (Some parts) more is = cc is
 
-pub no_space : (text : List ℕ) → cut_of 32 text ≡ None → fields_in text ≡ text ∷ []
-unfolding cut_of fields_in
+pub no_space : (text : List ℕ) → cut_at_byte 32 text ≡ None → fields_in text ≡ text ∷ []
+unfolding cut_at_byte fields_in
 no_space [] is = refl
-no_space (b ∷ bs) is = by_case (b == 32) (later_none b bs (cut_of 32 bs) (λ e. no_space bs e)) is
+no_space (b ∷ bs) is = by_case (b == 32) (later_none b bs (cut_at_byte 32 bs) (λ e. no_space bs e)) is
   where
-    by_case : (t : Bool) → ((cut_of 32 bs >>= more_before b) ≡ None → byte_before b (fields_in bs) ≡ (b ∷ bs) ∷ [])
-        → cond t (Some ([], bs)) (cut_of 32 bs >>= more_before b) ≡ None → cond t ([] ∷ fields_in bs) (byte_before b (fields_in bs)) ≡ (b ∷ bs) ∷ []
+    by_case : (t : Bool) → ((cut_at_byte 32 bs >>= more_before b) ≡ None → byte_before b (fields_in bs) ≡ (b ∷ bs) ∷ [])
+        → cond t (Some ([], bs)) (cut_at_byte 32 bs >>= more_before b) ≡ None → cond t ([] ∷ fields_in bs) (byte_before b (fields_in bs)) ≡ (b ∷ bs) ∷ []
     by_case true more is = cc is
     by_case false more is = more is
 
@@ -121,13 +121,13 @@ later_feed b bs line rest None more is = cc is
 later_feed b bs line rest (Some parts) more is =
     ap (λ (t : List ℕ). b ∷ t) (more parts.0 parts.1 refl) ∙ ap (λ (p : List ℕ × List ℕ). p.0 ++ 10 ∷ p.1) (some_is (b ∷ parts.0, parts.1) (line, rest) is)
 
-pub cut_found : (text line rest : List ℕ) → cut_of 10 text ≡ Some (line, rest) → text ≡ line ++ 10 ∷ rest
-unfolding cut_of
+pub cut_found : (text line rest : List ℕ) → cut_at_byte 10 text ≡ Some (line, rest) → text ≡ line ++ 10 ∷ rest
+unfolding cut_at_byte
 cut_found [] line rest is = cc is
-cut_found (b ∷ bs) line rest is = by_case (b == 10) refl (later_feed b bs line rest (cut_of 10 bs) (λ one other e. cut_found bs one other e)) is
+cut_found (b ∷ bs) line rest is = by_case (b == 10) refl (later_feed b bs line rest (cut_at_byte 10 bs) (λ one other e. cut_found bs one other e)) is
   where
-    by_case : (t : Bool) → (b == 10) ≡ t → (IsPair (cut_of 10 bs >>= more_before b) line rest → b ∷ bs ≡ line ++ 10 ∷ rest)
-        → IsPair (cond t (Some ([], bs)) (cut_of 10 bs >>= more_before b)) line rest → b ∷ bs ≡ line ++ 10 ∷ rest
+    by_case : (t : Bool) → (b == 10) ≡ t → (IsPair (cut_at_byte 10 bs >>= more_before b) line rest → b ∷ bs ≡ line ++ 10 ∷ rest)
+        → IsPair (cond t (Some ([], bs)) (cut_at_byte 10 bs >>= more_before b)) line rest → b ∷ bs ≡ line ++ 10 ∷ rest
     by_case true e more is =
         ap (λ (c : ℕ). c ∷ bs) (eqb-true b 10 e) ∙ ap (λ (p : List ℕ × List ℕ). p.0 ++ 10 ∷ p.1) (some_is ([], bs) (line, rest) is)
     by_case false e more is = more is
@@ -149,15 +149,15 @@ spaced_no_feed : (fields : List (List ℕ)) → AreFieldTexts fields → HasNoFe
 spaced_no_feed [] all = tt
 spaced_no_feed (f ∷ fs) all = both_no_feed (word_field f) (spaced fs) ((λ e. omega (arith, e)), field_has_no_feed f all.0) (spaced_no_feed fs all.1)
 
-cut_again : (line rest : List ℕ) → HasNoFeed line → cut_of 10 (line ++ 10 ∷ rest) ≡ Some (line, rest)
-unfolding cut_of
+cut_again : (line rest : List ℕ) → HasNoFeed line → cut_at_byte 10 (line ++ 10 ∷ rest) ≡ Some (line, rest)
+unfolding cut_at_byte
 cut_again [] rest none = refl
 cut_again (b ∷ bs) rest none = rw (ne_eqb b 10 none.0, cut_again bs rest none.1) refl
 
-pub front_found : (text : List ℕ) (line : Front) → front_of text ≡ Some line → text ≡ (line.0 ++ spaced line.1.0) ++ 10 ∷ line.1.1
+pub front_found : (text : List ℕ) (line : LineFront) → front_of text ≡ Some line → text ≡ (line.0 ++ spaced line.1.0) ++ 10 ∷ line.1.1
 unfolding front_of
 front_found text line is =
-    let c = bind_some (cut_of 10 text) (λ parts. named (fields_in parts.0) parts.1) line is in
+    let c = bind_some (cut_at_byte 10 text) (λ parts. named (fields_in parts.0) parts.1) line is in
     let whole = cut_found text c.0.0 c.0.1 c.1 in
     by_case (fields_in c.0.0) c.0.0 c.0.1 refl whole c.2
   where
@@ -166,7 +166,7 @@ front_found text line is =
     by_case (name ∷ fields) one behind e whole is =
         let same : one ≡ name ++ spaced fields = rejoined one name fields e in
         let there : text ≡ (name ++ spaced fields) ++ 10 ∷ behind = whole ∙ ap (λ (t : List ℕ). t ++ 10 ∷ behind) same in
-        subst (λ (l : Front). text ≡ (l.0 ++ spaced l.1.0) ++ 10 ∷ l.1.1) (some_is (name, (fields, behind)) line is) there
+        subst (λ (l : LineFront). text ≡ (l.0 ++ spaced l.1.0) ++ 10 ∷ l.1.1) (some_is (name, (fields, behind)) line is) there
 
 pub front_again : (name : List ℕ) (fields : List (List ℕ)) (rest : List ℕ) → IsFieldText name → AreFieldTexts fields → front_of ((name ++ spaced fields) ++ 10 ∷ rest) ≡ Some (name, (fields, rest))
 unfolding front_of

@@ -4,8 +4,8 @@ use Rattle.std.specs.Prelude.{if◌then◌else◌}
 use Rattle.std.specs.Option.{option_map_or}
 use Rattle.std.specs.Str.{bytes_eq}
 use Rattle.std.proofs.lemmas.Bool.{cases_Bool, eq-eqb}
-use Rattle.dkg_reading.specs.Lines.{TextReading, allowed, begins, front_of, many_at, many_from, named, ◌>=>◌}
-use Rattle.dkg_reading.specs.Rows.{cut_of, fields_in, ◌>>=◌}
+use Rattle.dkg_reading.specs.Lines.{TextReading, allowed, begins, front_of, many_lines_at, many_from, named, ◌>=>◌}
+use Rattle.dkg_reading.specs.Rows.{cut_at_byte, fields_in, ◌>>=◌}
 use Rattle.dkg_reading.proofs.Guards.{allowed_ok, bind_ok, ok_is, some_is}
 use Rattle.dkg_reading.proofs.Split.{cut_found}
 
@@ -39,17 +39,17 @@ pub record Alike (one other : List ℕ) : Type 0 where
   pub line : List ℕ
   pub behind : List ℕ
   pub others : List ℕ
-  pub one_is : cut_of 10 one ≡ Some (line, behind)
-  pub other_is : cut_of 10 other ≡ Some (line, others)
+  pub one_is : cut_at_byte 10 one ≡ Some (line, behind)
+  pub other_is : cut_at_byte 10 other ≡ Some (line, others)
 
 pub alike_feed : (b : ℕ) (one other : List ℕ) → b ≡ 10 → Alike (b ∷ one) (b ∷ other)
-unfolding cut_of
+unfolding cut_at_byte
 alike_feed b one other e =
     let is : (b == 10) ≡ true = eq-eqb b 10 e in
     record { line = []; behind = one; others = other; one_is = rw is refl; other_is = rw is refl }
 
 pub alike_more : (b : ℕ) (one other : List ℕ) → Alike one other → Alike (b ∷ one) (b ∷ other)
-unfolding cut_of
+unfolding cut_at_byte
 alike_more b one other a =
     elim (cases_Bool (b == 10)) [
       | inl is ↦ record { line = []; behind = one; others = other; one_is = rw is refl; other_is = rw is refl }
@@ -69,27 +69,27 @@ abbrev with_byte : ℕ → Option (List ℕ × List ℕ) → Option (List ℕ ×
 with_byte b o = o >>= λ parts. Some (b ∷ parts.0, parts.1)
 
 -- a line's end is found again, whatever follows
-found_deeper : (b : ℕ) (bs line behind others : List ℕ) → (b == 10) ≡ false → ((l after : List ℕ) → cut_of 10 bs ≡ Some (l, after) → cut_of 10 (l ++ 10 ∷ others) ≡ Some (l, others))
-    → (o : Option (List ℕ × List ℕ)) → cut_of 10 bs ≡ o → with_byte b o ≡ Some (line, behind) → cut_of 10 (line ++ 10 ∷ others) ≡ Some (line, others)
-unfolding cut_of
+found_deeper : (b : ℕ) (bs line behind others : List ℕ) → (b == 10) ≡ false → ((l after : List ℕ) → cut_at_byte 10 bs ≡ Some (l, after) → cut_at_byte 10 (l ++ 10 ∷ others) ≡ Some (l, others))
+    → (o : Option (List ℕ × List ℕ)) → cut_at_byte 10 bs ≡ o → with_byte b o ≡ Some (line, behind) → cut_at_byte 10 (line ++ 10 ∷ others) ≡ Some (line, others)
+unfolding cut_at_byte
 found_deeper b bs line behind others off again None is e = absurd cc
 found_deeper b bs line behind others off again (Some parts) is e =
     let same : b ∷ parts.0 ≡ line = ap (λ (p : List ℕ × List ℕ). p.0) (some_is (b ∷ parts.0, parts.1) (line, behind) e) in
     let inner = again parts.0 parts.1 is in
-    subst (λ (l : List ℕ). cut_of 10 (l ++ 10 ∷ others) ≡ Some (l, others)) same (rw (off, inner) refl)
+    subst (λ (l : List ℕ). cut_at_byte 10 (l ++ 10 ∷ others) ≡ Some (l, others)) same (rw (off, inner) refl)
 
-cut_again : (text line behind : List ℕ) → cut_of 10 text ≡ Some (line, behind) → (others : List ℕ) → cut_of 10 (line ++ 10 ∷ others) ≡ Some (line, others)
-unfolding cut_of
+cut_again : (text line behind : List ℕ) → cut_at_byte 10 text ≡ Some (line, behind) → (others : List ℕ) → cut_at_byte 10 (line ++ 10 ∷ others) ≡ Some (line, others)
+unfolding cut_at_byte
 cut_again [] line behind e others = absurd cc
 cut_again (b ∷ bs) line behind e others =
     elim (cases_Bool (b == 10)) [
       | inl is ↦
           let found : Some ([], bs) ≡ Some (line, behind) = rw is at e in
           let empty : [] ≡ line = ap (λ (p : List ℕ × List ℕ). p.0) (some_is ([], bs) (line, behind) found) in
-          subst (λ (l : List ℕ). cut_of 10 (l ++ 10 ∷ others) ≡ Some (l, others)) empty refl
+          subst (λ (l : List ℕ). cut_at_byte 10 (l ++ 10 ∷ others) ≡ Some (l, others)) empty refl
       | inr off ↦
-          let found : with_byte b (cut_of 10 bs) ≡ Some (line, behind) = rw off at e in
-          found_deeper b bs line behind others off (λ l after is. cut_again bs l after is others) (cut_of 10 bs) refl found
+          let found : with_byte b (cut_at_byte 10 bs) ≡ Some (line, behind) = rw off at e in
+          found_deeper b bs line behind others off (λ l after is. cut_again bs l after is others) (cut_at_byte 10 bs) refl found
     ]
 
 -- what is refused, and how much was left
@@ -293,11 +293,11 @@ by_cut : {A : Type 0} (make : List ℕ → List (List ℕ) → Option A) (c : Op
 by_cut make None = refl
 by_cut make (Some parts) = refl
 
-front_is : {A : Type 0} (make : List ℕ → List (List ℕ) → Option A) (text : List ℕ) → by_front make text ≡ allowed text (cut_of 10 text >>= λ parts. tried make (fields_in parts.0) parts.1)
+front_is : {A : Type 0} (make : List ℕ → List (List ℕ) → Option A) (text : List ℕ) → by_front make text ≡ allowed text (cut_at_byte 10 text >>= λ parts. tried make (fields_in parts.0) parts.1)
 unfolding front_of
-front_is make text = ap (allowed text) (by_cut make (cut_of 10 text))
+front_is make text = ap (allowed text) (by_cut make (cut_at_byte 10 text))
 
-front_went : {A : Type 0} (make : List ℕ → List (List ℕ) → Option A) (text : List ℕ) (x : A) (rest : List ℕ) (c : Option (List ℕ × List ℕ)) → cut_of 10 text ≡ c → allowed text (c >>= λ parts. tried make (fields_in parts.0) parts.1) ≡ Ok (x, rest)
+front_went : {A : Type 0} (make : List ℕ → List (List ℕ) → Option A) (text : List ℕ) (x : A) (rest : List ℕ) (c : Option (List ℕ × List ℕ)) → cut_at_byte 10 text ≡ c → allowed text (c >>= λ parts. tried make (fields_in parts.0) parts.1) ≡ Ok (x, rest)
     → Went (by_front make) text x rest
 unfolding front_of
 front_went make text x rest None is e = absurd cc
@@ -308,12 +308,12 @@ front_went {A} make text x rest (Some parts) is e =
       ends = ends_line parts.0;
       is = cut_found text parts.0 parts.1 is ∙ ap (λ (r : List ℕ). parts.0 ++ 10 ∷ r) t.0 ∙ sym (append_assoc parts.0 (10 ∷ []) rest);
       again = λ other a.
-          let cut : cut_of 10 ((parts.0 ++ 10 ∷ []) ++ other) ≡ Some (parts.0, other) = ap (cut_of 10) (append_assoc parts.0 (10 ∷ []) other) ∙ cut_again text parts.0 parts.1 is other in
+          let cut : cut_at_byte 10 ((parts.0 ++ 10 ∷ []) ++ other) ≡ Some (parts.0, other) = ap (cut_at_byte 10) (append_assoc parts.0 (10 ∷ []) other) ∙ cut_again text parts.0 parts.1 is other in
           let made = t.1 other in
           rw (cut, made) refl;
     }
 
-front_stopped : {A : Type 0} (make : List ℕ → List (List ℕ) → Option A) (text : List ℕ) (left : ℕ) (c : Option (List ℕ × List ℕ)) → cut_of 10 text ≡ c → allowed text (c >>= λ parts. tried make (fields_in parts.0) parts.1) ≡ Err left → Stopped (by_front make) text left
+front_stopped : {A : Type 0} (make : List ℕ → List (List ℕ) → Option A) (text : List ℕ) (left : ℕ) (c : Option (List ℕ × List ℕ)) → cut_at_byte 10 text ≡ c → allowed text (c >>= λ parts. tried make (fields_in parts.0) parts.1) ≡ Err left → Stopped (by_front make) text left
 unfolding front_of
 front_stopped {A} make text left None is e = record {
   front = [];
@@ -340,8 +340,8 @@ front_stopped {A} make text left (Some parts) is e =
 
 pub lined_front : {A : Type 0} (make : List ℕ → List (List ℕ) → Option A) → IsLined (by_front make)
 lined_front make = record {
-  went = λ text x rest e. front_went make text x rest (cut_of 10 text) refl (sym (front_is make text) ∙ e);
-  stopped = λ text left e. front_stopped make text left (cut_of 10 text) refl (sym (front_is make text) ∙ e);
+  went = λ text x rest e. front_went make text x rest (cut_at_byte 10 text) refl (sym (front_is make text) ∙ e);
+  stopped = λ text left e. front_stopped make text left (cut_at_byte 10 text) refl (sym (front_is make text) ∙ e);
 }
 
 -- a reading that equals another
@@ -358,14 +358,14 @@ abbrev pub Moves : {A : Type 0} → (List ℕ → TextReading A) → Type 0
 Moves {A} read = (text : List ℕ) (x : A) (rest : List ℕ) → read text ≡ Ok (x, rest) → length rest < length text
 
 -- .. as one of a line does
-cut_moves : {A : Type 0} (make : List ℕ → List (List ℕ) → Option A) (text : List ℕ) (x : A) (rest : List ℕ) (c : Option (List ℕ × List ℕ)) → cut_of 10 text ≡ c → allowed text (c >>= λ parts. tried make (fields_in parts.0) parts.1) ≡ Ok (x, rest) → length rest < length text
+cut_moves : {A : Type 0} (make : List ℕ → List (List ℕ) → Option A) (text : List ℕ) (x : A) (rest : List ℕ) (c : Option (List ℕ × List ℕ)) → cut_at_byte 10 text ≡ c → allowed text (c >>= λ parts. tried make (fields_in parts.0) parts.1) ≡ Ok (x, rest) → length rest < length text
 cut_moves make text x rest None is e = absurd cc
 cut_moves make text x rest (Some parts) is e =
     let t = was_tried make (fields_in parts.0) parts.1 x rest (allowed_ok text (tried make (fields_in parts.0) parts.1) (x, rest) e) in
     omega (arith, ap length (cut_found text parts.0 parts.1 is), length-append parts.0 (10 ∷ parts.1), ap length t.0)
 
 pub moves_front : {A : Type 0} (make : List ℕ → List (List ℕ) → Option A) → Moves (by_front make)
-moves_front make text x rest e = cut_moves make text x rest (cut_of 10 text) refl (sym (front_is make text) ∙ e)
+moves_front make text x rest e = cut_moves make text x rest (cut_at_byte 10 text) refl (sym (front_is make text) ∙ e)
 
 pub moves_as : {A : Type 0} (one other : List ℕ → TextReading A) → ((text : List ℕ) → one text ≡ other text) → Moves one → Moves other
 moves_as one other same moves text x rest e = moves text x rest (same text ∙ e)
@@ -489,7 +489,7 @@ module _ {A : Type 0} (goes_on : List ℕ → Bool) (read : List A → List ℕ 
         | inr off ↦ absurd (let there : Ok (done, text) ≡ Err left = rw off at e in cc)
       ]
 
-  pub lined_many : IsLined (many_at goes_on read)
+  pub lined_many : IsLined (many_lines_at goes_on read)
   lined_many = record {
     went = λ text xs rest e.
         let w = many_went (suc (length text)) [] text xs rest (omega arith) e in

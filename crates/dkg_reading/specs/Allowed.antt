@@ -20,7 +20,7 @@ use Rattle.dkg_text.specs.declared.script.Script.{Script}
 use Rattle.dkg_text.specs.declared.script.ScriptConfig.{ScriptConfig}
 use Rattle.dkg_text.specs.declared.script.SyncLine.{SyncLine}
 use Rattle.dkg_text.specs.PayloadKinds.{is_info}
-use Rattle.dkg_reading.specs.Grammar.{absent_from, are_blocks, is_above, is_event, is_parent, is_payload, limit_of}
+use Rattle.dkg_reading.specs.Grammar.{absent_from, are_blocks, is_above, is_allowed_event, is_parent, is_payload, limit_of}
 use Rattle.dkg_reading.specs.Spells.{FitAfter}
 
 -- RANGES
@@ -139,7 +139,7 @@ IsEventInRange _ = Unit {0}
 -- an event after others of its life
 pub record IsEventAfter (blocks : ℕ) (probe : Bool) (done : List Event) (event : Event) : Type 0 where
   pub range : IsEventInRange event
-  pub stands : is_event blocks probe done event ≡ true
+  pub stands : is_allowed_event blocks probe done event ≡ true
 
 pub record IsCut (events : ℕ) (cut : Cut) : Type 0 where
   pub step : Is64 cut.step

@@ -23,9 +23,9 @@ use Rattle.dkg_text.specs.declared.script.ScriptConfig.{ScriptConfig}
 use Rattle.dkg_text.specs.declared.script.SyncLine.{SyncLine}
 use Rattle.dkg_reading.specs.Asked.{is_asked}
 use Rattle.dkg_text.specs.PayloadKinds.{payload_kind, is_info}
-use Rattle.dkg_reading.specs.Lines.{TextReading, allowed, begins, by_name, checked_at, front_of, line_at, many_at, maybe_at, some_read, Front, ◌>=>◌}
+use Rattle.dkg_reading.specs.Lines.{TextReading, allowed, begins, by_name, checked_line_at, front_of, line_at, many_lines_at, maybe_at, some_read, LineFront, ◌>=>◌}
 use Rattle.dkg_reading.specs.Positive.{positive_32, positive_64}
-use Rattle.dkg_reading.specs.Rows.{Row, address_row, all, beside, bytes_of, dash_or, field, four, mode_of, nothing, number_below, decimal_of, set_row, three, two, version_of, whole, ◌>>=◌}
+use Rattle.dkg_reading.specs.Rows.{Row, address_row, all, beside, bytes_of, dash_or, field, four, mode_of, no_fields, number_below, decimal_of, set_row, three, two, version_of, whole_row, ◌>>=◌}
 
 -- FIELDS
 
@@ -54,8 +54,8 @@ abbrev pub players_after : List PlayerLine → ℕ × List ℕ → Option Player
 players_after done line = if is_above (map (λ l. l.epoch) done) line.0 then Some (record { epoch = line.0; players = line.1 }) else None
 
 -- where a key is reached, after lower keys, of which there are fewer than 2^32
-abbrev pub address_after : List (ℕ × Address) → ℕ × Address → Option (ℕ × Address)
-address_after done line = if is_above (keys_of done) line.0 && nat_lt (length done + 1) (2 ^ 32) then Some line else None
+abbrev pub address_line_after : List (ℕ × Address) → ℕ × Address → Option (ℕ × Address)
+address_line_after done line = if is_above (keys_of done) line.0 && nat_lt (length done + 1) (2 ^ 32) then Some line else None
 
 -- where the probe begins: both payloads are infos
 abbrev pub probe_from : (addressed : Bool) → ℕ × Option ℕ × List ℕ × List ℕ → Option ProbeLine
@@ -64,21 +64,21 @@ probe_from addressed line =
     then Some (record { checkpoint = line.0; floor = line.1; checkpoint_info = line.2; genesis_info = line.3 })
     else None
 
-unfoldable pub players_at : List PlayerLine → List ℕ → TextReading PlayerLine
-players_at done = checked_at (codes "players") (beside (field decimal_of) set_row) (players_after done)
+unfoldable pub players_line_at : List PlayerLine → List ℕ → TextReading PlayerLine
+players_line_at done = checked_line_at (codes "players") (beside (field decimal_of) set_row) (players_after done)
 
-unfoldable pub address_at : List (ℕ × Address) → List ℕ → TextReading (ℕ × Address)
-address_at done = checked_at (codes "address") (beside (field key_of) address_row) (address_after done)
+unfoldable pub address_line_at : List (ℕ × Address) → List ℕ → TextReading (ℕ × Address)
+address_line_at done = checked_line_at (codes "address") (beside (field key_of) address_row) (address_line_after done)
 
 unfoldable pub probe_at : (addressed : Bool) → List ℕ → TextReading ProbeLine
-probe_at addressed = checked_at (codes "probe") (four decimal_of (dash_or decimal_of) bytes_of bytes_of) (probe_from addressed)
+probe_at addressed = checked_line_at (codes "probe") (four decimal_of (dash_or decimal_of) bytes_of bytes_of) (probe_from addressed)
 
 unfoldable pub opening_at : List ℕ → TextReading Opening
 opening_at text =
-    checked_at (codes "dkg") (field decimal_of) version_one text >=> λ version.
+    checked_line_at (codes "dkg") (field decimal_of) version_one text >=> λ version.
     line_at (codes "me") (field key_of) version.1 >=> λ me.
-    checked_at (codes "blocks") (field decimal_of) positive_64 me.1 >=> λ blocks.
-    checked_at (codes "limit") (field (number_below (2 ^ 32))) limit_from blocks.1 >=> λ limit.
+    checked_line_at (codes "blocks") (field decimal_of) positive_64 me.1 >=> λ blocks.
+    checked_line_at (codes "limit") (field (number_below (2 ^ 32))) limit_from blocks.1 >=> λ limit.
     line_at (codes "mode") (two mode_of version_of) limit.1 >=> λ modes.
     line_at (codes "space") (field bytes_of) modes.1 >=> λ space.
     Ok (record { me = me.0; blocks_per_epoch = blocks.0; limit = limit.0; modes = modes.0; namespace = space.0 }, space.1)
@@ -87,8 +87,8 @@ unfoldable pub config_at : (addressed : Bool) → List ℕ → TextReading Scrip
 config_at addressed text =
     opening_at text >=> λ opening.
     maybe_at (codes "oneshot") (line_at (codes "oneshot") set_row) opening.1 >=> λ oneshot.
-    many_at (begins (codes "players")) players_at oneshot.1 >=> λ players.
-    many_at (begins (codes "address")) address_at players.1 >=> λ addresses.
+    many_lines_at (begins (codes "players")) players_line_at oneshot.1 >=> λ players.
+    many_lines_at (begins (codes "address")) address_line_at players.1 >=> λ addresses.
     maybe_at (codes "probe") (probe_at addressed) addresses.1 >=> λ probe.
     Ok (
       record {
@@ -125,17 +125,17 @@ block_after addressed config done line =
     then Some (record { height = line.0; parent = line.1; view = line.2; payload = line.3 })
     else None
 
-unfoldable pub block_at : (addressed : Bool) → ScriptConfig → List BlockLine → List ℕ → TextReading BlockLine
-block_at addressed config done = checked_at (codes "block") (four decimal_of (dash_or index_of) decimal_of (dash_or bytes_of)) (block_after addressed config done)
+unfoldable pub block_line_at : (addressed : Bool) → ScriptConfig → List BlockLine → List ℕ → TextReading BlockLine
+block_line_at addressed config done = checked_line_at (codes "block") (four decimal_of (dash_or index_of) decimal_of (dash_or bytes_of)) (block_after addressed config done)
 
 unfoldable pub blocks_at : (addressed : Bool) → ScriptConfig → List ℕ → TextReading (List BlockLine)
-blocks_at addressed config = many_at (begins (codes "block")) (block_at addressed config)
+blocks_at addressed config = many_lines_at (begins (codes "block")) (block_line_at addressed config)
 
 -- EVENTS
 
 -- what the fields of an event spell
 abbrev pub event_row : {A : Type 0} → Row A → (A → Event) → List (List ℕ) → Option Event
-event_row row make fields = whole (row fields) >>= λ x. Some (make x)
+event_row row make fields = whole_row (row fields) >>= λ x. Some (make x)
 
 -- the events of the node: the name of a line, what its fields spell, and what that makes
 unfoldable pub event_table : List (List ℕ × (List (List ℕ) → Option Event))
@@ -148,20 +148,20 @@ event_table =
     ∷ (codes "feed", event_row (two decimal_of index_of) (λ x. Feed x.0 x.1))
     ∷ (codes "over", event_row (field decimal_of) Over)
     ∷ (codes "cancel", event_row (field decimal_of) Cancel)
-    ∷ (codes "work", event_row nothing (λ x. Work))
+    ∷ (codes "work", event_row no_fields (λ x. Work))
     ∷ (codes "prepare", event_row (all index_of) Prepare)
     ∷ (codes "propose", event_row (all index_of) Propose)
     ∷ (codes "verify", event_row (all index_of) Verify)
     ∷ (codes "later", event_row (two key_of decimal_of) (λ x. Later x.0 x.1))
-    ∷ (codes "subscribe", event_row nothing (λ x. Subscribe))
-    ∷ (codes "unsubscribe", event_row nothing (λ x. Unsubscribe))
-    ∷ (codes "attach", event_row nothing (λ x. Attach))
+    ∷ (codes "subscribe", event_row no_fields (λ x. Subscribe))
+    ∷ (codes "unsubscribe", event_row no_fields (λ x. Unsubscribe))
+    ∷ (codes "attach", event_row no_fields (λ x. Attach))
     ∷ (codes "reply", event_row (two key_of bytes_of) (λ x. Reply x.0 x.1))
-    ∷ (codes "retry", event_row nothing (λ x. Retry))
+    ∷ (codes "retry", event_row no_fields (λ x. Retry))
     ∷ []
 
-abbrev pub event_of : (name : List ℕ) (fields : List (List ℕ)) → Option Event
-event_of = by_name event_table
+abbrev pub event_named : (name : List ℕ) (fields : List (List ℕ)) → Option Event
+event_named = by_name event_table
 
 -- whether all are numbers of blocks
 abbrev pub are_blocks : (blocks : ℕ) → List ℕ → Bool
@@ -170,25 +170,25 @@ are_blocks blocks (n ∷ ns) = nat_lt n blocks && are_blocks blocks ns
 
 -- whether an event may stand after others, where there are so many blocks, and a probe or none: a number of a block names one, a
 -- request for an info is new in this life, and the probe's events are there with a probe alone
-abbrev pub is_event : (blocks : ℕ) (probe : Bool) (done : List Event) → Event → Bool
-is_event blocks probe done (Final block) = nat_lt block blocks
-is_event blocks probe done (Feed request block) = nat_lt block blocks
-is_event blocks probe done (Info request) = not (is_asked done request)
-is_event blocks probe done (Prepare ancestry) = are_blocks blocks ancestry
-is_event blocks probe done (Propose ancestry) = are_blocks blocks ancestry
-is_event blocks probe done (Verify ancestry) = are_blocks blocks ancestry
-is_event blocks probe done Subscribe = probe
-is_event blocks probe done Unsubscribe = probe
-is_event blocks probe done Attach = probe
-is_event blocks probe done (Reply from bytes) = probe
-is_event blocks probe done Retry = probe
-is_event blocks probe done _ = true
+abbrev pub is_allowed_event : (blocks : ℕ) (probe : Bool) (done : List Event) → Event → Bool
+is_allowed_event blocks probe done (Final block) = nat_lt block blocks
+is_allowed_event blocks probe done (Feed request block) = nat_lt block blocks
+is_allowed_event blocks probe done (Info request) = not (is_asked done request)
+is_allowed_event blocks probe done (Prepare ancestry) = are_blocks blocks ancestry
+is_allowed_event blocks probe done (Propose ancestry) = are_blocks blocks ancestry
+is_allowed_event blocks probe done (Verify ancestry) = are_blocks blocks ancestry
+is_allowed_event blocks probe done Subscribe = probe
+is_allowed_event blocks probe done Unsubscribe = probe
+is_allowed_event blocks probe done Attach = probe
+is_allowed_event blocks probe done (Reply from bytes) = probe
+is_allowed_event blocks probe done Retry = probe
+is_allowed_event blocks probe done _ = true
 
-abbrev pub event_after : (blocks : ℕ) (probe : Bool) (done : List Event) → Front → Option (Event × List ℕ)
-event_after blocks probe done line = event_of line.0 line.1.0 >>= λ event. if is_event blocks probe done event then Some (event, line.1.1) else None
+abbrev pub event_line_after : (blocks : ℕ) (probe : Bool) (done : List Event) → LineFront → Option (Event × List ℕ)
+event_line_after blocks probe done line = event_named line.0 line.1.0 >>= λ event. if is_allowed_event blocks probe done event then Some (event, line.1.1) else None
 
-unfoldable pub event_at : (blocks : ℕ) (probe : Bool) (done : List Event) → List ℕ → TextReading Event
-event_at blocks probe done text = allowed text (front_of text >>= event_after blocks probe done)
+unfoldable pub event_line_at : (blocks : ℕ) (probe : Bool) (done : List Event) → List ℕ → TextReading Event
+event_line_at blocks probe done text = allowed text (front_of text >>= event_line_after blocks probe done)
 
 -- LIVES, where the blocks are these
 
@@ -199,18 +199,18 @@ processed_from blocks n = if nat_lt n (length blocks) then Some (Processed n) el
 abbrev pub absent_from : List BlockLine → ℕ → Option Anchor
 absent_from blocks n = slice_get blocks n >>= λ block. if nat_lt 0 block.height then Some (Absent n) else None
 
-unfoldable pub anchor_at : List BlockLine → List ℕ → TextReading (Option Anchor)
-anchor_at blocks text =
-    if begins (codes "processed") text then some_read (checked_at (codes "processed") (field index_of) (processed_from blocks) text)
-    else (if begins (codes "absent") text then some_read (checked_at (codes "absent") (field index_of) (absent_from blocks) text) else Ok (None, text))
+unfoldable pub anchor_line_at : List BlockLine → List ℕ → TextReading (Option Anchor)
+anchor_line_at blocks text =
+    if begins (codes "processed") text then some_read (checked_line_at (codes "processed") (field index_of) (processed_from blocks) text)
+    else (if begins (codes "absent") text then some_read (checked_line_at (codes "absent") (field index_of) (absent_from blocks) text) else Ok (None, text))
 
 -- rising numbers of blocks, at least one
 abbrev pub held_from : (blocks : ℕ) → List ℕ → Option (List ℕ)
 held_from blocks [] = None
 held_from blocks (n ∷ ns) = if rises (n ∷ ns) && are_blocks blocks (n ∷ ns) then Some (n ∷ ns) else None
 
-unfoldable pub held_at : (blocks : ℕ) → List ℕ → TextReading (List ℕ)
-held_at blocks text = if begins (codes "held") text then checked_at (codes "held") (all index_of) (held_from blocks) text else Ok ([], text)
+unfoldable pub held_line_at : (blocks : ℕ) → List ℕ → TextReading (List ℕ)
+held_line_at blocks text = if begins (codes "held") text then checked_line_at (codes "held") (all index_of) (held_from blocks) text else Ok ([], text)
 
 abbrev pub sync_from : (addressed : Bool) (blocks : ℕ) → List ℕ × ℕ × ℕ × ℕ → Option SyncLine
 sync_from addressed blocks line =
@@ -222,36 +222,36 @@ sync_from addressed blocks line =
 unfoldable pub sync_at : (addressed oneshot : Bool) (blocks : ℕ) → List ℕ → TextReading (Option SyncLine)
 sync_at addressed oneshot blocks text =
     if begins (codes "sync") text
-    then (if oneshot then Err (length text) else some_read (checked_at (codes "sync") (four bytes_of decimal_of decimal_of index_of) (sync_from addressed blocks) text))
+    then (if oneshot then Err (length text) else some_read (checked_line_at (codes "sync") (four bytes_of decimal_of decimal_of index_of) (sync_from addressed blocks) text))
     else Ok (None, text)
 
 -- the events of a life go on up to its cut or its stop
 unfoldable pub is_eventful : List ℕ → Bool
 is_eventful text = not (begins (codes "cut") text) && not (begins (codes "stop") text)
 
-unfoldable pub events_at : (blocks : ℕ) (probe : Bool) → List ℕ → TextReading (List Event)
-events_at blocks probe = many_at is_eventful (event_at blocks probe)
+unfoldable pub event_lines_at : (blocks : ℕ) (probe : Bool) → List ℕ → TextReading (List Event)
+event_lines_at blocks probe = many_lines_at is_eventful (event_line_at blocks probe)
 
 -- a cut within the opening or one of so many events
 abbrev pub cut_from : (events : ℕ) → ℕ × ℕ × ℕ → Option Cut
 cut_from events line = if nat_lt events line.0 then None else Some (record { step = line.0; call = line.1; pick = line.2 })
 
 unfoldable pub cut_at : (events : ℕ) → List ℕ → TextReading (Option Cut)
-cut_at events = maybe_at (codes "cut") (checked_at (codes "cut") (three decimal_of decimal_of decimal_of) (cut_from events))
+cut_at events = maybe_at (codes "cut") (checked_line_at (codes "cut") (three decimal_of decimal_of decimal_of) (cut_from events))
 
-unfoldable pub life_at : (addressed : Bool) → ScriptConfig → List BlockLine → List ℕ → TextReading Life
-life_at addressed config blocks text =
+unfoldable pub life_lines_at : (addressed : Bool) → ScriptConfig → List BlockLine → List ℕ → TextReading Life
+life_lines_at addressed config blocks text =
     line_at (codes "life") (field decimal_of) text >=> λ word.
-    anchor_at blocks word.1 >=> λ anchor.
-    held_at (length blocks) anchor.1 >=> λ held.
+    anchor_line_at blocks word.1 >=> λ anchor.
+    held_line_at (length blocks) anchor.1 >=> λ held.
     sync_at addressed (is_some config.oneshot) (length blocks) held.1 >=> λ sync.
-    events_at (length blocks) (is_some config.probe) sync.1 >=> λ events.
+    event_lines_at (length blocks) (is_some config.probe) sync.1 >=> λ events.
     cut_at (length events.0) events.1 >=> λ cut.
     line_at (codes "stop") (field decimal_of) cut.1 >=> λ pick.
     Ok (record { word = word.0; anchor = anchor.0; held = held.0; sync = sync.0; events = events.0; cut = cut.0; pick = pick.0 }, pick.1)
 
 unfoldable pub lives_at : (addressed : Bool) → ScriptConfig → List BlockLine → List ℕ → TextReading (List Life)
-lives_at addressed config blocks = many_at (begins (codes "life")) (λ _. life_at addressed config blocks)
+lives_at addressed config blocks = many_lines_at (begins (codes "life")) (λ _. life_lines_at addressed config blocks)
 
 -- THE SCRIPT
 
@@ -261,7 +261,7 @@ nothing_left (b ∷ bs) = Err (length (b ∷ bs))
 
 -- the last line, after which no byte is left
 unfoldable pub end_at : List ℕ → Result Unit ℕ
-end_at text = line_at (codes "end") nothing text >=> λ end. nothing_left end.1
+end_at text = line_at (codes "end") no_fields text >=> λ end. nothing_left end.1
 
 unfoldable pub reading_of : (addressed : Bool) → List ℕ → Result Script ℕ
 reading_of addressed text =

@@ -4,7 +4,7 @@ use Rattle.std.specs.Option.{option_map_or}
 use Rattle.std.specs.Str.{bytes_eq}
 use Rattle.dkg_reading.specs.declared.stop.Stop.{Stop}
 use Rattle.dkg_reading.specs.declared.stop.Stop.TheVariants.{Line, NoMemory}
-use Rattle.dkg_reading.specs.Rows.{Row, cut_of, fields_in, whole, ◌>>=◌}
+use Rattle.dkg_reading.specs.Rows.{Row, cut_at_byte, fields_in, whole_row, ◌>>=◌}
 
 -- what the front of a text spells, and the text behind it; or how long the text is from the line on that is not allowed
 abbrev pub TextReading : Type 0 → Type 0
@@ -44,15 +44,15 @@ ReadsTextBy view reading (Err stop) left = FailsText stop reading
 -- LINES
 
 -- a line's name, its other fields, and the text behind the line
-abbrev pub Front : Type 0
-Front = List ℕ × (List (List ℕ) × List ℕ)
+abbrev pub LineFront : Type 0
+LineFront = List ℕ × (List (List ℕ) × List ℕ)
 
-abbrev pub named : List (List ℕ) → (behind : List ℕ) → Option Front
+abbrev pub named : List (List ℕ) → (behind : List ℕ) → Option LineFront
 named [] behind = None
 named (name ∷ fields) behind = Some (name, (fields, behind))
 
-unfoldable pub front_of : List ℕ → Option Front
-front_of text = cut_of 10 text >>= λ parts. named (fields_in parts.0) parts.1
+unfoldable pub front_of : List ℕ → Option LineFront
+front_of text = cut_at_byte 10 text >>= λ parts. named (fields_in parts.0) parts.1
 
 -- whether the line in front has this name
 unfoldable pub begins : (name text : List ℕ) → Bool
@@ -64,8 +64,8 @@ allowed text (Some x) = Ok x
 allowed text None = Err (length text)
 
 -- what the fields of a line spell, all of them
-abbrev pub row_of : {A : Type 0} → (name : List ℕ) → Row A → Front → Option (A × List ℕ)
-row_of name row line = if bytes_eq line.0 name then (whole (row line.1.0) >>= λ x. Some (x, line.1.1)) else None
+abbrev pub row_of : {A : Type 0} → (name : List ℕ) → Row A → LineFront → Option (A × List ℕ)
+row_of name row line = if bytes_eq line.0 name then (whole_row (row line.1.0) >>= λ x. Some (x, line.1.1)) else None
 
 -- what the fields of a line make by a table: a row has a line's name, and what its fields make
 abbrev pub by_name : {A : Type 0} → (table : List (List ℕ × (List (List ℕ) → Option A))) → (name : List ℕ) (fields : List (List ℕ)) → Option A
@@ -77,12 +77,12 @@ unfoldable pub line_at : {A : Type 0} → (name : List ℕ) → Row A → List �
 line_at name row text = allowed text (front_of text >>= row_of name row)
 
 -- what was read makes something, or its line is not allowed
-abbrev pub checked : {A B : Type 0} → List ℕ → (A → Option B) → TextReading A → TextReading B
-checked text fits (Ok (x, behind)) = allowed text (fits x >>= λ y. Some (y, behind))
-checked text fits (Err left) = Err left
+abbrev pub checked_line : {A B : Type 0} → List ℕ → (A → Option B) → TextReading A → TextReading B
+checked_line text fits (Ok (x, behind)) = allowed text (fits x >>= λ y. Some (y, behind))
+checked_line text fits (Err left) = Err left
 
-abbrev pub checked_at : {A B : Type 0} → (name : List ℕ) → Row A → (A → Option B) → List ℕ → TextReading B
-checked_at name row fits text = checked text fits (line_at name row text)
+abbrev pub checked_line_at : {A B : Type 0} → (name : List ℕ) → Row A → (A → Option B) → List ℕ → TextReading B
+checked_line_at name row fits text = checked_line text fits (line_at name row text)
 
 abbrev pub some_read : {A : Type 0} → TextReading A → TextReading (Option A)
 some_read reading = reading >=> λ x. Ok (Some x.0, x.1)
@@ -97,5 +97,5 @@ many_from goes_on read zero done text = Ok (done, text)
 many_from goes_on read (suc most) done text =
     if goes_on text then (read done text >=> λ x. many_from goes_on read most (done ++ x.0 ∷ []) x.1) else Ok (done, text)
 
-abbrev pub many_at : {A : Type 0} → (goes_on : List ℕ → Bool) → (read : List A → List ℕ → TextReading A) → List ℕ → TextReading (List A)
-many_at goes_on read text = many_from goes_on read (suc (length text)) [] text
+abbrev pub many_lines_at : {A : Type 0} → (goes_on : List ℕ → Bool) → (read : List A → List ℕ → TextReading A) → List ℕ → TextReading (List A)
+many_lines_at goes_on read text = many_from goes_on read (suc (length text)) [] text

@@ -22,9 +22,9 @@ None >>= f = None
 -- THE FIELDS OF A LINE
 
 -- the parts before and after the first such byte
-unfoldable pub cut_of : (at : ℕ) → List ℕ → Option (List ℕ × List ℕ)
-cut_of at [] = None
-cut_of at (b ∷ bs) = if b == at then Some ([], bs) else (cut_of at bs >>= λ parts. Some (b ∷ parts.0, parts.1))
+unfoldable pub cut_at_byte : (at : ℕ) → List ℕ → Option (List ℕ × List ℕ)
+cut_at_byte at [] = None
+cut_at_byte at (b ∷ bs) = if b == at then Some ([], bs) else (cut_at_byte at bs >>= λ parts. Some (b ∷ parts.0, parts.1))
 
 -- a byte before the first field
 abbrev pub byte_before : ℕ → List (List ℕ) → List (List ℕ)
@@ -79,8 +79,8 @@ unfoldable pub field : {A : Type 0} → (List ℕ → Option A) → Row A
 field of [] = None
 field of (text ∷ fields) = of text >>= λ x. Some (x, fields)
 
-abbrev pub nothing : Row Unit
-nothing fields = Some (tt, fields)
+abbrev pub no_fields : Row Unit
+no_fields fields = Some (tt, fields)
 
 -- one row and then another
 abbrev pub beside : {A B : Type 0} → Row A → Row B → Row (A × B)
@@ -122,10 +122,10 @@ unfoldable pub address_row : Row Address
 address_row fields = socket_row fields >>= λ ingress. second_socket ingress.0 ingress.1
 
 -- no field is left
-abbrev pub whole : {A : Type 0} → Option (A × List (List ℕ)) → Option A
-whole None = None
-whole (Some (x, [])) = Some x
-whole (Some (x, field ∷ fields)) = None
+abbrev pub whole_row : {A : Type 0} → Option (A × List (List ℕ)) → Option A
+whole_row None = None
+whole_row (Some (x, [])) = Some x
+whole_row (Some (x, field ∷ fields)) = None
 
 -- what is left of a line, behind whose last field there is nothing
 abbrev pub fields_left : Option (Bor (List ℕ)) → List (List ℕ)

@@ -1,7 +1,7 @@
 //! The lines of a script's blocks: each names an earlier one as its parent, or none, and may carry a payload.
 ghost use Rattle.std.specs.Prelude.{◌≡◌, ◌<◌, IfOk, IfSome, codes, length};
 ghost use Rattle.std.specs.Int.NonZero.{non_zero_u32_get};
-ghost use Rattle.dkg_reading.specs.Grammar.{block_at, blocks_at, is_parent as is_parent_of, is_payload, limit_of};
+ghost use Rattle.dkg_reading.specs.Grammar.{block_line_at, blocks_at, is_parent as is_parent_of, is_payload, limit_of};
 ghost use Rattle.dkg_reading.specs.Lines.{ReadsText, ReadsIf, begins};
 
 use crate::lines::Lines;
@@ -51,7 +51,7 @@ fn read_payload(
 }
 
 /// `block H P V PAYLOAD`: a block after others, where there is a line of it; its parent P and its payload may be dashes.
-#[tactic(auto, unfolding(crate::specs::Grammar::block_at))]
+#[tactic(auto, unfolding(crate::specs::Grammar::block_line_at))]
 fn read_block_after(
     alloc: Global,
     addressed: bool,
@@ -59,7 +59,7 @@ fn read_block_after(
     done: &[BlockLine],
     lines: &mut Lines<'_>,
 ) -> Result<Option<BlockLine>, Stop>
-    ensures reads { ReadsIf (begins (codes "block")) (block_at addressed config.now done.now) lines.old.rest.now result lines.new.rest.now }
+    ensures reads { ReadsIf (begins (codes "block")) (block_line_at addressed config.now done.now) lines.old.rest.now result lines.new.rest.now }
     ensures on { IfOk result (λ made. IfSome made (λ _. length lines.new.rest.now < length lines.old.rest.now)) }
 {
     let Some((height, parent, view, payload)): Option<(Height, Option<u32>, u64, Option<Blob>)> =

@@ -2,8 +2,8 @@
 ghost use Rattle.std.specs.Prelude.{◌≡◌, ◌+◌, ◌<◌, ◌^◌, IfOk, IfSome, IsTrue, codes, length, map};
 ghost use Rattle.std.specs.List.Sorted.{IsStrictlyIncreasing};
 ghost use Rattle.dkg_values.specs.Rising.{keys_of};
-ghost use Rattle.dkg_reading.specs.Grammar.{address_at, config_at, is_above, limit_from, opening_at, players_at, probe_at};
-ghost use Rattle.dkg_reading.specs.Lines.{ReadsText, ReadsTextBy, ReadsIf, begins, line_at, many_at, maybe_at};
+ghost use Rattle.dkg_reading.specs.Grammar.{address_line_at, config_at, is_above, limit_from, opening_at, players_line_at, probe_at};
+ghost use Rattle.dkg_reading.specs.Lines.{ReadsText, ReadsTextBy, ReadsIf, begins, line_at, many_lines_at, maybe_at};
 ghost use Rattle.dkg_reading.specs.Positive.{positive_32, positive_64};
 ghost use Rattle.dkg_reading.specs.Rows.{set_row};
 
@@ -95,13 +95,13 @@ fn is_above_players(done: &[PlayerLine], epoch: Epoch) -> bool
 }
 
 /// `players E K ..`: an epoch's players, keys rising, after those of lower epochs, where there is a line of them.
-#[tactic(auto, unfolding(crate::specs::Grammar::players_at))]
+#[tactic(auto, unfolding(crate::specs::Grammar::players_line_at))]
 fn read_players_after(
     alloc: Global,
     done: &[PlayerLine],
     lines: &mut Lines<'_>,
 ) -> Result<Option<PlayerLine>, Stop>
-    ensures reads { ReadsIf (begins (codes "players")) (players_at done.now) lines.old.rest.now result lines.new.rest.now }
+    ensures reads { ReadsIf (begins (codes "players")) (players_line_at done.now) lines.old.rest.now result lines.new.rest.now }
     ensures on { IfOk result (λ made. IfSome made (λ _. length lines.new.rest.now < length lines.old.rest.now)) }
 {
     let Some((epoch, players)) = lines.take_if(alloc, b"players")? else {
@@ -116,7 +116,7 @@ fn read_players_after(
 
 /// The provider's players, epochs rising.
 fn read_players(alloc: Global, lines: &mut Lines<'_>) -> Result<PlayerLines, Stop>
-    ensures { ReadsText (many_at (begins (codes "players")) players_at lines.old.rest.now) result lines.new.rest.now }
+    ensures { ReadsText (many_lines_at (begins (codes "players")) players_line_at lines.old.rest.now) result lines.new.rest.now }
 {
     let mut players = Vec::new(alloc);
     'players: while let Some(line) = read_players_after(alloc, &players, lines)? {
@@ -136,13 +136,13 @@ fn is_above_keys(done: &[(Key, Address)], key: Key) -> bool
 }
 
 /// `address K IP PORT` or `address K IP PORT IP PORT`: where a key is reached, after those of lower keys, where there is a line of it.
-#[tactic(auto, unfolding(crate::specs::Grammar::address_at))]
+#[tactic(auto, unfolding(crate::specs::Grammar::address_line_at))]
 fn read_address_after(
     alloc: Global,
     done: &[(Key, Address)],
     lines: &mut Lines<'_>,
 ) -> Result<Option<(Key, Address)>, Stop>
-    ensures reads { ReadsIf (begins (codes "address")) (address_at done.now) lines.old.rest.now result lines.new.rest.now }
+    ensures reads { ReadsIf (begins (codes "address")) (address_line_at done.now) lines.old.rest.now result lines.new.rest.now }
     ensures on { IfOk result (λ made. IfSome made (λ _. length lines.new.rest.now < length lines.old.rest.now)) }
     ensures above { IfOk result (λ made. IfSome made (λ line. IsTrue (is_above (keys_of done.now) line.0))) }
     ensures in_bound { IfOk result (λ made. IfSome made (λ _. length done.now + 1 < 2 ^ 32)) }
@@ -158,7 +158,7 @@ fn read_address_after(
 }
 
 fn read_address_pairs(alloc: Global, lines: &mut Lines<'_>) -> Result<Vec<(Key, Address)>, Stop>
-    ensures reads { ReadsTextBy (λ pairs. pairs.items) (many_at (begins (codes "address")) address_at lines.old.rest.now) result lines.new.rest.now }
+    ensures reads { ReadsTextBy (λ pairs. pairs.items) (many_lines_at (begins (codes "address")) address_line_at lines.old.rest.now) result lines.new.rest.now }
     ensures rising { IfOk result (λ pairs. IsStrictlyIncreasing (keys_of pairs.items)) }
     ensures in_bound { IfOk result (λ pairs. length pairs.items < 2 ^ 32) }
 {
@@ -171,7 +171,7 @@ fn read_address_pairs(alloc: Global, lines: &mut Lines<'_>) -> Result<Vec<(Key, 
 
 /// The provider's addresses, keys rising.
 fn read_addresses(alloc: Global, lines: &mut Lines<'_>) -> Result<Map<Address>, Stop>
-    ensures { ReadsText (many_at (begins (codes "address")) address_at lines.old.rest.now) result lines.new.rest.now }
+    ensures { ReadsText (many_lines_at (begins (codes "address")) address_line_at lines.old.rest.now) result lines.new.rest.now }
 {
     let pairs = read_address_pairs(alloc, lines)?;
     Ok(Map::from_sorted(pairs).unwrap())

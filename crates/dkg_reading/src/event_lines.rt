@@ -3,7 +3,7 @@ ghost use Rattle.std.specs.Prelude.{◌≡◌, ℕ, ◌<◌, ◌≤◌, ◌↔�
 ghost use Rattle.std.specs.Str.{bytes_eq};
 ghost use Rattle.dkg_text.specs.declared.script.Event.{Event as AnEvent};
 ghost use Rattle.dkg_reading.specs.Asked.{AreAsked, asks, has_number};
-ghost use Rattle.dkg_reading.specs.Grammar.{are_blocks as are_blocks_of, event_at, event_of as event_by_name, events_at, is_event as is_event_of, is_eventful};
+ghost use Rattle.dkg_reading.specs.Grammar.{are_blocks as are_blocks_of, event_line_at, event_named as event_by_name, event_lines_at, is_allowed_event as is_event_of, is_eventful};
 ghost use Rattle.dkg_reading.specs.Lines.{ReadsText, ReadsIf};
 
 use crate::asked::Asked;
@@ -100,14 +100,14 @@ fn is_end(name: &[u8]) -> bool
 }
 
 /// Reads the line of an event after others, which named these requests, up to the life's cut or its stop.
-#[tactic(auto, unfolding(crate::specs::Grammar::event_at, crate::specs::Grammar::is_eventful, crate::specs::Lines::begins))]
+#[tactic(auto, unfolding(crate::specs::Grammar::event_line_at, crate::specs::Grammar::is_eventful, crate::specs::Lines::begins))]
 fn read_event_after(
     alloc: Global,
     around: Around,
     asked: &Asked,
     lines: &mut Lines<'_>,
 ) -> Result<Option<Event<'static>>, Stop>
-    ensures reads { (done : List AnEvent) → AreAsked done asked.now.numbers → ReadsIf is_eventful (event_at around.blocks around.probe done) lines.old.rest.now result lines.new.rest.now }
+    ensures reads { (done : List AnEvent) → AreAsked done asked.now.numbers → ReadsIf is_eventful (event_line_at around.blocks around.probe done) lines.old.rest.now result lines.new.rest.now }
     ensures on { IfOk result (λ made. IfSome made (λ _. length lines.new.rest.now < length lines.old.rest.now)) }
 {
     let Some(line) = lines.front() else {
@@ -138,13 +138,13 @@ fn keep(asked: &mut Asked, events: &mut Events, event: Event<'_>) -> Mem<()>
 }
 
 /// The events of a life.
-#[tactic(auto, unfolding(crate::specs::Grammar::events_at))]
+#[tactic(auto, unfolding(crate::specs::Grammar::event_lines_at))]
 pub(crate) fn read_events(
     alloc: Global,
     around: Around,
     lines: &mut Lines<'_>,
 ) -> Result<Events, Stop>
-    ensures reads { ReadsText (events_at around.blocks around.probe lines.old.rest.now) result lines.new.rest.now }
+    ensures reads { ReadsText (event_lines_at around.blocks around.probe lines.old.rest.now) result lines.new.rest.now }
     ensures on { OnOk result (length lines.new.rest.now ≤ length lines.old.rest.now) }
 {
     let mut events = Events::new(alloc);

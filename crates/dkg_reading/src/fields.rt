@@ -5,7 +5,7 @@ ghost use Rattle.std.specs.Prelude.{◌≡◌, ◌≢◌, ℕ, ◌+◌, ◌<◌,
 ghost use Rattle.std.specs.Str.Parse.{IsNumeral, digits_value};
 ghost use Rattle.hex.specs.Hex.{IsBytes, decode_of};
 ghost use Rattle.dkg_text.specs.Fields.{hex_text, IsPlain, IsLower, SpellsNumber, IsCutAt};
-ghost use Rattle.dkg_reading.specs.Rows.{TookFields, all_of, as_set, bytes_of, cut_of, field as field_row, fields_in, is_over_of, mode_of, number_below, decimal_of, version_of, whole as whole_of};
+ghost use Rattle.dkg_reading.specs.Rows.{TookFields, all_of, as_set, bytes_of, cut_at_byte, field as field_row, fields_in, is_over_of, mode_of, number_below, decimal_of, version_of, whole_row as whole_of};
 
 use dkg_ceremony::{Blob, Epoch, Height, Key, Mem, Mode, ModeVersion, NoMemory, Set};
 use dkg_text::Indexes;
@@ -72,7 +72,7 @@ fn parted(text: &[u8], at: u8) -> Option<(&[u8], &[u8])>
 /// What stands before and after the first such byte.
 #[inline(always)]
 pub(crate) fn cut(text: &[u8], at: u8) -> Option<(&[u8], &[u8])>
-    ensures value { MatchOption result (cut_of at text.now ≡ None) (λ parts. cut_of at text.now ≡ Some (parts.0.now, parts.1.now)) }
+    ensures value { MatchOption result (cut_at_byte at text.now ≡ None) (λ parts. cut_at_byte at text.now ≡ Some (parts.0.now, parts.1.now)) }
     ensures shorter { IfSome result (λ parts. length parts.1.now < length text.now) }
 {
     parted(text, at)
@@ -350,9 +350,9 @@ pub(crate) fn whole<T: Row + Drop>(alloc: Global, mut fields: Fields<'_>) -> Mem
 }
 
 impl Row for () {
-    ghost use Rattle.dkg_reading.specs.Rows.{nothing};
+    ghost use Rattle.dkg_reading.specs.Rows.{no_fields};
 
-    ghost spells = { nothing };
+    ghost spells = { no_fields };
 
     fn read(_alloc: Global, _fields: &mut Fields<'_>) -> Mem<Option<()>> {
         Ok(Some(()))

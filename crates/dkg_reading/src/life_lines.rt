@@ -2,7 +2,7 @@
 ghost use Rattle.std.specs.Prelude.{◌≡◌, ◌<◌, ◌≤◌, ◌↔◌, IsTrue, OnOk, is_some, length};
 ghost use Rattle.std.specs.List.Sorted.{IsStrictlyIncreasing};
 ghost use Rattle.dkg_values.specs.Rising.{rises};
-ghost use Rattle.dkg_reading.specs.Grammar.{absent_from, anchor_at, cut_at, cut_from, held_at, held_from, life_at, lives_at, processed_from, sync_at};
+ghost use Rattle.dkg_reading.specs.Grammar.{absent_from, anchor_line_at, cut_at, cut_from, held_line_at, held_from, life_lines_at, lives_at, processed_from, sync_at};
 ghost use Rattle.dkg_reading.specs.Lines.{ReadsText};
 
 use crate::event_lines::{Around, are_blocks, read_events};
@@ -41,13 +41,13 @@ fn absent(blocks: &[BlockLine], number: u32) -> Option<Anchor>
 }
 
 /// `processed I` or `absent I`: the position that a life begins at, where there is a line of it.
-#[tactic(auto, unfolding(crate::specs::Grammar::anchor_at))]
+#[tactic(auto, unfolding(crate::specs::Grammar::anchor_line_at))]
 fn read_anchor(
     alloc: Global,
     blocks: &[BlockLine],
     lines: &mut Lines<'_>,
 ) -> Result<Option<Anchor>, Stop>
-    ensures reads { ReadsText (anchor_at blocks.now lines.old.rest.now) result lines.new.rest.now }
+    ensures reads { ReadsText (anchor_line_at blocks.now lines.old.rest.now) result lines.new.rest.now }
     ensures on { OnOk result (length lines.new.rest.now ≤ length lines.old.rest.now) }
 {
     let anchor = if let Some(number) = lines.take_if(alloc, b"processed")? {
@@ -95,9 +95,9 @@ fn held(blocks: usize, numbers: Indexes) -> Option<Indexes>
 }
 
 /// `held I ..`: the blocks that a life holds, where there is a line of them.
-#[tactic(auto, unfolding(crate::specs::Grammar::held_at))]
+#[tactic(auto, unfolding(crate::specs::Grammar::held_line_at))]
 fn read_held(alloc: Global, blocks: usize, lines: &mut Lines<'_>) -> Result<Indexes, Stop>
-    ensures reads { ReadsText (held_at blocks lines.old.rest.now) result lines.new.rest.now }
+    ensures reads { ReadsText (held_line_at blocks lines.old.rest.now) result lines.new.rest.now }
     ensures on { OnOk result (length lines.new.rest.now ≤ length lines.old.rest.now) }
 {
     let Some(numbers) = lines.take_if(alloc, b"held")? else {
@@ -169,9 +169,9 @@ fn read_cut(alloc: Global, events: usize, lines: &mut Lines<'_>) -> Result<Optio
 }
 
 /// The lines from `life W` to `stop P`.
-#[tactic(auto, unfolding(crate::specs::Grammar::life_at))]
+#[tactic(auto, unfolding(crate::specs::Grammar::life_lines_at))]
 fn read_life(alloc: Global, known: &Known<'_>, lines: &mut Lines<'_>) -> Result<Life, Stop>
-    ensures reads { ReadsText (life_at known.now.addressed known.now.config.now known.now.blocks.now lines.old.rest.now) result lines.new.rest.now }
+    ensures reads { ReadsText (life_lines_at known.now.addressed known.now.config.now known.now.blocks.now lines.old.rest.now) result lines.new.rest.now }
     ensures on { OnOk result (length lines.new.rest.now < length lines.old.rest.now) }
 {
     let word = lines.take(alloc, b"life")?;

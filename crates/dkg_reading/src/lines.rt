@@ -4,7 +4,7 @@
 //! allowed there.
 ghost use Rattle.std.specs.Prelude.{◌≡◌, ◌<◌, IfSome, IfOk, MatchOption, None, OnOk, Some, length};
 ghost use Rattle.dkg_reading.specs.Lines.{ReadsText, ReadsIf, begins, front_of, line_at, named, row_of};
-ghost use Rattle.dkg_reading.specs.Rows.{whole as whole_of};
+ghost use Rattle.dkg_reading.specs.Rows.{whole_row as whole_of};
 
 use crate::fields::{Fields, Row, cut, whole};
 use crate::stop::Stop;

@@ -77,8 +77,8 @@ pub record IsOpenedOn {C Dir Signer Cfg D X : Type 0} (tells : Bool) (files : D 
   pub ready : IfLiving state (λ life. IsReadyLife tells files image ack_of deal_of check_ack_of terms life devices)
 
 -- Memory has what the devices give back.
-abbrev pub IsAgreed : {C Dir Signer Cfg : Type 0} → State C Dir Signer Cfg → Files → Secrets → Type 0
-IsAgreed state files s = IfLiving state (λ life. AreAgreed (records_of life.store) (held_in files s))
+abbrev pub MemoryAgrees : {C Dir Signer Cfg : Type 0} → State C Dir Signer Cfg → Files → Secrets → Type 0
+MemoryAgrees state files s = IfLiving state (λ life. AreAgreed (records_of life.store) (held_in files s))
 
 -- HOW A CALL ENDS
 

@@ -19,9 +19,9 @@ ghost use Rattle.dkg_life.specs.Moved.{Moved, StaysAbove};
 ghost use Rattle.dkg_life.specs.Opened.{IsInGrammar, IsOpeningOf, OpensReadable, epoch_at};
 ghost use Rattle.dkg_life.specs.Rules.{IncludesBy, IsRuledBy, SameProvided};
 ghost use Rattle.dkg_life.specs.Planless.{IsBareOpening};
-ghost use Rattle.dkg_verifying.specs.InclusionOf.{IsSeen, IsSettledInclusion, result_of};
+ghost use Rattle.dkg_verifying.specs.InclusionOf.{IsSeen, IsSettledInclusion, checked_result_of};
 ghost use Rattle.dkg_blocks.specs.Applied.{MovesOn};
-ghost use Rattle.dkg_reshare.specs.Actors.{ActorStays, AreTerms, BringsWithin, EndsAt, FailsStop, IfIncluding, IfLiving, IsAgreed, IsOpenedOn, IsNew, lives, message_of, running_in, told_in};
+ghost use Rattle.dkg_reshare.specs.Actors.{ActorStays, AreTerms, BringsWithin, EndsAt, FailsStop, IfIncluding, IfLiving, MemoryAgrees, IsOpenedOn, IsNew, lives, message_of, running_in, told_in};
 ghost use Rattle.dkg_blocks.specs.CarriedLogs.{CarriesWithin};
 
 use crate::blocks::take_block;
@@ -244,7 +244,7 @@ impl<
             × (self.new.manager ≡ self.old.manager) × (self.new.terms ≡ self.old.terms) }
         // Memory has what the devices give back, where they were whole and nothing of them was loose.
         ensures live { OnOk result (IsTrue D.tells → IsTrue X.tells → IsSoundAt D.files D.image X.held devices.old
-            → IsAgreed self.new.state (D.files devices.new.disk.now) (X.held devices.new.secrets.now)) }
+            → MemoryAgrees self.new.state (D.files devices.new.disk.now) (X.held devices.new.secrets.now)) }
         ensures moved { Moved D.tells D.made X.made D.faults X.faults devices.old devices.new }
         // A device is blamed where its count rose, a cut where the fuse reached its call, and a record where it stands.
         ensures causes { IfErr result (λ stop. IsFoundAt (non_zero_u32_get self.old.terms.limit) D.tells (D.files devices.new.disk.now) stop
@@ -475,7 +475,7 @@ impl<
             Dir.matches_of c
             → IsSeen its beside.inclusion → EndsWith beside (λ i. OnOk result (IfIncluding self.new.state (λ life now. IsSeen now i)))
             (λ more. OnOk result (TookSchemes R.tells (R.taken self.old.registrar) (R.taken self.new.registrar) more))
-            (λ now. Makes D.files D.image X.held (works c (option_map result_of done) (live_of beside _fence.old old))
+            (λ now. Makes D.files D.image X.held (works c (option_map checked_result_of done) (live_of beside _fence.old old))
             (lives (live_of now _fence.new) self.new.state result) devices.old devices.new out.old.entries out.new.entries)) }
         ensures tells { IsTrue P.tells → (c : Fixed Dir) (beside : Beside Dir) → IfIncluding self.old.state (λ old its. IsIn self.old.terms old.word c
             → ReadsPlanless c → IsRuledBy C.round_of C.deal_of C.dealing_of C.ack_of C.check_ack_of C.sign_log_of C.bears_ack_of C.share_public_of
@@ -484,7 +484,7 @@ impl<
             Dir.matches_of c
             → IsSeen its beside.inclusion → EndsWith beside (λ i. OnOk result (IfIncluding self.new.state (λ life now. IsSeen now i)))
             (λ more. OnOk result (TookSchemes R.tells (R.taken self.old.registrar) (R.taken self.new.registrar) more))
-            (λ now. Tells (works c (option_map result_of done) (live_of beside _fence.old old))
+            (λ now. Tells (works c (option_map checked_result_of done) (live_of beside _fence.old old))
             (lives (live_of now _fence.new) self.new.state result) out.old.entries out.new.entries)) }
         // It may go on over these devices alone, or it has failed.
         ensures ends { EndsAt self.new.state result (λ life. IsReadyLife D.tells D.files D.image C.ack_of C.deal_of C.check_ack_of self.new.terms life

@@ -28,7 +28,7 @@ use Rattle.dkg_core.specs.Seen.{Seen}
 use Rattle.dkg_life.specs.Planless.{seen_planless}
 use Rattle.dkg_life.specs.declared.stop.Stop.{Stop}
 use Rattle.dkg_life.specs.declared.stop.Stop.TheVariants.{Cut, Fault as FaultOf}
-use Rattle.dkg_lives.specs.Causes.{HasCause}
+use Rattle.dkg_lives.specs.Causes.{HasDeviceCause}
 use Rattle.dkg_lives.specs.Ended.{by_node_stop}
 use Rattle.dkg_lives.specs.Given.{Lived, at_step, lived, step_of}
 use Rattle.dkg_lives.specs.Moving.{Blames, StopBlames, Went}
@@ -58,7 +58,7 @@ module _ {D X : Type 0} (disk_faults : D → ℕ) (secret_faults : X → ℕ) wh
   life_blames old mid new how (Err its) caused (inr is) same = subst (Blames disk_faults secret_faults old new) (sym is) tt
 
 -- .. and what it blames in a part of a run, it blames in all of it
-faults_around : (its : Fault) (P Q R S : Type 0) → (P → R) → (Q → S) → HasCause its P Q → HasCause its R S
+faults_around : (its : Fault) (P Q R S : Type 0) → (P → R) → (Q → S) → HasDeviceCause its P Q → HasDeviceCause its R S
 faults_around fault.Disk P Q R S disk secrets is = disk is
 faults_around fault.Secrets P Q R S disk secrets is = secrets is
 faults_around its P Q R S disk secrets is = tt

@@ -24,7 +24,7 @@ use Rattle.dkg_life.specs.Planless.{seen_planless}
 use Rattle.dkg_life.specs.declared.stop.Stop.{Stop}
 use Rattle.dkg_life.specs.declared.stop.Stop.TheVariants.{Cut, Fault as FaultOf}
 use Rattle.dkg_lives.specs.Ended.{by_node_stop}
-use Rattle.dkg_lives.specs.Epochs.{IsAt, IsChecked}
+use Rattle.dkg_lives.specs.Epochs.{IsAtEvent, IsChecked}
 use Rattle.dkg_lives.specs.Given.{Lived, at_step, limits_of, lived}
 use Rattle.dkg_lives.specs.Lives.{LivesSo, TakesAll, fuse_for}
 use Rattle.dkg_lives.specs.Moving.{world_of}
@@ -112,7 +112,7 @@ module _ {D X : Type 0} (files : D → Files) (image : D → Files → Type 0) (
             new now c here end (acts_over (went end) new now acts))
 
         -- .. the node stands at its life's first state,
-        pub at_first : IsFormOfInclusion script → IsChecked script → slice_get script.lives number ≡ Some life → IsAt its 0 end
+        pub at_first : IsFormOfInclusion script → IsChecked script → slice_get script.lives number ≡ Some life → IsAtEvent its 0 end
         at_first form checked life_is = (opened_at by_worlds worlds_lead its (life_in_form script number life seen_planless (files old.disk.now) form checked life_is (λ h. refl)) end begun.fuse
             (record (at (moment out (held begun.secrets.now) begun.fuse) (files begun.disk.now)) { fuse = begun.fuse }) (at (moment now (held new.secrets.now) new.fuse) c)
             (worlds_go course (went end) (files begun.disk.now) (files new.disk.now) (image begun.disk.now) (image new.disk.now) (moment out (held begun.secrets.now) begun.fuse) (moment now (held new.secrets.now) new.fuse)

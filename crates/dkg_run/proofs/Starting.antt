@@ -32,7 +32,7 @@ use Rattle.dkg_life.specs.declared.stop.Stop.{Stop}
 use Rattle.dkg_life.specs.declared.stop.Stop.TheVariants.{Cut, Failed, Fault as FaultOf}
 use Rattle.dkg_life.proofs.Said.{nothing_held}
 use Rattle.dkg_lives.specs.Causes.{StopHasCause}
-use Rattle.dkg_lives.specs.Epochs.{IsAt, IsChecked, IsLifeInForm}
+use Rattle.dkg_lives.specs.Epochs.{IsAtEvent, IsChecked, IsLifeInForm}
 use Rattle.dkg_lives.specs.Given.{AreBytes, IsUnplanned, Lived, at_step, blocks_in, lived}
 use Rattle.dkg_lives.specs.Lives.{LivesSo, TakesAll, fuse_for}
 use Rattle.dkg_lives.specs.Moving.{StepBlames, StopBlames, Went}
@@ -119,7 +119,7 @@ module _ (script : Script) (number : ℕ) (life : Life) (files : Files) (out : L
             step_of_it : IsStepHere its node blocks life
             step_of_it = record { of = of its refl refl (λ h. read.unplanned); blocks_are = same; life_is = refl }
 
-            at_first : IsAt its 0 (read.so).0
+            at_first : IsAtEvent its 0 (read.so).0
             at_first = (opened_at by_lines lines_lead its over_it (read.so).0 f (trace out []) (trace now [])
                 (lines_go (node_opening (at_step its 0)) (went (read.so).0) f out now [] (read.so).2 (λ is. absurd (went_uncut (read.so).0 is)))).3
 
@@ -127,7 +127,7 @@ module _ (script : Script) (number : ℕ) (life : Life) (files : Files) (out : L
             has_opened bytes = record { g = its; here = over_it; bytes = bytes; of = step_of_it; st = (read.so).0; view = (read.so).1; at = at_first }
 
             pub told_first : (how : Result (Unit {0}) Stop) (behind now_then : List Line) → behind ≡ now ++ entry.Step 0 ∷ []
-                → ((g : Lived) (st : Live directory.Unit) (picks : List ℕ) → IsLifeInForm g → IsStepHere g node blocks life → IsView node st → IsAt g 0 st
+                → ((g : Lived) (st : Live directory.Unit) (picks : List ℕ) → IsLifeInForm g → IsStepHere g node blocks life → IsView node st → IsAtEvent g 0 st
                 → TakesAll by_lines g 1 life.events st (trace behind picks) how (trace now_then picks))
                 → LinesSo script number life out how now_then files
             told_first how behind now_then is takes = (
@@ -141,7 +141,7 @@ module _ (script : Script) (number : ℕ) (life : Life) (files : Files) (out : L
 
             -- .. one of both
             pub went_first : {D X : Type 0} (mid last : Devices D X) (how : Result (Unit {0}) Stop) (now_then : List Line)
-                → IsUntold how mid last now now_then ⊎ ((g : Lived) (st : Live directory.Unit) (picks : List ℕ) → IsLifeInForm g → IsStepHere g node blocks life → IsView node st → IsAt g 0 st
+                → IsUntold how mid last now now_then ⊎ ((g : Lived) (st : Live directory.Unit) (picks : List ℕ) → IsLifeInForm g → IsStepHere g node blocks life → IsView node st → IsAtEvent g 0 st
                 → TakesAll by_lines g 1 life.events st (trace (now ++ entry.Step 0 ∷ []) picks) how (trace now_then picks))
                 → LinesSo script number life out how now_then files
             went_first mid last how now_then (inr takes) = told_first how (now ++ entry.Step 0 ∷ []) now_then refl takes

@@ -15,7 +15,7 @@ use Rattle.dkg_core.specs.Live.{Live, NodeStop}
 use Rattle.dkg_blocks.specs.CarriedLogs.{CarriesWithin}
 use Rattle.dkg_life.specs.Planless.{seen_planless}
 use Rattle.dkg_life.specs.declared.stop.Stop.{Stop}
-use Rattle.dkg_lives.specs.Epochs.{IsAt, IsLifeInForm, MayStep}
+use Rattle.dkg_lives.specs.Epochs.{IsAtEvent, IsLifeInForm, MayStep}
 use Rattle.dkg_lives.specs.Given.{AreBytes, Lived, at_step, blocks_in, step_of}
 use Rattle.dkg_lives.specs.Lives.{Steps, fuse_for}
 use Rattle.dkg_node.specs.Nodes.{GoesIn, IsEventOfBlocks, IsOfLife, IsStepHere, IsView}
@@ -38,11 +38,11 @@ step_here g a b blocks now life of same is = record {
 
 pub record IsHere (g : Lived) (node : Node) (i : ℕ) (st : Live directory.Unit) : Type 0 where
   pub view : IsView node st
-  pub at : IsAt g i st
+  pub at : IsAtEvent g i st
   pub before : IsBefore g.life.cut (suc i)
 
 -- .. behind none of them, where the opening was reached
-pub here_first : (g : Lived) (node : Node) (st : Live directory.Unit) (life : Life) → g.life ≡ life → (f : Burn) → fuse_for life.cut 0 ≡ Some f → IsView node st → IsAt g 0 st → IsHere g node 0 st
+pub here_first : (g : Lived) (node : Node) (st : Live directory.Unit) (life : Life) → g.life ≡ life → (f : Burn) → fuse_for life.cut 0 ≡ Some f → IsView node st → IsAtEvent g 0 st → IsHere g node 0 st
 here_first g node st life same f lit view at = record {
   view = view;
   at = at;
@@ -132,7 +132,7 @@ module _ (g : Lived) (here : IsLifeInForm g) (i : ℕ) (its : Event) (life : Lif
                 more.0,
                 record {
                   view = more.1;
-                  at = subst (λ (k : ℕ). IsAt g k end) (sym (add-one i)) led.1;
+                  at = subst (λ (k : ℕ). IsAtEvent g k end) (sym (add-one i)) led.1;
                   before = subst (λ (k : ℕ). IsBefore g.life.cut (suc k)) (sym (add-one i)) (before_suc g.life.cut (suc i) (reached f lit));
                 },
                 more.2,

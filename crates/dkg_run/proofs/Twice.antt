@@ -13,7 +13,7 @@ use Rattle.dkg_infos.specs.declared.entry.Entry.{Entry}
 use Rattle.dkg_infos.specs.declared.fault.Fault.{Fault}
 use Rattle.dkg_text.specs.declared.script.Script.{Script}
 use Rattle.dkg_script.specs.AsCut.{as_cut, setting_as_cut, with_cuts}
-use Rattle.dkg_script.specs.Blocks.{carried_infos, chain, info_at_boundary, known_in, known_info, oneshot_round, provided, reshare_round, round_at, used}
+use Rattle.dkg_script.specs.Blocks.{carried_infos, chain, info_at_boundary, known_in, known_info, oneshot_round, provided_material, reshare_round, round_at, used}
 use Rattle.dkg_script.specs.Consistent.{IsConsistentScript}
 use Rattle.dkg_script.specs.Promise.{AreHonestStores, cuts_in}
 use Rattle.dkg_script.specs.Readings.{Info, material_in}
@@ -43,7 +43,7 @@ module _ (script : Script) (files other : Files) (held its : Secrets) (plan : ge
 
   -- the info, where the plan held this
   abbrev info_with : ℕ → Option (List ℕ) → Option Info
-  info_with epoch o = known_in (filter_map (info_at_boundary one) (used one) ++ map (λ m. m.info) (filter_map (provided one) script.lives ++ option_to_list (option_and_then (material_in (limits one)) o))) epoch
+  info_with epoch o = known_in (filter_map (info_at_boundary one) (used one) ++ map (λ m. m.info) (filter_map (provided_material one) script.lives ++ option_to_list (option_and_then (material_in (limits one)) o))) epoch
 
   same_info : (epoch : ℕ) → known_info (setting_of script other its) epoch ≡ known_info one epoch
   unfolding used

@@ -5,13 +5,13 @@ use Rattle.dkg_script.specs.AsCut.{setting_as_cut}
 use Rattle.dkg_script.specs.Blocks.{round_at, used}
 use Rattle.dkg_script.specs.Progress.{progress}
 use Rattle.dkg_script.specs.Promise.{with_plans}
-use Rattle.dkg_script.specs.Readings.{Material}
+use Rattle.dkg_script.specs.Readings.{SyncMaterial}
 use Rattle.dkg_script.specs.Setting.{Setting}
 use Rattle.dkg_script.proofs.OneAckAgain.{one_ack_again}
 use Rattle.dkg_run.specs.Again.{AcknowledgesAsBefore}
 
 -- An epoch's round is the same in each case of what the plan held.
-bare : (s : Setting) (plans : List (Option Material)) (epoch : ℕ) → round_at (with_plans s plans) epoch ≡ round_at s epoch
+bare : (s : Setting) (plans : List (Option SyncMaterial)) (epoch : ℕ) → round_at (with_plans s plans) epoch ≡ round_at s epoch
 unfolding round_at used
 bare s plans epoch = refl
 

@@ -117,13 +117,13 @@ pub record Reported (Gave : List ℕ → Type 0) (o : Over) (out new : List Entr
 abbrev pub IsMade : (number : ℕ) → (bytes : List ℕ) → Type 0
 IsMade number bytes = bytes ≡ text_of (made_script number)
 
-abbrev pub fault_of : Option Entry → Option Fault
-fault_of (Some (entry.Fault its)) = Some its
-fault_of its = None
+abbrev pub fault_in_entry : Option Entry → Option Fault
+fault_in_entry (Some (entry.Fault its)) = Some its
+fault_in_entry its = None
 
 -- the fault that entries end in, if they end in one
 abbrev pub last_fault : List Entry → Option Fault
-last_fault entries = fault_of (slice_get entries (length entries - 1))
+last_fault entries = fault_in_entry (slice_get entries (length entries - 1))
 
 -- what there is to write, by the status: the summary of the entries, where the lives were run
 abbrev pub summary_by : (number : ℕ) → List Entry → Status → List ℕ

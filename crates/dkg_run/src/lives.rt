@@ -19,9 +19,9 @@ ghost use Rattle.dkg_script.specs.Inclusion.{IsFormOfInclusion};
 ghost use Rattle.dkg_script.specs.Promise.{Adds};
 ghost use Rattle.dkg_life.specs.Planless.{seen_planless};
 ghost use Rattle.dkg_life.specs.declared.stop.Stop.TheVariants.{Cut as AtCut, Failed as HadFailed, Fault as FaultOf};
-ghost use Rattle.dkg_lives.specs.Causes.{HasCause, IfFault};
+ghost use Rattle.dkg_lives.specs.Causes.{HasDeviceCause, IfFault};
 ghost use Rattle.dkg_promises.specs.Found.{IsFoundRecord};
-ghost use Rattle.dkg_lives.specs.Epochs.{IsAt, IsChecked, IsLifeInForm, MayStep};
+ghost use Rattle.dkg_lives.specs.Epochs.{IsAtEvent, IsChecked, IsLifeInForm, MayStep};
 ghost use Rattle.dkg_lives.specs.Given.{AreBytes, Lived, blocks_in, limits_of, lived, step_of};
 ghost use Rattle.dkg_lives.specs.Lives.{AnyFiles, BeganNone, EndsLife, LivesHere, LivesSo, RunsAllSo, Steps, TakesAll, TellsEnd, fuse_for};
 ghost use Rattle.dkg_lives.specs.Moving.{Blames, StepBlames, StopBlames, Went, world_of};
@@ -146,10 +146,10 @@ fn take_steps<D: Disk, X: SecretStore>(
     requires begun { (f : Burn) × (fuse_for life.now.cut 0 ≡ Some f) }
     requires ready { IsReadyNode D.tells D.files D.image node.old devices.old }
     ensures lines { (g : Lived) (st : Live directory.Unit) (picks : List ℕ) → IsLifeInForm g → IsStepHere g node.old source.old.blocks.now life.now
-        → IsView node.old st → IsAt g 0 st
+        → IsView node.old st → IsAtEvent g 0 st
         → TakesAll by_lines g 1 life.now.events st (trace out.old.entries picks) result (trace out.new.entries picks) }
     ensures run { IsTrue D.tells → IsTrue X.tells → (g : Lived) (st : Live directory.Unit) → IsLifeInForm g
-        → IsStepHere g node.old source.old.blocks.now life.now → IsView node.old st → IsAt g 0 st → (c : Files) → D.image devices.new.disk.now c
+        → IsStepHere g node.old source.old.blocks.now life.now → IsView node.old st → IsAtEvent g 0 st → (c : Files) → D.image devices.new.disk.now c
         → TakesAll by_worlds g 1 life.now.events st
         (world_of X.held devices.old out.old.entries (D.files devices.old.disk.now)) result (world_of X.held devices.new out.new.entries c) }
     ensures firm { OnOk result (IsTrue D.tells → Lands (D.files devices.new.disk.now) (D.image devices.new.disk.now)) }
@@ -187,11 +187,11 @@ fn go_on<D: Disk, X: SecretStore>(
     requires ready { IsReadyNode D.tells D.files D.image node.old devices.old }
     ensures lines { IsUntold result devices.old devices.new out.old.entries out.new.entries
         ⊎ ((g : Lived) (st : Live directory.Unit) (picks : List ℕ) → IsLifeInForm g → IsStepHere g node.old source.old.blocks.now life.now
-        → IsView node.old st → IsAt g 0 st
+        → IsView node.old st → IsAtEvent g 0 st
         → TakesAll by_lines g 1 life.now.events st (trace (out.old.entries ++ entry.Step 0 ∷ []) picks) result (trace out.new.entries picks)) }
     ensures run { IsUntold result devices.old devices.new out.old.entries out.new.entries
         ⊎ (IsTrue D.tells → IsTrue X.tells → (g : Lived) (st : Live directory.Unit) → IsLifeInForm g
-        → IsStepHere g node.old source.old.blocks.now life.now → IsView node.old st → IsAt g 0 st → (c : Files) → D.image devices.new.disk.now c
+        → IsStepHere g node.old source.old.blocks.now life.now → IsView node.old st → IsAtEvent g 0 st → (c : Files) → D.image devices.new.disk.now c
         → TakesAll by_worlds g 1 life.now.events st
         (world_of X.held devices.old (out.old.entries ++ entry.Step 0 ∷ []) (D.files devices.old.disk.now)) result (world_of X.held devices.new out.new.entries c)) }
     ensures firm { OnOk result (IsTrue D.tells → Lands (D.files devices.new.disk.now) (D.image devices.new.disk.now)) }

@@ -11,7 +11,7 @@ use Rattle.dkg_text.specs.declared.script.Life.{Life}
 use Rattle.dkg_script.specs.Setting.{Setting, CutAt, life_at}
 use Rattle.dkg_script.specs.Position.{cut_of}
 use Rattle.dkg_script.specs.Progress.{Progress, read, at_start, progress, is_last_step, with_life_ended}
-use Rattle.dkg_script.specs.Order.{InLife, IsInOrder, InOrder, IsOrderedCut, IsOrderedStep, Begins}
+use Rattle.dkg_script.specs.Order.{InLife, IsInOrder, InOrder, IsOrderedCut, IsOrderedStep, LetsBegin}
 use Rattle.dkg_script.specs.AsCut.{cut_within, life_as_cut, lives_as_cut, with_cuts}
 use Rattle.dkg_script.specs.AsCutLaws.{ComesAsFar, StaysInOrderAsCut}
 use Rattle.dkg_script.proofs.EachEntry.{EachAfter, all_splits}
@@ -170,7 +170,7 @@ module _ (s : Setting) (ends : List (Option CutAt)) where
 
   same_order : (p : Progress) (entry : Entry) → IsInOrder s p entry → IsInOrder (with_cuts ends s) p entry
   same_order p (Opened life restored) ordered = record {
-    in_life = in_life p (λ its. (life ≡ length p.cuts) × Begins p its) (λ its. (life ≡ length p.cuts) × Begins p its) (λ end its is. is) ordered.in_life;
+    in_life = in_life p (λ its. (life ≡ length p.cuts) × LetsBegin p its) (λ its. (life ≡ length p.cuts) × LetsBegin p its) (λ end its is. is) ordered.in_life;
     at_opening = ordered.at_opening;
     once = ordered.once;
   }
@@ -179,8 +179,8 @@ module _ (s : Setting) (ends : List (Option CutAt)) where
   same_order p (Cut step call) ordered =
       in_life p (IsOrderedCut p step call) (IsOrderedCut p step call) (λ end life is. record { in_hand = is.in_hand; of_script = is.of_script; before_step = is.before_step }) ordered
   same_order p (Fault fault) (inl at_start) = inl at_start
-  same_order p (Fault fault) (inr begins) = inr (in_life p (Begins p) (Begins p) (λ end life is. is) begins)
-  same_order p other ordered = in_life p (Begins p) (Begins p) (λ end life is. is) ordered
+  same_order p (Fault fault) (inr begins) = inr (in_life p (LetsBegin p) (LetsBegin p) (λ end life is. is) begins)
+  same_order p other ordered = in_life p (LetsBegin p) (LetsBegin p) (λ end life is. is) ordered
 
 pub in_order_as_cut : StaysInOrderAsCut
 unfolding InOrder

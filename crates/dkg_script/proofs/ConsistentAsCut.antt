@@ -10,11 +10,11 @@ use Rattle.dkg_infos.specs.declared.entry.Entry.{Entry}
 use Rattle.dkg_text.specs.declared.script.Cut.{Cut as ScriptCut}
 use Rattle.dkg_text.specs.declared.script.Event.{Event}
 use Rattle.dkg_text.specs.declared.script.Life.{Life}
-use Rattle.dkg_script.specs.Readings.{Info, Material}
+use Rattle.dkg_script.specs.Readings.{Info, SyncMaterial}
 use Rattle.dkg_script.specs.Schedule.{epoch_of}
 use Rattle.dkg_script.specs.Setting.{Setting, CutAt, blocks_per_epoch, life_at, found, setting_of}
-use Rattle.dkg_script.specs.Blocks.{Block, block_at, carried_infos, chain, chain_below, delivered_number, events_come_to, handed_in, held_at_opening, info_at_boundary, provided, used, used_in}
-use Rattle.dkg_script.specs.Position.{IsLeft, IsPlanHistory, awaited_before, awaited_epoch, awaited_epoch_in, awaited_height, cut_of, delivered, event_of_step, events_taken, last_awaited, start_height}
+use Rattle.dkg_script.specs.Blocks.{ScriptBlock, numbered_block, carried_infos, chain, chain_below, delivered_number, events_come_to, handed_in, held_at_opening, info_at_boundary, provided_material, used, used_in}
+use Rattle.dkg_script.specs.Position.{IsLeft, IsPlanHistory, awaited_before, awaited_epoch, awaited_epoch_in, awaited_height_after, cut_of, delivered, event_of_step, events_taken, last_awaited, first_height}
 use Rattle.dkg_script.specs.Progress.{Progress, progress}
 use Rattle.dkg_script.specs.Consistent.{IsConsistentScript, IsFromAnother}
 use Rattle.dkg_script.specs.Order.{InOrder}
@@ -77,10 +77,10 @@ module _ (s : Setting) (ends : List (Option CutAt)) where
   abbrev synced : Life → List ℕ
   synced life = option_to_list (option_map (λ line. line.block) life.sync)
 
-  used_in_whole : (end : Option CutAt) (life : Life) (b : Block) → IsIn b (used_in (with_cuts ends s) (life_as_cut end life)) → IsIn b (used_in s life)
-  used_in_whole end life b is = elim (in_either b (held_at_opening s life) (filter_map (block_at s) (synced life ++ filter_map delivered_number (events_come_to life.cut (cut_within end life.events)))) is) [
-    | inl held ↦ in_first b (held_at_opening s life) (filter_map (block_at s) (synced life ++ filter_map delivered_number (events_come_to life.cut life.events))) held
-    | inr other ↦ in_second b (held_at_opening s life) (filter_map (block_at s) (synced life ++ filter_map delivered_number (events_come_to life.cut life.events))) (by_number (in_mapped (block_at s) b (synced life ++ filter_map delivered_number (events_come_to life.cut (cut_within end life.events))) other))
+  used_in_whole : (end : Option CutAt) (life : Life) (b : ScriptBlock) → IsIn b (used_in (with_cuts ends s) (life_as_cut end life)) → IsIn b (used_in s life)
+  used_in_whole end life b is = elim (in_either b (held_at_opening s life) (filter_map (numbered_block s) (synced life ++ filter_map delivered_number (events_come_to life.cut (cut_within end life.events)))) is) [
+    | inl held ↦ in_first b (held_at_opening s life) (filter_map (numbered_block s) (synced life ++ filter_map delivered_number (events_come_to life.cut life.events))) held
+    | inr other ↦ in_second b (held_at_opening s life) (filter_map (numbered_block s) (synced life ++ filter_map delivered_number (events_come_to life.cut life.events))) (by_number (in_mapped (numbered_block s) b (synced life ++ filter_map delivered_number (events_come_to life.cut (cut_within end life.events))) other))
   ]
     where
       by_event : (number : ℕ) → (event : Event) × IsIn event (events_come_to life.cut (cut_within end life.events)) × (delivered_number event ≡ Some number)
@@ -94,12 +94,12 @@ module _ (s : Setting) (ends : List (Option CutAt)) where
         | inr event ↦ in_second number (synced life) (filter_map delivered_number (events_come_to life.cut life.events)) (by_event number (in_mapped delivered_number number (events_come_to life.cut (cut_within end life.events)) event))
       ]
 
-      by_number : (number : ℕ) × IsIn number (synced life ++ filter_map delivered_number (events_come_to life.cut (cut_within end life.events))) × (block_at s number ≡ Some b)
-          → IsIn b (filter_map (block_at s) (synced life ++ filter_map delivered_number (events_come_to life.cut life.events)))
-      by_number its = map_in (block_at s) its.0 b (synced life ++ filter_map delivered_number (events_come_to life.cut life.events)) (its_number its.0 its.1) its.2
+      by_number : (number : ℕ) × IsIn number (synced life ++ filter_map delivered_number (events_come_to life.cut (cut_within end life.events))) × (numbered_block s number ≡ Some b)
+          → IsIn b (filter_map (numbered_block s) (synced life ++ filter_map delivered_number (events_come_to life.cut life.events)))
+      by_number its = map_in (numbered_block s) its.0 b (synced life ++ filter_map delivered_number (events_come_to life.cut life.events)) (its_number its.0 its.1) its.2
 
   -- it uses no other
-  pub used_within : (b : Block) → IsIn b (used (with_cuts ends s)) → IsIn b (used s)
+  pub used_within : (b : ScriptBlock) → IsIn b (used (with_cuts ends s)) → IsIn b (used s)
   unfolding used
   used_within b is =
       let at = in_joined (used_in (with_cuts ends s)) b (lives_as_cut ends s.script.lives) is in
@@ -108,21 +108,21 @@ module _ (s : Setting) (ends : List (Option CutAt)) where
 
   -- INFOS
 
-  same_provided : (ends : List (Option CutAt)) (lives : List Life) → filter_map (provided s) (lives_as_cut ends lives) ≡ filter_map (provided s) lives
+  same_provided : (ends : List (Option CutAt)) (lives : List Life) → filter_map (provided_material s) (lives_as_cut ends lives) ≡ filter_map (provided_material s) lives
   same_provided [] lives = refl
   same_provided (end ∷ ends) [] = refl
-  same_provided (end ∷ ends) (life ∷ lives) = ap (λ (rest : List Material). cons_option (provided s life) rest) (same_provided ends lives)
+  same_provided (end ∷ ends) (life ∷ lives) = ap (λ (rest : List SyncMaterial). cons_option (provided_material s life) rest) (same_provided ends lives)
 
-  abbrev given : List Material → List Info
+  abbrev given : List SyncMaterial → List Info
   given ms = map (λ m. m.info) (ms ++ option_to_list (handed_in s))
 
   carried_within : (info : Info) → IsIn info (carried_infos (with_cuts ends s)) → IsIn info (carried_infos s)
-  carried_within info is = elim (in_either info (filter_map (info_at_boundary s) (used (with_cuts ends s))) (given (filter_map (provided s) (lives_as_cut ends s.script.lives))) is) [
-    | inl carried ↦ in_first info (filter_map (info_at_boundary s) (used s)) (given (filter_map (provided s) s.script.lives)) (by_block (in_mapped (info_at_boundary s) info (used (with_cuts ends s)) carried))
-    | inr other ↦ in_second info (filter_map (info_at_boundary s) (used s)) (given (filter_map (provided s) s.script.lives)) (subst (λ (ms : List Material). IsIn info (given ms)) (same_provided ends s.script.lives) other)
+  carried_within info is = elim (in_either info (filter_map (info_at_boundary s) (used (with_cuts ends s))) (given (filter_map (provided_material s) (lives_as_cut ends s.script.lives))) is) [
+    | inl carried ↦ in_first info (filter_map (info_at_boundary s) (used s)) (given (filter_map (provided_material s) s.script.lives)) (by_block (in_mapped (info_at_boundary s) info (used (with_cuts ends s)) carried))
+    | inr other ↦ in_second info (filter_map (info_at_boundary s) (used s)) (given (filter_map (provided_material s) s.script.lives)) (subst (λ (ms : List SyncMaterial). IsIn info (given ms)) (same_provided ends s.script.lives) other)
   ]
     where
-      by_block : (b : Block) × IsIn b (used (with_cuts ends s)) × (info_at_boundary s b ≡ Some info) → IsIn info (filter_map (info_at_boundary s) (used s))
+      by_block : (b : ScriptBlock) × IsIn b (used (with_cuts ends s)) × (info_at_boundary s b ≡ Some info) → IsIn info (filter_map (info_at_boundary s) (used s))
       by_block its = map_in (info_at_boundary s) its.0 info (used s) (used_within its.0 its.1) its.2
 
   -- .. so an info that is known there is the one that is known
@@ -132,14 +132,14 @@ module _ (s : Setting) (ends : List (Option CutAt)) where
 
   -- THE SCRIPT
 
-  linked_below : AllByRecursion (λ b. chain s b.height ≡ Some b) (used s) → (n : ℕ) (P : Block → Type 0) → IfSome (chain_below s n) P → IfSome (chain_below (with_cuts ends s) n) P
+  linked_below : AllByRecursion (λ b. chain s b.height ≡ Some b) (used s) → (n : ℕ) (P : ScriptBlock → Type 0) → IfSome (chain_below s n) P → IfSome (chain_below (with_cuts ends s) n) P
   linked_below one zero P is = tt
   linked_below one (suc n) P is = by_case (chain (with_cuts ends s) n) refl
     where
-      by_case : (o : Option Block) → chain (with_cuts ends s) n ≡ o → IfSome o P
+      by_case : (o : Option ScriptBlock) → chain (with_cuts ends s) n ≡ o → IfSome o P
       by_case None e = tt
       by_case (Some below) e =
-          subst (λ (o : Option Block). IfSome o P) (found_within (λ b. b.height) (used (with_cuts ends s)) (used s) used_within one n below e) is
+          subst (λ (o : Option ScriptBlock). IfSome o P) (found_within (λ b. b.height) (used (with_cuts ends s)) (used s) used_within one n below e) is
 
   still_others : (me : ℕ) (ends : List (Option CutAt)) (lives : List Life) → AllByRecursion (λ life. AllByRecursion (IsFromAnother me) life.events) lives
       → AllByRecursion (λ life. AllByRecursion (IsFromAnother me) life.events) (lives_as_cut ends lives)
@@ -241,13 +241,13 @@ before_it j (Some at) (inr before) = inr before
 
 -- a life without material comes as far
 module _ (s : Setting) (ends : List (Option CutAt)) (l : ℕ) (life : Life) (no_sync : life.sync ≡ None) (none : found s l ≡ None) (end : Option CutAt) where
-  pub start_as_cut : start_height (with_cuts ends s) l (life_as_cut end life) ≡ start_height s l life
+  pub start_as_cut : first_height (with_cuts ends s) l (life_as_cut end life) ≡ first_height s l life
   start_as_cut = start_is (with_cuts ends s) l (life_as_cut end life) no_sync none ∙ sym (start_is s l life no_sync none)
 
-  pub height_as_cut : (n : ℕ) → IsBefore n end → awaited_height (with_cuts ends s) l (life_as_cut end life) n ≡ awaited_height s l life n
-  unfolding awaited_height
+  pub height_as_cut : (n : ℕ) → IsBefore n end → awaited_height_after (with_cuts ends s) l (life_as_cut end life) n ≡ awaited_height_after s l life n
+  unfolding awaited_height_after
   height_as_cut n before =
-      ap (λ (events : List Event). fold (λ height b. max height (suc b.height)) (start_height (with_cuts ends s) l (life_as_cut end life)) (filter_map (block_at s) (filter_map delivered_number events)))
+      ap (λ (events : List Event). fold (λ height b. max height (suc b.height)) (first_height (with_cuts ends s) l (life_as_cut end life)) (filter_map (numbered_block s) (filter_map delivered_number events)))
       (same_comes n life.cut end life.events before)
       ∙ ap (λ (height : ℕ). fold (λ height b. max height (suc b.height)) height (delivered s life n)) start_as_cut
 
@@ -259,7 +259,7 @@ module _ (s : Setting) (ends cuts : List (Option CutAt)) (plain : IsPlain s) (hi
   )
 
   same_height : (end : Option CutAt) (life : Life) (n : ℕ) → life_at s l ≡ Some life → IsBefore n end
-      → awaited_height (with_cuts ends s) l (life_as_cut end life) n ≡ awaited_height s l life n
+      → awaited_height_after (with_cuts ends s) l (life_as_cut end life) n ≡ awaited_height_after s l life n
   same_height end life n is before = let its = is_plain life is in height_as_cut s ends l life its.0 its.1 end n before
 
   -- .. so it begins as far, and comes as far until it ends
@@ -329,7 +329,7 @@ module _ (s : Setting) (ends : List (Option CutAt)) (plain : IsPlain s) (history
 pub same_ends : (s : Setting) (out : List Entry) → InOrder s out → (progress (with_cuts (progress s out).cuts s) out).cuts ≡ (progress s out).cuts
 same_ends s out ordered = ap (λ (p : Progress). p.cuts) (same_progress s (progress s out).cuts out ordered refl)
 
-pub plain_case : (s : Setting) (plans : List (Option Material)) → IsPlain s → IsPlain (with_plans s plans)
+pub plain_case : (s : Setting) (plans : List (Option SyncMaterial)) → IsPlain s → IsPlain (with_plans s plans)
 plain_case s plans plain = record { no_record = plain.no_record; no_sync = plain.no_sync }
 
 pub honest_as_cut : (s : Setting) (image : Files → Type 0) (ends : List (Option CutAt)) → IsPlain s → IsHonestRun s image ends → IsHonestRun (with_cuts ends s) image ends

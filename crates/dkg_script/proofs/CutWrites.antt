@@ -12,9 +12,9 @@ use Rattle.dkg_journal.specs.Names.{Files, name_cmp}
 use Rattle.dkg_journal.specs.Records.{entries, read32, read64}
 use Rattle.dkg_store.specs.Pairs.{IsWhole}
 use Rattle.dkg_secrets.specs.Secrets.{Secrets}
-use Rattle.dkg_infos.specs.InfoCodes.{held_at, parts_at}
+use Rattle.dkg_infos.specs.InfoCodes.{info_output_at, parts_at}
 use Rattle.dkg_infos.specs.OutcomeCodes.{outcome_after}
-use Rattle.dkg_types.specs.PayloadCodes.{carried_at, payload_after}
+use Rattle.dkg_types.specs.PayloadCodes.{payload_info_at, payload_after}
 use Rattle.dkg_infos.specs.declared.entry.Entry.{Entry}
 use Rattle.dkg_infos.specs.declared.entry.Entry.TheVariants.{Opened, Ack, Cut, Step}
 use Rattle.dkg_infos.specs.declared.entry.Restored.{Restored}
@@ -24,7 +24,7 @@ use Rattle.dkg_text.specs.declared.script.Script.{Script}
 use Rattle.dkg_script.specs.Readings.{info_in}
 use Rattle.dkg_script.specs.Setting.{CutAt}
 use Rattle.dkg_script.specs.Blocks.{used}
-use Rattle.dkg_script.specs.Position.{awaited_before, awaited_epoch_in, awaited_height}
+use Rattle.dkg_script.specs.Position.{awaited_before, awaited_epoch_in, awaited_height_after}
 use Rattle.dkg_script.specs.Progress.{Progress, IsValid}
 use Rattle.dkg_script.specs.Consistent.{IsConsistentScript}
 use Rattle.dkg_script.specs.Kept.{IsSound, IsSoundOpening, IsBroughtAtCut, Kept}
@@ -76,7 +76,7 @@ abbrev before_third : Progress
 before_third = record { cuts = cut_there ∷ None ∷ []; step = 0; written = []; recorded = other_pair ∷ []; opened = Some 1 }
 
 in_step : (written : List Entry) (pairs : List Restored) → InDealingStep (setting at_install) (in_second written pairs) next_life (round 0) other_pair dealt_again
-unfolding awaited_height
+unfolding awaited_height_after
 in_step written pairs = record {
   life_is = refl;
   event_is = refl;
@@ -302,14 +302,14 @@ not_below : (l : ℕ) → suc (suc (suc l)) < 3 → ⊥
 not_below l below = omega arith
 
 never_back : (l : ℕ) → l < 3 → awaited_before (setting at_install) (cut_there ∷ None ∷ None ∷ []) l ≤ awaited_epoch_in (setting at_install) l 0 + 1
-unfolding awaited_height
+unfolding awaited_height_after
 never_back zero below = lit≤ tt
 never_back (suc zero) below = lit≤ tt
 never_back (suc (suc zero)) below = lit≤ tt
 never_back (suc (suc (suc l))) below = absurd (not_below l below)
 
 pub install_is_consistent : IsConsistentScript (setting at_install) (cut_there ∷ None ∷ None ∷ [])
-unfolding used info_in payload_after carried_at parts_at held_at outcome_after mode_at byte_at many_at keys_at groups_at
+unfolding used info_in payload_after payload_info_at parts_at info_output_at outcome_after mode_at byte_at many_at keys_at groups_at
 install_is_consistent = record {
   one_chain = (refl, (refl, (refl, tt)));
   linked = (tt, (tt, (tt, tt)));
@@ -355,7 +355,7 @@ valid_at_gate : IsValid (setting at_gate) pair
 valid_at_gate = rw (round_zero 8 (lit< tt) (Peer 2 dealt ∷ []) (cut_at 1 5 0) (second_life ∷ [])) accepts
 
 brought_at_cut : IsBroughtAtCut (setting at_gate) after_gate pair
-unfolding awaited_height
+unfolding awaited_height_after
 brought_at_cut = (lit< tt, record { epoch = refl; event = (refl, brings_seven); valid = valid_at_gate })
 
 -- an opening that finds it, and one that doesn't
@@ -484,13 +484,13 @@ no_third : (l : ℕ) → suc (suc l) < 2 → ⊥
 no_third l below = omega arith
 
 gate_never_back : (l : ℕ) → l < 2 → awaited_before (setting at_gate) (gate_cut ∷ None ∷ []) l ≤ awaited_epoch_in (setting at_gate) l 0 + 1
-unfolding awaited_height
+unfolding awaited_height_after
 gate_never_back zero below = lit≤ tt
 gate_never_back (suc zero) below = lit≤ tt
 gate_never_back (suc (suc l)) below = absurd (no_third l below)
 
 pub gate_is_consistent : IsConsistentScript (setting at_gate) (gate_cut ∷ None ∷ [])
-unfolding used info_in payload_after carried_at parts_at held_at outcome_after mode_at byte_at many_at keys_at groups_at
+unfolding used info_in payload_after payload_info_at parts_at info_output_at outcome_after mode_at byte_at many_at keys_at groups_at
 gate_is_consistent = record {
   one_chain = (refl, (refl, tt));
   linked = (tt, (tt, tt));

@@ -3,7 +3,7 @@ use Rattle.std.proofs.Common.{◌⊎◌, inl, inr, Option, Some, None, List, [],
 use Rattle.std.specs.Prelude.{fold}
 use Rattle.dkg_infos.specs.declared.entry.Entry.{Entry}
 use Rattle.dkg_script.specs.Setting.{Setting}
-use Rattle.dkg_script.specs.Progress.{Progress, read, at_start, progress, AtEachEntry, with_pair, pair_of}
+use Rattle.dkg_script.specs.Progress.{Progress, read, at_start, progress, AtEachEntry, with_restored, pair_of}
 use Rattle.dkg_infos.specs.declared.entry.Restored.{Restored}
 use Rattle.dkg_journal.specs.Names.{Files}
 use Rattle.dkg_script.specs.Kept.{IsSound, IsDurable, IsRecordedAs}
@@ -59,22 +59,22 @@ unfolding progress
 progress-more s out entry = fold_more s out (at_start s) entry
 
 -- The dealings recorded grow as the plain definition says: by a pair whose key is new and which was brought, and by no other.
-pub grows_as_defined : (pairs : List Restored) (pair : Restored) (Brought : Type 0) → IsRecordedAs pairs (with_pair pairs pair) pair Brought
-    → ((pair_of pairs pair.epoch pair.dealer ≡ None) × Brought × (with_pair pairs pair ≡ pairs ++ pair ∷ []))
-    ⊎ ((pair_of pairs pair.epoch pair.dealer ≡ Some pair) × (with_pair pairs pair ≡ pairs))
+pub grows_as_defined : (pairs : List Restored) (pair : Restored) (Brought : Type 0) → IsRecordedAs pairs (with_restored pairs pair) pair Brought
+    → ((pair_of pairs pair.epoch pair.dealer ≡ None) × Brought × (with_restored pairs pair ≡ pairs ++ pair ∷ []))
+    ⊎ ((pair_of pairs pair.epoch pair.dealer ≡ Some pair) × (with_restored pairs pair ≡ pairs))
 grows_as_defined pairs pair Brought is = by_case (pair_of pairs pair.epoch pair.dealer) refl
   where
-    same : (x : Restored) → pair_of pairs pair.epoch pair.dealer ≡ Some x → with_pair pairs pair ≡ pairs
+    same : (x : Restored) → pair_of pairs pair.epoch pair.dealer ≡ Some x → with_restored pairs pair ≡ pairs
     same x e = rw e
 
-    new : pair_of pairs pair.epoch pair.dealer ≡ None → with_pair pairs pair ≡ pairs ++ pair ∷ []
+    new : pair_of pairs pair.epoch pair.dealer ≡ None → with_restored pairs pair ≡ pairs ++ pair ∷ []
     new e = rw e
 
     by_case : (o : Option Restored) → pair_of pairs pair.epoch pair.dealer ≡ o
-        → ((pair_of pairs pair.epoch pair.dealer ≡ None) × Brought × (with_pair pairs pair ≡ pairs ++ pair ∷ []))
-        ⊎ ((pair_of pairs pair.epoch pair.dealer ≡ Some pair) × (with_pair pairs pair ≡ pairs))
+        → ((pair_of pairs pair.epoch pair.dealer ≡ None) × Brought × (with_restored pairs pair ≡ pairs ++ pair ∷ []))
+        ⊎ ((pair_of pairs pair.epoch pair.dealer ≡ Some pair) × (with_restored pairs pair ≡ pairs))
     by_case None e = inl (e, is.first e, new e)
-    by_case (Some x) e = let kept : with_pair pairs pair ≡ pairs = same x e
+    by_case (Some x) e = let kept : with_restored pairs pair ≡ pairs = same x e
         in inr (subst (λ xs. pair_of xs pair.epoch pair.dealer ≡ Some pair) kept is.stays, kept)
 
 -- .. so the promise and the order are carried through a loop

@@ -13,10 +13,10 @@ use Rattle.dkg_text.specs.declared.script.Event.TheVariants.{Peer, Final}
 use Rattle.dkg_text.specs.declared.script.Life.{Life}
 use Rattle.dkg_script.proofs.Early.{IsAnchorBelow, IsNumberBelow, IsEventBelow, IsEarlyScript, IsLifeBelow, midpoint_of}
 use Rattle.dkg_script.specs.Promise.{IsBuilt}
-use Rattle.dkg_script.specs.Readings.{Material, material_in}
+use Rattle.dkg_script.specs.Readings.{SyncMaterial, material_in}
 use Rattle.dkg_script.specs.Setting.{Setting, CutAt, limits, blocks_per_epoch, is_oneshot, life_at, found}
-use Rattle.dkg_script.specs.Blocks.{Block, block_at, delivered_number, events_come_to, provided}
-use Rattle.dkg_script.specs.Position.{IsPlanHistory, awaited_height, awaited_epoch, awaited_before, awaited_epoch_in, begun, delivered, start_height, last_awaited, greatest_below, material, unless_outdated, height_after_anchor, height_of_floor, cut_of, events_taken}
+use Rattle.dkg_script.specs.Blocks.{ScriptBlock, numbered_block, delivered_number, events_come_to, provided_material}
+use Rattle.dkg_script.specs.Position.{IsPlanHistory, awaited_height_after, awaited_epoch, awaited_before, awaited_epoch_in, begun, delivered, first_height, last_awaited, greatest_below, material, unless_outdated, height_after_anchor, height_of_floor, cut_of, events_taken}
 use Rattle.dkg_script.proofs.LineBlocks.{of_line}
 use Rattle.dkg_script.proofs.Plain.{IsPlain, finds_none}
 
@@ -42,21 +42,21 @@ module _ (s : Setting) where
   middle = midpoint_of s.script
 
   -- the block of a number whose line lies below the midpoint
-  pub early_block : (number : ℕ) → IsNumberBelow (midpoint_of s.script) s.script.blocks number → IsSomeAnd (block_at s number) (λ b. b.height < midpoint_of s.script)
+  pub early_block : (number : ℕ) → IsNumberBelow (midpoint_of s.script) s.script.blocks number → IsSomeAnd (numbered_block s number) (λ b. b.height < midpoint_of s.script)
   early_block number early = by_line (slice_get s.script.blocks number) refl early
     where
-      by_line : (o : Option BlockLine) → slice_get s.script.blocks number ≡ o → IsSomeAnd o (λ line. line.height < middle) → IsSomeAnd (block_at s number) (λ b. b.height < middle)
+      by_line : (o : Option BlockLine) → slice_get s.script.blocks number ≡ o → IsSomeAnd o (λ line. line.height < middle) → IsSomeAnd (numbered_block s number) (λ b. b.height < middle)
       by_line None is early = absurd early
       by_line (Some line) is early = rw (of_line s number line is) early
 
   deliver_early : (events : List Event) → AllByRecursion (IsEventBelow (midpoint_of s.script) s.script.blocks) events
-      → AllByRecursion (λ b. b.height < midpoint_of s.script) (filter_map (block_at s) (filter_map delivered_number events))
+      → AllByRecursion (λ b. b.height < midpoint_of s.script) (filter_map (numbered_block s) (filter_map delivered_number events))
   deliver_early [] within = tt
   deliver_early (Peer from bytes ∷ events) within = deliver_early events within.1
-  deliver_early (Final number ∷ events) within = by_block (block_at s number) (early_block number within.0) (deliver_early events within.1)
+  deliver_early (Final number ∷ events) within = by_block (numbered_block s number) (early_block number within.0) (deliver_early events within.1)
     where
-      by_block : (o : Option Block) → IsSomeAnd o (λ b. b.height < middle) → AllByRecursion (λ b. b.height < middle) (filter_map (block_at s) (filter_map delivered_number events))
-          → AllByRecursion (λ b. b.height < middle) (cons_option o (filter_map (block_at s) (filter_map delivered_number events)))
+      by_block : (o : Option ScriptBlock) → IsSomeAnd o (λ b. b.height < middle) → AllByRecursion (λ b. b.height < middle) (filter_map (numbered_block s) (filter_map delivered_number events))
+          → AllByRecursion (λ b. b.height < middle) (cons_option o (filter_map (numbered_block s) (filter_map delivered_number events)))
       by_block None early rest = absurd early
       by_block (Some b) early rest = (early, rest)
   deliver_early (event ∷ events) within = absurd within.0
@@ -64,7 +64,7 @@ module _ (s : Setting) where
 pub no_material : (s : Setting) (l : ℕ) (life : Life) → life.sync ≡ None → found s l ≡ None → material s l life ≡ None
 no_material s l life no_sync none = by_mode (is_oneshot s)
   where
-    by_mode : (oneshot : Bool) → cond oneshot None (unless_outdated s life (option_or (provided s life) (found s l))) ≡ None
+    by_mode : (oneshot : Bool) → cond oneshot None (unless_outdated s life (option_or (provided_material s life) (found s l))) ≡ None
     by_mode true = refl
     by_mode false = rw (no_sync, none) refl
 
@@ -78,27 +78,27 @@ module _ (s : Setting) where
   after_anchor None within = omega arith
   after_anchor (Some (Processed number)) within = by_line (slice_get s.script.blocks number) refl within
     where
-      by_line : (o : Option BlockLine) → slice_get s.script.blocks number ≡ o → IsSomeAnd o (λ line. line.height + 1 < m) → option_map_or (λ b. suc b.height) (block_at s number) 0 ≤ m
+      by_line : (o : Option BlockLine) → slice_get s.script.blocks number ≡ o → IsSomeAnd o (λ line. line.height + 1 < m) → option_map_or (λ b. suc b.height) (numbered_block s number) 0 ≤ m
       by_line None is early = absurd early
       by_line (Some line) is early = rw (of_line s number line is) (omega (arith, early))
   after_anchor (Some (Absent number)) within = by_line (slice_get s.script.blocks number) refl within
     where
-      by_line : (o : Option BlockLine) → slice_get s.script.blocks number ≡ o → IsSomeAnd o (λ line. (0 < line.height) × (line.height < m)) → option_map_or (λ b. b.height) (block_at s number) 0 ≤ m
+      by_line : (o : Option BlockLine) → slice_get s.script.blocks number ≡ o → IsSomeAnd o (λ line. (0 < line.height) × (line.height < m)) → option_map_or (λ b. b.height) (numbered_block s number) 0 ≤ m
       by_line None is early = absurd early
       by_line (Some line) is early = rw (of_line s number line is) (omega (arith, early.1))
 
-  pub start_is : (l : ℕ) (life : Life) → life.sync ≡ None → found s l ≡ None → start_height s l life ≡ height_after_anchor s life.anchor
+  pub start_is : (l : ℕ) (life : Life) → life.sync ≡ None → found s l ≡ None → first_height s l life ≡ height_after_anchor s life.anchor
   start_is l life no_sync none =
-      let plain = ap (λ (x : Option Material). max (height_after_anchor s life.anchor) (height_of_floor s life x)) (no_material s l life no_sync none) in
+      let plain = ap (λ (x : Option SyncMaterial). max (height_after_anchor s life.anchor) (height_of_floor s life x)) (no_material s l life no_sync none) in
       plain ∙ no_more (height_after_anchor s life.anchor)
     where
       no_more : (n : ℕ) → max n 0 ≡ n
       no_more n = omega arith
 
-  starts_early : (l : ℕ) (life : Life) → IsLifeBelow m s.script.blocks life → found s l ≡ None → start_height s l life ≤ m
+  starts_early : (l : ℕ) (life : Life) → IsLifeBelow m s.script.blocks life → found s l ≡ None → first_height s l life ≤ m
   starts_early l life within none = rw (start_is l life within.no_sync none) (after_anchor life.anchor within.anchor)
 
-  stays_early : (bs : List Block) (n : ℕ) → n ≤ m → AllByRecursion (λ b. b.height < m) bs → fold (λ height b. max height (suc b.height)) n bs ≤ m
+  stays_early : (bs : List ScriptBlock) (n : ℕ) → n ≤ m → AllByRecursion (λ b. b.height < m) bs → fold (λ height b. max height (suc b.height)) n bs ≤ m
   stays_early [] n low early = low
   stays_early (b ∷ bs) n low early = stays_early bs (max n (suc b.height)) (below early.0) early.1
     where
@@ -110,9 +110,9 @@ module _ (s : Setting) where
       (all_taken (IsEventBelow m s.script.blocks) n (events_come_to life.cut life.events) (all_come_to (IsEventBelow m s.script.blocks) life.cut life.events within.events))
 
   -- the midpoint at the most is awaited
-  pub awaits_early : (l : ℕ) (life : Life) (n : ℕ) → IsLifeBelow (midpoint_of s.script) s.script.blocks life → found s l ≡ None → awaited_height s l life n ≤ midpoint_of s.script
-  unfolding awaited_height
-  awaits_early l life n within none = stays_early (delivered s life n) (start_height s l life) (starts_early l life within none) (deliver_first n life within)
+  pub awaits_early : (l : ℕ) (life : Life) (n : ℕ) → IsLifeBelow (midpoint_of s.script) s.script.blocks life → found s l ≡ None → awaited_height_after s l life n ≤ midpoint_of s.script
+  unfolding awaited_height_after
+  awaits_early l life n within none = stays_early (delivered s life n) (first_height s l life) (starts_early l life within none) (deliver_first n life within)
 
 -- .. so epoch 0
 no_part : (k n : ℕ) → k ≤ n / 2 → k / n ≡ 0
@@ -120,7 +120,7 @@ no_part k zero low = div-zero k
 no_part k (suc n) low = let half : suc n / 2 < suc n = div-lt_self {n = suc n} {k = 2} (omega arith) (lit< tt) in div-eq_of_lt (omega (arith, half, low))
 
 pub awaits_epoch_zero : (s : Setting) (l : ℕ) (life : Life) (n : ℕ) → IsLifeBelow (midpoint_of s.script) s.script.blocks life → found s l ≡ None → awaited_epoch s l life n ≡ 0
-awaits_epoch_zero s l life n within none = no_part (awaited_height s l life n) (blocks_per_epoch s) (awaits_early s l life n within none)
+awaits_epoch_zero s l life n within none = no_part (awaited_height_after s l life n) (blocks_per_epoch s) (awaits_early s l life n within none)
 
 -- WHAT IS BUILT has no start material, so no life finds any
 

@@ -11,8 +11,8 @@ use Rattle.dkg_text.specs.declared.script.Event.TheVariants.{Peer, Final}
 use Rattle.dkg_text.specs.declared.script.Script.{Script}
 use Rattle.dkg_reading.specs.Spells.{FitAfter}
 use Rattle.dkg_script.specs.Asked.{IsAskedAnew}
-use Rattle.dkg_script.specs.Blocks.{Block}
-use Rattle.dkg_script.specs.Epochs.{IsAnchorIn, IsBlockIn, IsEventIn, IsFormOfEpochs, alone}
+use Rattle.dkg_script.specs.Blocks.{ScriptBlock}
+use Rattle.dkg_script.specs.Epochs.{IsAnchorIn, IsBlockIn, IsEpochsEvent, IsFormOfEpochs, alone}
 use Rattle.dkg_script.specs.Inclusion as inclusion
 use Rattle.dkg_script.proofs.Early.{IsAnchorBelow, IsBlockBelow, IsEventBelow, IsEarlyScript, IsLifeBelow, midpoint_of}
 use Rattle.dkg_script.proofs.Formed.{holds_at}
@@ -38,7 +38,7 @@ module _ (m : ℕ) (blocks : List BlockLine) where
   anchor_within (Some (Processed number)) its = there_is (λ line. line.height + 1 < m) number its
   anchor_within (Some (Absent number)) its = above_zero number its
 
-  events_within : (events : List Event) → AllByRecursion (IsEventBelow m blocks) events → AllByRecursion (IsEventIn blocks) events
+  events_within : (events : List Event) → AllByRecursion (IsEventBelow m blocks) events → AllByRecursion (IsEpochsEvent blocks) events
   events_within [] all = tt
   events_within (Peer from bytes ∷ events) all = (all.0, events_within events all.1)
   events_within (Final number ∷ events) all = (there_is (λ line. line.height < m) number all.0, events_within events all.1)
@@ -111,7 +111,7 @@ early_of_epochs script form =
             events = events_within m blocks life.events within.events;
             takes = λ j number b here comes its late awaited.
                 let early = holds_at (IsEventBelow m blocks) life.events j (Final number) within.events here in
-                let low : b.height < m = subst (λ (o : Option Block). IsSomeAnd o (λ x. x.height < m)) its (early_block (alone script) number early) in
+                let low : b.height < m = subst (λ (o : Option ScriptBlock). IsSomeAnd o (λ x. x.height < m)) its (early_block (alone script) number early) in
                 absurd (omega arith);
           };
     }

@@ -11,13 +11,13 @@ use Rattle.dkg_text.specs.declared.script.Event.TheVariants.{Peer, Final}
 use Rattle.dkg_text.specs.declared.script.Life.{Life}
 use Rattle.dkg_text.specs.declared.script.Script.{Script}
 use Rattle.dkg_text.specs.declared.script.SyncLine.{SyncLine}
-use Rattle.dkg_script.specs.Readings.{Material}
+use Rattle.dkg_script.specs.Readings.{SyncMaterial}
 use Rattle.dkg_script.specs.Setting.{Setting, CutAt}
 use Rattle.std.specs.Prelude.{◌==◌}
 use Rattle.std.proofs.lemmas.Bool.Decides.{nat_tests}
 use Rattle.dkg_script.specs.Blocks.{round_at}
-use Rattle.dkg_script.specs.Position.{awaited_height, follows, is_finished, begun, begun_before, IsLeft}
-use Rattle.dkg_script.specs.Due.{IsDue}
+use Rattle.dkg_script.specs.Position.{awaited_height_after, life_follows, is_oneshot_finished, begun, begun_before, IsLeft}
+use Rattle.dkg_script.specs.Due.{IsDueNow}
 use Rattle.dkg_script.specs.Promise.{with_plans}
 use Rattle.dkg_script.proofs.Rounds.{round, first_info}
 use Rattle.dkg_script.proofs.Worked.{script_of, setting, genesis, line, payload, life_of, cut_at, dealt}
@@ -41,28 +41,28 @@ two_an_epoch lives = script_of 2 (lit< tt) six_blocks lives
 abbrev lost : Life
 lost = with_start None [] None (Peer 2 dealt ∷ [])
 
-pub lost_follows : follows (setting (six (lost ∷ []))) 0 lost 0 ≡ true
-unfolding awaited_height
+pub lost_follows : life_follows (setting (six (lost ∷ []))) 0 lost 0 ≡ true
+unfolding awaited_height_after
 lost_follows = refl
 
 -- and where it enters at a later epoch's block, it follows that epoch too
 abbrev late : Life
 late = with_start None [] None (Final 3 ∷ [])
 
-pub late_follows : follows (setting (two_an_epoch (late ∷ []))) 0 late 1 ≡ true
-unfolding awaited_height
+pub late_follows : life_follows (setting (two_an_epoch (late ∷ []))) 0 late 1 ≡ true
+unfolding awaited_height_after
 late_follows = refl
 
 pub late_begun : begun (setting (two_an_epoch (late ∷ []))) [] 0 1 ≡ 2
-unfolding awaited_height
+unfolding awaited_height_after
 late_begun = refl
 
 -- PAST THE MIDPOINT no dealing is due
 abbrev passed : Life
 passed = with_start None (0 ∷ []) None (Final 0 ∷ Peer 2 dealt ∷ [])
 
-pub not_due : IsDue (setting (two_an_epoch (passed ∷ []))) (record { cuts = []; step = 2; written = []; recorded = []; opened = Some 0 }) → ⊥
-unfolding awaited_height
+pub not_due : IsDueNow (setting (two_an_epoch (passed ∷ []))) (record { cuts = []; step = 2; written = []; recorded = []; opened = Some 0 }) → ⊥
+unfolding awaited_height_after
 not_due due = past due.early
   where
     past : 1 < 1 → ⊥
@@ -70,7 +70,7 @@ not_due due = past due.early
 
 -- A PLAN that holds a record: a floor at the midpoint is no reason to follow, one above it is. (The digests of the floors' blocks
 -- are computed.)
-abbrev floor_at : ℕ → List ℕ → Material
+abbrev floor_at : ℕ → List ℕ → SyncMaterial
 floor_at height digest = record { info = first_info; epoch = 0; floor = digest }
 
 abbrev bare : List ℕ → Life
@@ -115,10 +115,10 @@ beyond = with_start (Some (Absent 1)) [] None []
 abbrev two_blocks : List BlockLine
 two_blocks = line 0 None None ∷ line 1 (Some 0) None ∷ []
 
-pub beyond_finished : is_finished (setting (oneshot two_blocks (shot ∷ beyond ∷ []))) (None ∷ []) 1 beyond ≡ true
+pub beyond_finished : is_oneshot_finished (setting (oneshot two_blocks (shot ∷ beyond ∷ []))) (None ∷ []) 1 beyond ≡ true
 beyond_finished = refl
 
-pub never_follows : follows (setting (oneshot two_blocks (shot ∷ []))) 0 shot 0 ≡ false
+pub never_follows : life_follows (setting (oneshot two_blocks (shot ∷ []))) 0 shot 0 ≡ false
 never_follows = refl
 
 pub shot_begun : begun_before (setting (oneshot two_blocks (shot ∷ shot ∷ []))) (None ∷ []) 1 ≡ 0

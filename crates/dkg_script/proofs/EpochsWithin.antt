@@ -11,7 +11,7 @@ use Rattle.dkg_script.specs.Epochs as epochs
 use Rattle.dkg_script.specs.Inclusion as inclusion
 use Rattle.dkg_script.proofs.Formed.{holds_at}
 
-events_within : (blocks : List BlockLine) (events : List Event) → AllByRecursion (epochs.IsEventIn blocks) events → AllByRecursion (inclusion.IsEventIn blocks) events
+events_within : (blocks : List BlockLine) (events : List Event) → AllByRecursion (epochs.IsEpochsEvent blocks) events → AllByRecursion (inclusion.IsEventIn blocks) events
 events_within blocks [] all = tt
 events_within blocks (Peer from bytes ∷ events) all = (all.0, events_within blocks events all.1)
 events_within blocks (Final number ∷ events) all = (all.0, events_within blocks events all.1)

@@ -10,9 +10,9 @@ use Rattle.dkg_text.specs.declared.script.Cut.{Cut}
 use Rattle.dkg_text.specs.declared.script.Event.{Event}
 use Rattle.dkg_text.specs.declared.script.Life.{Life}
 use Rattle.dkg_script.specs.AsCut.{life_as_cut, with_cuts}
-use Rattle.dkg_script.specs.Blocks.{Block, block_at, delivered_number, events_come_to, held_at_opening}
-use Rattle.dkg_script.specs.Position.{awaited_epoch, awaited_height, delivered, enters_at, floor_block, follows, lacks_boundary, start_height, starts_blind, starts_late}
-use Rattle.dkg_script.specs.Readings.{Material}
+use Rattle.dkg_script.specs.Blocks.{ScriptBlock, numbered_block, delivered_number, events_come_to, held_at_opening}
+use Rattle.dkg_script.specs.Position.{awaited_epoch, awaited_height_after, delivered, enters_blind_at, floor_block, life_follows, lacks_boundary, first_height, starts_blind, starts_late}
+use Rattle.dkg_script.specs.Readings.{SyncMaterial}
 use Rattle.dkg_script.specs.Schedule.{boundary, epoch_of, midpoint}
 use Rattle.dkg_script.specs.Setting.{Setting, CutAt, blocks_per_epoch, found, is_oneshot}
 use Rattle.dkg_script.proofs.ConsistentAsCut.{IsBefore, before_all, height_as_cut, same_comes, start_as_cut}
@@ -48,46 +48,46 @@ first_alone false true one other = refl
 first_alone false false one other = refl
 
 module _ (s : Setting) (l : ℕ) (life : Life) where
-  abbrev blocks_in : List Event → List Block
-  blocks_in some = filter_map (block_at s) (filter_map delivered_number some)
+  abbrev blocks_in : List Event → List ScriptBlock
+  blocks_in some = filter_map (numbered_block s) (filter_map delivered_number some)
 
   abbrev come_to : List Event
   come_to = events_come_to life.cut life.events
 
   -- the first block that is delivered stays the first
-  first_of_all : (j : ℕ) (b : Block) → slice_get (delivered s life j) 0 ≡ Some b → slice_get (delivered s life (length life.events)) 0 ≡ Some b
+  first_of_all : (j : ℕ) (b : ScriptBlock) → slice_get (delivered s life j) 0 ≡ Some b → slice_get (delivered s life (length life.events)) 0 ≡ Some b
   first_of_all j b is =
       let all : take (length life.events) come_to ≡ take j come_to ++ drop j come_to =
       take_all (length life.events) come_to (few_come_to life.cut life.events) ∙ sym (take-append-drop j come_to) in
       let split : delivered s life (length life.events) ≡ delivered s life j ++ blocks_in (drop j come_to) =
       ap blocks_in all
-      ∙ ap (filter_map (block_at s)) (filter_map-append delivered_number (take j come_to) (drop j come_to))
-      ∙ filter_map-append (block_at s) (filter_map delivered_number (take j come_to)) (filter_map delivered_number (drop j come_to)) in
-      ap (λ (bs : List Block). slice_get bs 0) split ∙ first_stays (delivered s life j) (blocks_in (drop j come_to)) b is
+      ∙ ap (filter_map (numbered_block s)) (filter_map-append delivered_number (take j come_to) (drop j come_to))
+      ∙ filter_map-append (numbered_block s) (filter_map delivered_number (take j come_to)) (filter_map delivered_number (drop j come_to)) in
+      ap (λ (bs : List ScriptBlock). slice_get bs 0) split ∙ first_stays (delivered s life j) (blocks_in (drop j come_to)) b is
 
-  pub first_awaited : awaited_height s l life 0 ≡ start_height s l life
-  unfolding awaited_height
-  first_awaited = ap (λ (events : List Event). fold (λ height b. max height (suc b.height)) (start_height s l life) (blocks_in events)) (no_events come_to)
+  pub first_awaited : awaited_height_after s l life 0 ≡ first_height s l life
+  unfolding awaited_height_after
+  first_awaited = ap (λ (events : List Event). fold (λ height b. max height (suc b.height)) (first_height s l life) (blocks_in events)) (no_events come_to)
 
   -- where no block was delivered, it awaits what it did first
-  still_first : (j : ℕ) → delivered s life j ≡ [] → awaited_height s l life j ≡ awaited_height s l life 0
-  unfolding awaited_height
-  still_first j none = ap (λ (bs : List Block). fold (λ height b. max height (suc b.height)) (start_height s l life) bs) none ∙ sym first_awaited
+  still_first : (j : ℕ) → delivered s life j ≡ [] → awaited_height_after s l life j ≡ awaited_height_after s l life 0
+  unfolding awaited_height_after
+  still_first j none = ap (λ (bs : List ScriptBlock). fold (λ height b. max height (suc b.height)) (first_height s l life) bs) none ∙ sym first_awaited
 
   -- A LIFE WITHOUT MATERIAL follows by its boundary block alone
   module _ (no_sync : life.sync ≡ None) (none : found s l ≡ None) where
     not_late : starts_late s l life ≡ false
     not_late =
-        ap (λ (m : Option Material). option_map_or (λ b. nat_lt (midpoint (blocks_per_epoch s) (epoch_of (blocks_per_epoch s) b.height)) b.height) (option_and_then (floor_block s life) m) false)
+        ap (λ (m : Option SyncMaterial). option_map_or (λ b. nat_lt (midpoint (blocks_per_epoch s) (epoch_of (blocks_per_epoch s) b.height)) b.height) (option_and_then (floor_block s life) m) false)
         (no_material s l life no_sync none)
 
     blind_is : starts_blind s l life ≡ lacks_boundary s l life
-    blind_is = ap (λ (m : Option Material). is_none m && lacks_boundary s l life) (no_material s l life no_sync none)
+    blind_is = ap (λ (m : Option SyncMaterial). is_none m && lacks_boundary s l life) (no_material s l life no_sync none)
 
-    follows_is : (epoch : ℕ) → follows s l life epoch ≡ follows_by (is_oneshot s) (epoch == awaited_epoch s l life 0) false (lacks_boundary s l life) (enters_at s l life epoch)
+    follows_is : (epoch : ℕ) → life_follows s l life epoch ≡ follows_by (is_oneshot s) (epoch == awaited_epoch s l life 0) false (lacks_boundary s l life) (enters_blind_at s l life epoch)
     follows_is epoch =
-        ap (λ (late : Bool). follows_by (is_oneshot s) (epoch == awaited_epoch s l life 0) late (starts_blind s l life) (enters_at s l life epoch)) not_late
-        ∙ ap (λ (blind : Bool). follows_by (is_oneshot s) (epoch == awaited_epoch s l life 0) false blind (enters_at s l life epoch)) blind_is
+        ap (λ (late : Bool). follows_by (is_oneshot s) (epoch == awaited_epoch s l life 0) late (starts_blind s l life) (enters_blind_at s l life epoch)) not_late
+        ∙ ap (λ (blind : Bool). follows_by (is_oneshot s) (epoch == awaited_epoch s l life 0) false blind (enters_blind_at s l life epoch)) blind_is
 
 module _ (s : Setting) (ends : List (Option CutAt)) (l : ℕ) (life : Life) (no_sync : life.sync ≡ None) (none : found s l ≡ None) (end : Option CutAt) where
   abbrev t : Setting
@@ -105,31 +105,31 @@ module _ (s : Setting) (ends : List (Option CutAt)) (l : ℕ) (life : Life) (no_
   lacks_same : lacks_boundary t l shorter ≡ lacks_boundary s l life
   lacks_same = ap (λ (e : ℕ). not (list_any (λ b. b.height == boundary (blocks_per_epoch s) e) (held_at_opening s life))) begins_same
 
-  pub follows_as_cut : (j : ℕ) → IsBefore j end → follows (with_cuts ends s) l (life_as_cut end life) (awaited_epoch s l life j) ≡ follows s l life (awaited_epoch s l life j)
+  pub follows_as_cut : (j : ℕ) → IsBefore j end → life_follows (with_cuts ends s) l (life_as_cut end life) (awaited_epoch s l life j) ≡ life_follows s l life (awaited_epoch s l life j)
   follows_as_cut j before =
       follows_is t l shorter no_sync none (awaited_epoch s l life j)
-      ∙ ap (λ (first : ℕ). follows_by (is_oneshot s) (awaited_epoch s l life j == first) false (lacks_boundary t l shorter) (enters_at t l shorter (awaited_epoch s l life j))) begins_same
-      ∙ ap (λ (lacks : Bool). follows_by (is_oneshot s) (awaited_epoch s l life j == awaited_epoch s l life 0) false lacks (enters_at t l shorter (awaited_epoch s l life j))) lacks_same
+      ∙ ap (λ (first : ℕ). follows_by (is_oneshot s) (awaited_epoch s l life j == first) false (lacks_boundary t l shorter) (enters_blind_at t l shorter (awaited_epoch s l life j))) begins_same
+      ∙ ap (λ (lacks : Bool). follows_by (is_oneshot s) (awaited_epoch s l life j == awaited_epoch s l life 0) false lacks (enters_blind_at t l shorter (awaited_epoch s l life j))) lacks_same
       ∙ by_list (delivered s life j) refl
       ∙ sym (follows_is s l life no_sync none (awaited_epoch s l life j))
     where
-      by_list : (bs : List Block) → delivered s life j ≡ bs
-          → follows_by (is_oneshot s) (awaited_epoch s l life j == awaited_epoch s l life 0) false (lacks_boundary s l life) (enters_at t l shorter (awaited_epoch s l life j))
-          ≡ follows_by (is_oneshot s) (awaited_epoch s l life j == awaited_epoch s l life 0) false (lacks_boundary s l life) (enters_at s l life (awaited_epoch s l life j))
+      by_list : (bs : List ScriptBlock) → delivered s life j ≡ bs
+          → follows_by (is_oneshot s) (awaited_epoch s l life j == awaited_epoch s l life 0) false (lacks_boundary s l life) (enters_blind_at t l shorter (awaited_epoch s l life j))
+          ≡ follows_by (is_oneshot s) (awaited_epoch s l life j == awaited_epoch s l life 0) false (lacks_boundary s l life) (enters_blind_at s l life (awaited_epoch s l life j))
       by_list [] is =
           let same : awaited_epoch s l life j ≡ awaited_epoch s l life 0 = ap (λ (height : ℕ). epoch_of (blocks_per_epoch s) height) (still_first s l life j is) in
           let first : (awaited_epoch s l life j == awaited_epoch s l life 0) ≡ true = eq-eqb (awaited_epoch s l life j) (awaited_epoch s l life 0) same in
-          ap (λ (b : Bool). follows_by (is_oneshot s) b false (lacks_boundary s l life) (enters_at t l shorter (awaited_epoch s l life j))) first
-          ∙ first_alone (is_oneshot s) (lacks_boundary s l life) (enters_at t l shorter (awaited_epoch s l life j)) (enters_at s l life (awaited_epoch s l life j))
-          ∙ ap (λ (b : Bool). follows_by (is_oneshot s) b false (lacks_boundary s l life) (enters_at s l life (awaited_epoch s l life j))) (sym first)
+          ap (λ (b : Bool). follows_by (is_oneshot s) b false (lacks_boundary s l life) (enters_blind_at t l shorter (awaited_epoch s l life j))) first
+          ∙ first_alone (is_oneshot s) (lacks_boundary s l life) (enters_blind_at t l shorter (awaited_epoch s l life j)) (enters_blind_at s l life (awaited_epoch s l life j))
+          ∙ ap (λ (b : Bool). follows_by (is_oneshot s) b false (lacks_boundary s l life) (enters_blind_at s l life (awaited_epoch s l life j))) (sym first)
       by_list (b ∷ bs) is =
-          let here : slice_get (delivered s life j) 0 ≡ Some b = ap (λ (its : List Block). slice_get its 0) is in
+          let here : slice_get (delivered s life j) 0 ≡ Some b = ap (λ (its : List ScriptBlock). slice_get its 0) is in
           let there : slice_get (delivered t shorter j) 0 ≡ Some b =
-          ap (λ (events : List Event). slice_get (filter_map (block_at s) (filter_map delivered_number events)) 0) (same_comes j life.cut end life.events before) ∙ here in
+          ap (λ (events : List Event). slice_get (filter_map (numbered_block s) (filter_map delivered_number events)) 0) (same_comes j life.cut end life.events before) ∙ here in
           let one : slice_get (delivered t shorter (length shorter.events)) 0 ≡ slice_get (delivered s life (length life.events)) 0 =
           first_of_all t l shorter j b there ∙ sym (first_of_all s l life j b here) in
-          let enters : enters_at t l shorter (awaited_epoch s l life j) ≡ enters_at s l life (awaited_epoch s l life j) =
-          ap (λ (height : ℕ). (height == 0) && option_map_or (λ (x : Block). epoch_of (blocks_per_epoch s) x.height == awaited_epoch s l life j) (slice_get (delivered t shorter (length shorter.events)) 0) false)
+          let enters : enters_blind_at t l shorter (awaited_epoch s l life j) ≡ enters_blind_at s l life (awaited_epoch s l life j) =
+          ap (λ (height : ℕ). (height == 0) && option_map_or (λ (x : ScriptBlock). epoch_of (blocks_per_epoch s) x.height == awaited_epoch s l life j) (slice_get (delivered t shorter (length shorter.events)) 0) false)
           (start_as_cut s ends l life no_sync none end)
-          ∙ ap (λ (o : Option Block). (start_height s l life == 0) && option_map_or (λ (x : Block). epoch_of (blocks_per_epoch s) x.height == awaited_epoch s l life j) o false) one in
+          ∙ ap (λ (o : Option ScriptBlock). (first_height s l life == 0) && option_map_or (λ (x : ScriptBlock). epoch_of (blocks_per_epoch s) x.height == awaited_epoch s l life j) o false) one in
           ap (λ (b : Bool). follows_by (is_oneshot s) (awaited_epoch s l life j == awaited_epoch s l life 0) false (lacks_boundary s l life) b) enters

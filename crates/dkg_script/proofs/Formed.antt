@@ -10,7 +10,7 @@ use Rattle.dkg_text.specs.declared.script.Event.{Event}
 use Rattle.dkg_text.specs.declared.script.Event.TheVariants.{Peer, Final, Next, Release, Info, Feed, Over, Cancel, Work}
 use Rattle.dkg_text.specs.declared.script.Life.{Life}
 use Rattle.dkg_text.specs.declared.script.Script.{Script}
-use Rattle.dkg_script.specs.InForm.{IsOfText, IsToldNothing, are_events, are_lives, is_alone, is_in_form, is_event, is_key, is_life, is_limit, is_plain}
+use Rattle.dkg_script.specs.InForm.{IsOfText, IsToldNothing, are_events, are_lives, is_alone, is_in_form, is_event_in_form, is_key, is_life, is_limit, is_plain}
 use Rattle.dkg_script.specs.Asked.{AskAnew}
 use Rattle.dkg_script.specs.Epochs.{IsAnchorIn}
 use Rattle.dkg_script.specs.Inclusion.{IsEventIn, IsFormOfInclusion}
@@ -48,7 +48,7 @@ holds_all P (x ∷ xs) each = (each zero x refl, holds_all P xs (λ i y is. each
 -- THE LIVES
 
 module _ (blocks : List BlockLine) where
-  event_in : (event : Event) → is_event (length blocks) event ≡ true → IsEventIn blocks event
+  event_in : (event : Event) → is_event_in_form (length blocks) event ≡ true → IsEventIn blocks event
   event_in (Peer from bytes) e = ltb-true from (2 ^ 32) e
   event_in (Final number) e = there_is blocks number (ltb-true number (length blocks) e)
   event_in (Next request height) e = tt
@@ -60,7 +60,7 @@ module _ (blocks : List BlockLine) where
   event_in Work e = tt
   event_in _ e = absurd cc
 
-  event_passes : (event : Event) → IsEventIn blocks event → is_event (length blocks) event ≡ true
+  event_passes : (event : Event) → IsEventIn blocks event → is_event_in_form (length blocks) event ≡ true
   event_passes (Peer from bytes) its = lt-ltb from (2 ^ 32) its
   event_passes (Final number) its = lt-ltb number (length blocks) (within blocks number its)
   event_passes (Next request height) its = refl
@@ -75,12 +75,12 @@ module _ (blocks : List BlockLine) where
   events_in : (events : List Event) → are_events (length blocks) events ≡ true → AllByRecursion (IsEventIn blocks) events
   events_in [] e = tt
   events_in (event ∷ events) e =
-      let parts = and_parts (is_event (length blocks) event) (are_events (length blocks) events) e in
+      let parts = and_parts (is_event_in_form (length blocks) event) (are_events (length blocks) events) e in
       (event_in event parts.0, events_in events parts.1)
 
   events_pass : (events : List Event) → AllByRecursion (IsEventIn blocks) events → are_events (length blocks) events ≡ true
   events_pass [] its = refl
-  events_pass (event ∷ events) its = both (is_event (length blocks) event) (are_events (length blocks) events) (event_passes event its.0) (events_pass events its.1)
+  events_pass (event ∷ events) its = both (is_event_in_form (length blocks) event) (are_events (length blocks) events) (event_passes event its.0) (events_pass events its.1)
 
   record IsTested (life : Life) : Type 0 where
     no_sync : life.sync ≡ None

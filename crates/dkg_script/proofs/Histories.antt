@@ -21,21 +21,21 @@ use Rattle.dkg_secrets.specs.Keys.{key_cmp}
 use Rattle.dkg_secrets.proofs.Map.{keys_total}
 use Rattle.dkg_store.specs.Noted.{Notes, logs_in}
 use Rattle.dkg_store.specs.declared.recorded_log.RecordedLog.{RecordedLog}
-use Rattle.dkg_infos.specs.InfoCodes.{held_at, parts_at}
+use Rattle.dkg_infos.specs.InfoCodes.{info_output_at, parts_at}
 use Rattle.dkg_infos.specs.NextInfos.{Provided, next_info}
 use Rattle.dkg_infos.specs.OutcomeCodes.{outcome_after}
 use Rattle.dkg_types.specs.Paths.{logs_from}
-use Rattle.dkg_types.specs.PayloadCodes.{carried_at, payload_after}
+use Rattle.dkg_types.specs.PayloadCodes.{payload_info_at, payload_after}
 use Rattle.dkg_infos.specs.declared.entry.Restored.{Restored}
 use Rattle.dkg_text.specs.declared.script.Anchor.TheVariants.{Processed}
 use Rattle.dkg_text.specs.declared.script.Life.{Life}
 use Rattle.sha2.specs.Sha256.{first_words, schedule, rounds, compress, hash_after, digest_bytes, sha256}
-use Rattle.dkg_script.specs.Blocks.{Block, block_at, blocks, known_info, round_at, used}
+use Rattle.dkg_script.specs.Blocks.{ScriptBlock, numbered_block, blocks, known_info, round_at, used}
 use Rattle.dkg_script.specs.History.{AreChainLogs, CarriesNext, IsOneDigest, IsWholeHistory, MissesNone, chain_logs}
 use Rattle.dkg_script.specs.LogsKnown.{IsCarried, LogsKnown}
 use Rattle.dkg_script.specs.OwnMarks.{IsOwnMarkKnown}
 use Rattle.dkg_script.specs.Players.{players_at}
-use Rattle.dkg_script.specs.Position.{awaited_height}
+use Rattle.dkg_script.specs.Position.{awaited_height_after}
 use Rattle.dkg_script.specs.Progress.{pair_of}
 use Rattle.dkg_script.specs.Readings.{Info, info_in}
 use Rattle.dkg_script.specs.Schedule.{last}
@@ -104,7 +104,7 @@ no_logs s begun pairs key noted current is = absurd (none_noted key noted is)
 
 -- BLOCKS THAT CARRY A LOG
 
-abbrev carrying : (height : ℕ) → Block
+abbrev carrying : (height : ℕ) → ScriptBlock
 carrying height = record { height = height; digest = []; parent = []; view = 0; payload = None; info = None; log = Some (record { dealer = 2; log = log; mark = [] }) }
 
 pub late_enough : IsCarried (setting two) 0 2 (carrying 4) (noted_at (Some 4))
@@ -134,7 +134,7 @@ other_dealer its = differ its.log_is.0
 -- THE PAST
 
 -- of one block each is the same
-only_one : (bs : List Block) (one other : ℕ) (a b : Block) → length bs ≡ 1 → slice_get bs one ≡ Some a → slice_get bs other ≡ Some b → a ≡ b
+only_one : (bs : List ScriptBlock) (one other : ℕ) (a b : ScriptBlock) → length bs ≡ 1 → slice_get bs one ≡ Some a → slice_get bs other ≡ Some b → a ≡ b
 only_one [] one other a b alone first second = absurd (none_some a first)
 only_one (x ∷ y ∷ ys) one other a b alone first second = absurd (omega (arith, alone))
 only_one (x ∷ []) zero zero a b alone first second = cc
@@ -148,12 +148,12 @@ no_records : AreChainLogs (setting two)
 no_records epoch dealer noted round l j life there comes known is =
     absurd (none_noted (epoch, dealer) noted (sym (ap (λ (es : List SectionEntry). get (logs_in es) (epoch, dealer)) nothing_there) ∙ is))
 
-starts_at_zero : (life : Life) → awaited_height (setting two) 0 first_life 0 ≡ 0
-unfolding awaited_height
+starts_at_zero : (life : Life) → awaited_height_after (setting two) 0 first_life 0 ≡ 0
+unfolding awaited_height_after
 starts_at_zero life = refl
 
-second_at_zero : awaited_height (setting two) 1 second_life 0 ≡ 0
-unfolding awaited_height
+second_at_zero : awaited_height_after (setting two) 1 second_life 0 ≡ 0
+unfolding awaited_height_after
 second_at_zero = refl
 
 same_life : (one other : Life) → ◌≡◌ {A = Option Life} (Some one) (Some other) → one ≡ other
@@ -163,10 +163,10 @@ same_life one other e = cc
 misses_none : MissesNone (setting two) []
 misses_none zero height life is takes late before =
     let same : first_life ≡ life = same_life first_life life is in
-    absurd (none_below height (subst (λ (n : ℕ). height < n) (ap (λ (its : Life). awaited_height (setting two) 0 its 0) (sym same) ∙ starts_at_zero life) before))
+    absurd (none_below height (subst (λ (n : ℕ). height < n) (ap (λ (its : Life). awaited_height_after (setting two) 0 its 0) (sym same) ∙ starts_at_zero life) before))
 misses_none (suc zero) height life is takes late before =
     let same : second_life ≡ life = same_life second_life life is in
-    absurd (none_below height (subst (λ (n : ℕ). height < n) (ap (λ (its : Life). awaited_height (setting two) 1 its 0) (sym same) ∙ second_at_zero) before))
+    absurd (none_below height (subst (λ (n : ℕ). height < n) (ap (λ (its : Life). awaited_height_after (setting two) 1 its 0) (sym same) ∙ second_at_zero) before))
 misses_none (suc (suc l)) height life is takes late before = absurd (none_some life is)
 
 pub two_is_whole : IsWholeHistory (setting two) []
@@ -180,7 +180,7 @@ abbrev missing : Setting
 missing = setting (script_of 8 (lit< tt) (genesis ∷ line 5 None None ∷ []) (behind ∷ []))
 
 pub has_missed : MissesNone missing [] → ⊥
-unfolding awaited_height
+unfolding awaited_height_after
 has_missed its = none_below (its 0 4 behind refl refl (lit≤ tt) (lit< tt)).before (its 0 4 behind refl refl (lit≤ tt) (lit< tt)).earlier
 
 -- WHAT AN EPOCH'S LAST BLOCK CARRIES, where its chain has no log: the output is carried on, and who was to play next plays
@@ -205,11 +205,11 @@ same_round : (one other : Round) → ◌≡◌ {A = Option Round} (Some one) (So
 same_round one other e = cc
 
 known_zero : known_info (setting chain) 0 ≡ Some first_info
-unfolding used info_in payload_after carried_at parts_at held_at outcome_after mode_at byte_at many_at keys_at groups_at
+unfolding used info_in payload_after payload_info_at parts_at info_output_at outcome_after mode_at byte_at many_at keys_at groups_at
 known_zero = refl
 
 round_zero_of_chain : round_at (setting chain) 0 ≡ Some (round 0)
-unfolding round_at used info_in payload_after carried_at parts_at held_at outcome_after mode_at byte_at many_at keys_at groups_at round_of
+unfolding round_at used info_in payload_after payload_info_at parts_at info_output_at outcome_after mode_at byte_at many_at keys_at groups_at round_of
 round_zero_of_chain = refl
 
 carried_is : Some (carried 1) ≡ Some (next_info outcome_of provided first_info (round 0) (chain_logs (setting chain) (round 0) 0))
@@ -226,10 +226,10 @@ carried_after epoch info its zeroth info_is its_is =
     (subst (λ (i : Info). Some (carried 1) ≡ Some (next_info outcome_of provided i (round 0) (chain_logs (setting chain) (round 0) 0))) one carried_is))
 
 abbrev CarriesFirst : Provided (List ℕ) → Type 0
-CarriesFirst by = IfSome (block_at (setting chain) 1) (CarriesNext (setting chain) by)
+CarriesFirst by = IfSome (numbered_block (setting chain) 1) (CarriesNext (setting chain) by)
 
 pub first_carries : CarriesFirst provided
-unfolding info_in payload_after carried_at parts_at held_at outcome_after mode_at byte_at many_at keys_at groups_at
+unfolding info_in payload_after payload_info_at parts_at info_output_at outcome_after mode_at byte_at many_at keys_at groups_at
 first_carries epoch info its at info_is its_is = carried_after epoch info its (ends_first epoch at) info_is its_is
 
 -- .. not what another provider makes of it
@@ -248,5 +248,5 @@ next_in None = []
 next_in (Some info) = info.next_players
 
 pub nobody_carries : CarriesFirst nobody → ⊥
-unfolding info_in payload_after carried_at parts_at held_at outcome_after mode_at byte_at many_at keys_at groups_at next_in
+unfolding info_in payload_after payload_info_at parts_at info_output_at outcome_after mode_at byte_at many_at keys_at groups_at next_in
 nobody_carries its = some_keys (ap next_in (its 0 first_info (round 0) refl known_zero round_zero_of_chain) ∙ next_of_nobody)

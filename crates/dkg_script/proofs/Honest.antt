@@ -10,14 +10,14 @@ use Rattle.dkg_values.specs.declared.name.Name.TheVariants.{Plan}
 use Rattle.dkg_ceremony.specs.Modes.{mode_at}
 use Rattle.dkg_journal.specs.Names.{name_cmp}
 use Rattle.dkg_journal.specs.Records.{SectionEntry}
-use Rattle.dkg_infos.specs.InfoCodes.{held_at, parts_at}
+use Rattle.dkg_infos.specs.InfoCodes.{info_output_at, parts_at}
 use Rattle.dkg_infos.specs.OutcomeCodes.{outcome_after}
-use Rattle.dkg_types.specs.PayloadCodes.{carried_at, payload_after}
+use Rattle.dkg_types.specs.PayloadCodes.{payload_info_at, payload_after}
 use Rattle.dkg_store.specs.Pairs.{IsWhole}
 use Rattle.dkg_text.specs.declared.script.Life.{Life}
 use Rattle.dkg_text.specs.declared.script.Script.{Script}
 use Rattle.dkg_script.proofs.Early.{IsBlockBelow, IsEarlyScript}
-use Rattle.dkg_script.specs.Readings.{Material, info_in}
+use Rattle.dkg_script.specs.Readings.{SyncMaterial, info_in}
 use Rattle.dkg_script.specs.Setting.{Setting, CutAt}
 use Rattle.dkg_script.specs.Blocks.{used}
 use Rattle.dkg_script.specs.Position.{IsPlanHistory}
@@ -36,7 +36,7 @@ use Rattle.dkg_script.proofs.Worked.{script_of, genesis, setting, files_of, secr
 
 -- BLOCK 0 is one of a script within the first epoch
 pub genesis_is_early : (lives : List Life) → IsBlockBelow (script_of 8 (lit< tt) (genesis ∷ []) lives) genesis
-unfolding payload_after carried_at parts_at held_at outcome_after mode_at byte_at many_at keys_at groups_at
+unfolding payload_after payload_info_at parts_at info_output_at outcome_after mode_at byte_at many_at keys_at groups_at
 genesis_is_early lives = (lit< tt, refl)
 
 -- what is built reads the stored run, which stays within the first epoch
@@ -59,11 +59,11 @@ pub two_is_built : IsBuilt (setting two)
 two_is_built = record { form = early_within two two_is_early; no_plan = get-empty name_cmp Plan }
 
 -- THE SOURCE, in each case of the plan, however its lives end
-built_in : (plans : List (Option Material)) → IsBuilt (with_plans (setting two) plans)
+built_in : (plans : List (Option SyncMaterial)) → IsBuilt (with_plans (setting two) plans)
 built_in plans = record { form = two_is_built.form; no_plan = two_is_built.no_plan }
 
-pub consistent_in : (plans : List (Option Material)) (ends : List (Option CutAt)) → IsPlanHistory (with_plans (setting two) plans) ends → IsConsistentScript (with_plans (setting two) plans) ends
-unfolding used info_in payload_after carried_at parts_at held_at outcome_after mode_at byte_at many_at keys_at groups_at
+pub consistent_in : (plans : List (Option SyncMaterial)) (ends : List (Option CutAt)) → IsPlanHistory (with_plans (setting two) plans) ends → IsConsistentScript (with_plans (setting two) plans) ends
+unfolding used info_in payload_after payload_info_at parts_at info_output_at outcome_after mode_at byte_at many_at keys_at groups_at
 consistent_in plans ends history = record {
   one_chain = (refl, (refl, tt));
   linked = (tt, (tt, tt));
@@ -100,11 +100,11 @@ install_is_early = record {
   lives = (record { anchor = tt; holds = refl; no_sync = refl; events = (lit< tt, tt) }, (record { anchor = tt; holds = refl; no_sync = refl; events = (lit< tt, tt) }, (record { anchor = tt; holds = refl; no_sync = refl; events = tt }, tt)));
 }
 
-install_is_built : (plans : List (Option Material)) → IsBuilt (with_plans (setting at_install) plans)
+install_is_built : (plans : List (Option SyncMaterial)) → IsBuilt (with_plans (setting at_install) plans)
 install_is_built plans = record { form = early_within at_install install_is_early; no_plan = get-empty name_cmp Plan }
 
-install_in : (plans : List (Option Material)) (ends : List (Option CutAt)) → IsPlanHistory (with_plans (setting at_install) plans) ends → IsConsistentScript (with_plans (setting at_install) plans) ends
-unfolding used info_in payload_after carried_at parts_at held_at outcome_after mode_at byte_at many_at keys_at groups_at
+install_in : (plans : List (Option SyncMaterial)) (ends : List (Option CutAt)) → IsPlanHistory (with_plans (setting at_install) plans) ends → IsConsistentScript (with_plans (setting at_install) plans) ends
+unfolding used info_in payload_after payload_info_at parts_at info_output_at outcome_after mode_at byte_at many_at keys_at groups_at
 install_in plans ends history = record {
   one_chain = (refl, (refl, (refl, tt)));
   linked = (tt, (tt, (tt, tt)));
@@ -133,11 +133,11 @@ gate_is_early = record {
   lives = (record { anchor = tt; holds = refl; no_sync = refl; events = (lit< tt, tt) }, (record { anchor = tt; holds = refl; no_sync = refl; events = tt }, tt));
 }
 
-gate_is_built : (plans : List (Option Material)) → IsBuilt (with_plans (setting at_gate) plans)
+gate_is_built : (plans : List (Option SyncMaterial)) → IsBuilt (with_plans (setting at_gate) plans)
 gate_is_built plans = record { form = early_within at_gate gate_is_early; no_plan = get-empty name_cmp Plan }
 
-gate_in : (plans : List (Option Material)) (ends : List (Option CutAt)) → IsPlanHistory (with_plans (setting at_gate) plans) ends → IsConsistentScript (with_plans (setting at_gate) plans) ends
-unfolding used info_in payload_after carried_at parts_at held_at outcome_after mode_at byte_at many_at keys_at groups_at
+gate_in : (plans : List (Option SyncMaterial)) (ends : List (Option CutAt)) → IsPlanHistory (with_plans (setting at_gate) plans) ends → IsConsistentScript (with_plans (setting at_gate) plans) ends
+unfolding used info_in payload_after payload_info_at parts_at info_output_at outcome_after mode_at byte_at many_at keys_at groups_at
 gate_in plans ends history = record {
   one_chain = (refl, (refl, tt));
   linked = (tt, (tt, tt));

@@ -7,9 +7,9 @@ use Rattle.dkg_values.specs.Codec.{many_at}
 use Rattle.dkg_values.specs.Lists.{keys_at}
 use Rattle.dkg_values.specs.Uint.{groups_at}
 use Rattle.dkg_ceremony.specs.Modes.{mode_at}
-use Rattle.dkg_infos.specs.InfoCodes.{held_at, parts_at}
+use Rattle.dkg_infos.specs.InfoCodes.{info_output_at, parts_at}
 use Rattle.dkg_infos.specs.OutcomeCodes.{outcome_after}
-use Rattle.dkg_types.specs.PayloadCodes.{carried_at, payload_after}
+use Rattle.dkg_types.specs.PayloadCodes.{payload_info_at, payload_after}
 use Rattle.dkg_text.specs.declared.script.BlockLine.{BlockLine}
 use Rattle.dkg_text.specs.declared.script.Event.{Event}
 use Rattle.dkg_text.specs.declared.script.Event.TheVariants.{Peer, Final, Next, Release, Info, Feed, Over, Cancel, Work, Prepare}
@@ -22,7 +22,7 @@ use Rattle.dkg_script.specs.InForm.{is_in_form}
 use Rattle.dkg_script.specs.Epochs.{IsBlockIn, IsFormOfEpochs}
 use Rattle.dkg_script.specs.Inclusion.{IsEventIn, IsFormOfInclusion, IsLifeIn}
 use Rattle.dkg_script.specs.Players.{players_at}
-use Rattle.dkg_script.specs.Position.{awaited_height}
+use Rattle.dkg_script.specs.Position.{awaited_height_after}
 use Rattle.dkg_script.proofs.Formed.{holds_at}
 use Rattle.dkg_script.proofs.Rounds.{keys}
 use Rattle.dkg_script.proofs.Worked.{script_of, genesis, life_of, line, dealt}
@@ -43,7 +43,7 @@ abbrev with_events : List Event → Script
 with_events events = script_of 8 (lit< tt) two_blocks (life_of events None ∷ [])
 
 genesis_is_read : (events : List Event) → IsBlockIn (with_events events) genesis
-unfolding payload_after carried_at parts_at held_at outcome_after mode_at byte_at many_at keys_at groups_at
+unfolding payload_after payload_info_at parts_at info_output_at outcome_after mode_at byte_at many_at keys_at groups_at
 genesis_is_read events = refl
 
 form_of : (events : List Event) → AllByRecursion (IsEventIn two_blocks) events → AskAnew events → IsFormOfInclusion (with_events events)
@@ -151,11 +151,11 @@ abbrev including : Script
 including = script_of 2 (lit< tt) two_blocks (into_inclusion ∷ [])
 
 pub includes : IsFormOfEpochs including → ⊥
-unfolding awaited_height
+unfolding awaited_height_after
 includes form = apart ((form.lives 0 into_inclusion refl).takes 1 1 _ refl tt refl (lit≤ tt) refl)
 
 including_is_read : IsBlockIn including genesis
-unfolding payload_after carried_at parts_at held_at outcome_after mode_at byte_at many_at keys_at groups_at
+unfolding payload_after payload_info_at parts_at info_output_at outcome_after mode_at byte_at many_at keys_at groups_at
 including_is_read = refl
 
 pub including_is_of_inclusion : IsFormOfInclusion including

@@ -23,7 +23,7 @@ use Rattle.dkg_text.specs.declared.script.Script.{Script}
 use Rattle.dkg_reading.specs.Allowed.{IsAnchor, IsBlockLine, IsEventAfter, IsLife, IsPlayerLine, IsScript}
 use Rattle.dkg_reading.specs.Asked.{is_asked}
 use Rattle.dkg_text.specs.PayloadKinds.{payload_kind, kind_of, unit_kind}
-use Rattle.dkg_reading.specs.Grammar.{absent_from, is_above, is_event, is_payload, limit_of, reading_of, script_of, script_or_place, with_place}
+use Rattle.dkg_reading.specs.Grammar.{absent_from, is_above, is_allowed_event, is_payload, limit_of, reading_of, script_of, script_or_place, with_place}
 use Rattle.dkg_reading.specs.Rows.{◌>>=◌}
 use Rattle.dkg_reading.specs.Spells.{FitAfter}
 use Rattle.dkg_reading.proofs.Rise.{is_rising, pair_above, rising_is}
@@ -140,7 +140,7 @@ none_asked : (b : Bool) → not b ≡ true → b ≡ false
 none_asked false is = refl
 none_asked true is = absurd cc
 
-asked_anew : (blocks : ℕ) (probe : Bool) (done : List Event) (event : Event) → is_event blocks probe done event ≡ true → IsAskedAnew done event
+asked_anew : (blocks : ℕ) (probe : Bool) (done : List Event) (event : Event) → is_allowed_event blocks probe done event ≡ true → IsAskedAnew done event
 asked_anew blocks probe done (Info request) is = none_asked (is_asked done request) is
 asked_anew blocks probe done _ is = tt
 

@@ -13,12 +13,12 @@ use Rattle.dkg_infos.specs.declared.entry.Restored.{Restored}
 use Rattle.dkg_text.specs.declared.script.Life.{Life}
 use Rattle.dkg_script.specs.Setting.{Setting, me, life_at}
 use Rattle.dkg_script.specs.Blocks.{round_at}
-use Rattle.dkg_script.specs.Progress.{Progress, read, at_start, progress, pair_of, with_pair, with_life_ended, is_last_step, IsValid}
+use Rattle.dkg_script.specs.Progress.{Progress, read, at_start, progress, pair_of, with_restored, with_life_ended, is_last_step, IsValid}
 use Rattle.dkg_script.specs.Laws.{AcknowledgesOnce, StandsFor}
 use Rattle.dkg_script.specs.Kept.{IsSound, IsSoundAck}
 
 -- what was recorded stays recorded
-stays_with : (pairs : List Restored) (pair x : Restored) (epoch dealer : ℕ) → pair_of pairs epoch dealer ≡ Some x → pair_of (with_pair pairs pair) epoch dealer ≡ Some x
+stays_with : (pairs : List Restored) (pair x : Restored) (epoch dealer : ℕ) → pair_of pairs epoch dealer ≡ Some x → pair_of (with_restored pairs pair) epoch dealer ≡ Some x
 stays_with pairs pair x epoch dealer e = by_case (is_some (pair_of pairs pair.epoch pair.dealer))
   where
     by_case : (b : Bool) → pair_of (cond b pairs (pairs ++ pair ∷ [])) epoch dealer ≡ Some x
@@ -26,9 +26,9 @@ stays_with pairs pair x epoch dealer e = by_case (is_some (pair_of pairs pair.ep
     by_case false = rw (find-append, e)
 
 stays_with_all : (more pairs : List Restored) (x : Restored) (epoch dealer : ℕ) → pair_of pairs epoch dealer ≡ Some x
-    → pair_of (fold with_pair pairs more) epoch dealer ≡ Some x
+    → pair_of (fold with_restored pairs more) epoch dealer ≡ Some x
 stays_with_all [] pairs x epoch dealer e = e
-stays_with_all (pair ∷ more) pairs x epoch dealer e = stays_with_all more (with_pair pairs pair) x epoch dealer (stays_with pairs pair x epoch dealer e)
+stays_with_all (pair ∷ more) pairs x epoch dealer e = stays_with_all more (with_restored pairs pair) x epoch dealer (stays_with pairs pair x epoch dealer e)
 
 stays_after : (s : Setting) (p : Progress) (new : Entry) (x : Restored) (epoch dealer : ℕ)
     → pair_of p.recorded epoch dealer ≡ Some x → pair_of (read s p new).recorded epoch dealer ≡ Some x

@@ -8,9 +8,9 @@ use Rattle.dkg_values.specs.Uint.{groups_at}
 use Rattle.dkg_values.specs.declared.name.Name.TheVariants.{Plan}
 use Rattle.dkg_ceremony.specs.Modes.{mode_at}
 use Rattle.dkg_journal.specs.Names.{name_cmp}
-use Rattle.dkg_infos.specs.InfoCodes.{held_at, parts_at}
+use Rattle.dkg_infos.specs.InfoCodes.{info_output_at, parts_at}
 use Rattle.dkg_infos.specs.OutcomeCodes.{outcome_after}
-use Rattle.dkg_types.specs.PayloadCodes.{carried_at, payload_after}
+use Rattle.dkg_types.specs.PayloadCodes.{payload_info_at, payload_after}
 use Rattle.dkg_infos.specs.declared.entry.Entry.{Entry}
 use Rattle.dkg_infos.specs.declared.entry.Entry.TheVariants.{Opened, Ack, Step}
 use Rattle.dkg_infos.specs.declared.entry.Restored.{Restored}
@@ -19,7 +19,7 @@ use Rattle.dkg_text.specs.declared.script.Life.{Life}
 use Rattle.dkg_text.specs.declared.script.Script.{Script}
 use Rattle.dkg_script.specs.Readings.{info_in}
 use Rattle.dkg_script.specs.Blocks.{used}
-use Rattle.dkg_script.specs.Position.{awaited_before, awaited_epoch_in, awaited_height}
+use Rattle.dkg_script.specs.Position.{awaited_before, awaited_epoch_in, awaited_height_after}
 use Rattle.dkg_script.specs.Progress.{Progress}
 use Rattle.dkg_script.specs.Consistent.{IsConsistentScript}
 use Rattle.dkg_script.specs.Kept.{IsSound, IsSoundOpening, Kept}
@@ -73,7 +73,7 @@ module _ (lives : List Life) where
   its = script_of 8 (lit< tt) (genesis ∷ []) (first_life ∷ lives)
 
   in_step : (written : List Entry) (pairs : List Restored) → InDealingStep (setting its) (at_one written pairs) first_life (round 0) pair dealt
-  unfolding awaited_height
+  unfolding awaited_height_after
   in_step written pairs = record { life_is = refl; event_is = refl; awaited = refl; round_is = round_zero 8 (lit< tt) (Peer 2 dealt ∷ []) None lives; valid = accepts }
 
   pub is_recorded : IsSound (setting its) after_opening recorded
@@ -278,13 +278,13 @@ pub other_key : ◌≡◌ {A = ℕ} 2 1 → ⊥
 other_key e = omega arith
 
 never_back : (l : ℕ) → l < 2 → l ≤ 2 → awaited_before (setting two) (None ∷ None ∷ []) l ≤ awaited_epoch_in (setting two) l 0 + 1
-unfolding awaited_height
+unfolding awaited_height_after
 never_back zero below began = lit≤ tt
 never_back (suc zero) below began = lit≤ tt
 never_back (suc (suc l)) below began = absurd (not_below l below)
 
 pub two_is_consistent : IsConsistentScript (setting two) (None ∷ None ∷ [])
-unfolding used info_in payload_after carried_at parts_at held_at outcome_after mode_at byte_at many_at keys_at groups_at
+unfolding used info_in payload_after payload_info_at parts_at info_output_at outcome_after mode_at byte_at many_at keys_at groups_at
 two_is_consistent = record {
   one_chain = (refl, (refl, tt));
   linked = (tt, (tt, tt));
@@ -301,7 +301,7 @@ first_alone zero below = omega arith
 first_alone (suc l) below = absurd (no_life l below)
 
 pub one_is_consistent : IsConsistentScript (setting one) (None ∷ [])
-unfolding used info_in payload_after carried_at parts_at held_at outcome_after mode_at byte_at many_at keys_at groups_at
+unfolding used info_in payload_after payload_info_at parts_at info_output_at outcome_after mode_at byte_at many_at keys_at groups_at
 one_is_consistent = record {
   one_chain = (refl, tt);
   linked = (tt, tt);

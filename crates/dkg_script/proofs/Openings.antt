@@ -13,8 +13,8 @@ use Rattle.dkg_secrets.proofs.Map.{exact_keys}
 use Rattle.dkg_infos.specs.declared.entry.Restored.{Restored}
 use Rattle.dkg_script.specs.Setting.{Setting, listed}
 use Rattle.dkg_script.specs.Position.{begun_before}
-use Rattle.dkg_script.specs.Progress.{Progress, with_pair}
-use Rattle.dkg_script.specs.Kept.{AllCurrent, Gives, IsBroughtAtCut, IsLaterOpening, IsRecordedAs, Rises}
+use Rattle.dkg_script.specs.Progress.{Progress, with_restored}
+use Rattle.dkg_script.specs.Kept.{AllCurrent, Gives, IsBroughtAtCut, IsLaterOpening, IsRecordedAs, ArePairsRising}
 use Rattle.dkg_script.proofs.Listed.{gives_all, restored_of}
 
 -- IT RISES
@@ -30,7 +30,7 @@ same_sorted : (es : List ((ℕ × ℕ) × (List ℕ × ℕ))) → is_sorted key_
 same_sorted [] = refl
 same_sorted (e ∷ es) = ap (λ (b : Bool). b && is_sorted key_cmp (map keyed (map restored_of es))) (same_below e.0 es) ∙ ap (λ (b : Bool). below_all key_cmp e.0 es && b) (same_sorted es)
 
-pub listed_rises : (m : Pairs) → Rises (listed m)
+pub listed_rises : (m : Pairs) → ArePairsRising (listed m)
 listed_rises m = subst T (sym (same_sorted (pairs_in m))) (entries_sorted m)
 
 -- IT LISTS WHAT THE MAP GIVES
@@ -75,10 +75,10 @@ weaker P Q leads (x ∷ xs) all = (leads x all.0, weaker P Q leads xs all.1)
 
 pub lists_them : (s : Setting) (p : Progress) (m : Pairs)
     → AllCurrent (begun_before s p.cuts (length p.cuts)) (Gives m) p.recorded
-    → ((pair : Restored) → Gives m pair → IsRecordedAs p.recorded (fold with_pair p.recorded (listed m)) pair (IsBroughtAtCut s p pair))
+    → ((pair : Restored) → Gives m pair → IsRecordedAs p.recorded (fold with_restored p.recorded (listed m)) pair (IsBroughtAtCut s p pair))
     → IsLaterOpening s p (listed m)
 lists_them s p m current sound = record {
   lists = weaker_current (begun_before s p.cuts (length p.cuts)) (Gives m) (Contains (listed m)) (given_is_listed m) p.recorded current;
   rising = listed_rises m;
-  sound = weaker (Gives m) (λ pair. IsRecordedAs p.recorded (fold with_pair p.recorded (listed m)) pair (IsBroughtAtCut s p pair)) sound (listed m) (gives_all m);
+  sound = weaker (Gives m) (λ pair. IsRecordedAs p.recorded (fold with_restored p.recorded (listed m)) pair (IsBroughtAtCut s p pair)) sound (listed m) (gives_all m);
 }

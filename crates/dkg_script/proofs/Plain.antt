@@ -5,7 +5,7 @@ use Rattle.std.specs.List.{AllByRecursion}
 use Rattle.std.specs.Option.{option_or}
 use Rattle.dkg_text.specs.declared.script.Life.{Life}
 use Rattle.dkg_script.specs.Setting.{Setting, CutAt, is_oneshot, life_at, found}
-use Rattle.dkg_script.specs.Blocks.{handed_in, provided}
+use Rattle.dkg_script.specs.Blocks.{handed_in, provided_material}
 use Rattle.dkg_script.specs.Position.{IsPlanHistory, IsLeft, cut_of, material, unless_outdated}
 
 pub record IsPlain (s : Setting) : Type 0 where
@@ -35,13 +35,13 @@ within (first ∷ lives) zero below e = some_is_not_none e
 within (first ∷ lives) (suc l) below e = within lives l (omega arith) e
 
 module _ (s : Setting) (cuts : List (Option CutAt)) (plain : IsPlain s) (history : IsPlanHistory s cuts) where
-  provides_none : (life : Life) → life.sync ≡ None → provided s life ≡ None
+  provides_none : (life : Life) → life.sync ≡ None → provided_material s life ≡ None
   provides_none life e = rw e
 
   has_none : (l : ℕ) (life : Life) → life.sync ≡ None → found s l ≡ None → material s l life ≡ None
   has_none l life e none = by_case (is_oneshot s)
     where
-      by_case : (b : Bool) → cond b None (unless_outdated s life (option_or (provided s life) (found s l))) ≡ None
+      by_case : (b : Bool) → cond b None (unless_outdated s life (option_or (provided_material s life) (found s l))) ≡ None
       by_case true = refl
       by_case false = rw (provides_none life e, none)
 

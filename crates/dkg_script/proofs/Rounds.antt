@@ -12,9 +12,9 @@ use Rattle.dkg_ceremony.specs.Modes.{mode_at}
 use Rattle.dkg_ceremony.specs.Polynomials.{value_at}
 use Rattle.dkg_ceremony.specs.Rounds.{round_of, round_bytes}
 use Rattle.dkg_infos.specs.declared.outcome.EpochOutcome.TheVariants.{Success, Failure}
-use Rattle.dkg_infos.specs.InfoCodes.{held_at, parts_at}
+use Rattle.dkg_infos.specs.InfoCodes.{info_output_at, parts_at}
 use Rattle.dkg_infos.specs.OutcomeCodes.{outcome_after}
-use Rattle.dkg_types.specs.PayloadCodes.{carried_at, payload_after}
+use Rattle.dkg_types.specs.PayloadCodes.{payload_info_at, payload_after}
 use Rattle.dkg_values.specs.Bytes.{byte_at}
 use Rattle.dkg_values.specs.Codec.{many_at}
 use Rattle.dkg_values.specs.Lists.{keys_at}
@@ -48,7 +48,7 @@ abbrev pub carried : ℕ → Info
 carried epoch = record { outcome = Failure; epoch = epoch; output = held; players = keys; next_players = keys; directory = [] }
 
 pub first_is_read : info_in limits (payload 0 0) ≡ Some first_info
-unfolding info_in payload_after carried_at parts_at held_at outcome_after mode_at byte_at many_at keys_at groups_at
+unfolding info_in payload_after payload_info_at parts_at info_output_at outcome_after mode_at byte_at many_at keys_at groups_at
 first_is_read = refl
 
 -- the rounds of these epochs

@@ -13,7 +13,7 @@ use Rattle.dkg_text.specs.declared.script.Event.TheVariants.{Peer, Final}
 use Rattle.dkg_text.specs.declared.script.Life.{Life}
 use Rattle.dkg_text.specs.declared.script.Script.{Script}
 use Rattle.dkg_script.specs.Blocks.{used}
-use Rattle.dkg_script.specs.Position.{awaited_height, awaited_before}
+use Rattle.dkg_script.specs.Position.{awaited_height_after, awaited_before}
 use Rattle.dkg_script.specs.Progress.{Progress, progress, read}
 use Rattle.dkg_script.specs.Order.{IsInOrder, InOrder}
 use Rattle.dkg_script.specs.AsCut.{with_cuts}
@@ -84,7 +84,7 @@ cheat_ends_in_no_fault why ordered =
 -- What is presumed of scripts is judged without it: from the step of the cut on nothing is delivered, so that life 1 starts no
 -- epoch below one that was awaited.
 pub awaits_no_more : awaited_before (setting script) (None ∷ []) 1 ≡ 0
-unfolding awaited_height
+unfolding awaited_height_after
 awaits_no_more = refl
 
 -- Of a cut at call 1 the call may never come, and life 1 starts two epochs below then: so nothing is presumed of the runs in which it doesn't come.
@@ -95,7 +95,7 @@ too_far_back : 2 ≤ 0 + 1 → ⊥
 too_far_back h = omega arith
 
 missed_falls_back : IsConsistentScript (setting may_miss) (None ∷ []) → ⊥
-unfolding awaited_height
+unfolding awaited_height_after
 missed_falls_back consistent = too_far_back (consistent.never_back 1 (lit< tt) (lit≤ tt))
 
 pub missed_is_not_presumed : (image : Files → Type 0) → IsHonestRun (with_cuts (None ∷ []) (setting may_miss)) image (None ∷ []) → ⊥
@@ -106,7 +106,7 @@ abbrev fell : List (Option CutAt)
 fell = Some (record { step = 1; call = 1 }) ∷ []
 
 pub awaits_no_more_cut : awaited_before (with_cuts fell (setting may_miss)) fell 1 ≡ 0
-unfolding awaited_height
+unfolding awaited_height_after
 awaits_no_more_cut = refl
 
 pub uses_no_more_cut : length (used (with_cuts fell (setting may_miss))) ≡ 3

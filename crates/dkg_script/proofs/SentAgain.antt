@@ -9,9 +9,9 @@ use Rattle.dkg_values.specs.Uint.{groups_at}
 use Rattle.dkg_values.specs.declared.name.Name.TheVariants.{Plan}
 use Rattle.dkg_ceremony.specs.Modes.{mode_at}
 use Rattle.dkg_journal.specs.Names.{name_cmp}
-use Rattle.dkg_infos.specs.InfoCodes.{held_at, parts_at}
+use Rattle.dkg_infos.specs.InfoCodes.{info_output_at, parts_at}
 use Rattle.dkg_infos.specs.OutcomeCodes.{outcome_after}
-use Rattle.dkg_types.specs.PayloadCodes.{carried_at, payload_after}
+use Rattle.dkg_types.specs.PayloadCodes.{payload_info_at, payload_after}
 use Rattle.dkg_infos.specs.declared.entry.Entry.{Entry}
 use Rattle.dkg_infos.specs.declared.entry.Entry.TheVariants.{Opened, Ack, Blocked, Step}
 use Rattle.dkg_infos.specs.declared.entry.BlockedWhy.TheVariants.{Decode}
@@ -19,9 +19,9 @@ use Rattle.dkg_infos.specs.declared.entry.Restored.{Restored}
 use Rattle.dkg_text.specs.declared.script.Event.TheVariants.{Peer}
 use Rattle.dkg_text.specs.declared.script.Life.{Life}
 use Rattle.dkg_text.specs.declared.script.Script.{Script}
-use Rattle.dkg_script.specs.Readings.{Halves, info_in}
+use Rattle.dkg_script.specs.Readings.{BothHalves, info_in}
 use Rattle.dkg_script.specs.Blocks.{used, round_at}
-use Rattle.dkg_script.specs.Position.{awaited_before, awaited_epoch_in, awaited_height}
+use Rattle.dkg_script.specs.Position.{awaited_before, awaited_epoch_in, awaited_height_after}
 use Rattle.dkg_script.specs.Progress.{Progress}
 use Rattle.dkg_script.specs.Consistent.{IsConsistentScript}
 use Rattle.dkg_script.specs.Kept.{IsSound, IsDurable, Kept}
@@ -37,7 +37,7 @@ use Rattle.dkg_script.proofs.Trials.{opening, opens, from_start, progress_is, ro
 use Rattle.dkg_script.proofs.Worked.{script_of, setting, genesis, life_of, start, dealt, dealt_again, ack_of_dealt, files_of, secrets_of, flat, OnlyThese}
 use Rattle.dkg_ceremony.specs.Acks.{ack_of}
 
-abbrev halves : ℕ → ℕ → Halves
+abbrev halves : ℕ → ℕ → BothHalves
 halves middle private = record { public = 15 ∷ middle ∷ 1 ∷ []; private = private }
 
 abbrev anothers : List ℕ
@@ -71,7 +71,7 @@ abbrev InStep : Script → Life → ℕ → List Entry → List Restored → Lis
 InStep script life step written pairs bytes = InDealingStep (setting script) (at_step step written pairs) life (round 0) pair bytes
 
 in_again : (written : List Entry) (pairs : List Restored) → InStep again again_life 1 written pairs dealt × InStep again again_life 2 written pairs dealt × InStep again again_life 3 written pairs dealt_again
-unfolding awaited_height
+unfolding awaited_height_after
 in_again written pairs = (
   record { life_is = refl; event_is = refl; awaited = refl; round_is = is; valid = accepts },
   record { life_is = refl; event_is = refl; awaited = refl; round_is = is; valid = accepts },
@@ -82,7 +82,7 @@ in_again written pairs = (
     is = round_zero 8 (lit< tt) (Peer 2 dealt ∷ Peer 2 dealt ∷ Peer 2 dealt_again ∷ []) None []
 
 in_bad : (written : List Entry) (pairs : List Restored) → InStep bad bad_life 1 written pairs dealt × InStep bad bad_life 3 written pairs anothers
-unfolding awaited_height
+unfolding awaited_height_after
 in_bad written pairs = (
   record { life_is = refl; event_is = refl; awaited = refl; round_is = is; valid = accepts },
   record { life_is = refl; event_is = refl; awaited = refl; round_is = is; valid = accepts },
@@ -273,7 +273,7 @@ again_is_complete = record {
 }
 
 nothing_due : IsAnsweredAt (setting bad) (at_step 2 (Blocked 2 Decode ∷ []) (pair ∷ [])) (Step 2)
-unfolding awaited_height
+unfolding awaited_height_after
 nothing_due due = absurd (rw (round_zero 8 (lit< tt) (Peer 2 dealt ∷ Peer 2 (255 ∷ []) ∷ Peer 2 anothers ∷ []) None [], brings_none) at (due [] (no_plan bad [] refl (refl, tt))).dealing)
 
 pub bad_is_complete : IsComplete (setting bad) out_bad
@@ -291,7 +291,7 @@ never_back script zero below = omega arith
 never_back script (suc l) below = absurd (no_life l below)
 
 pub again_is_consistent : IsConsistentScript (setting again) (None ∷ [])
-unfolding used info_in payload_after carried_at parts_at held_at outcome_after mode_at byte_at many_at keys_at groups_at
+unfolding used info_in payload_after payload_info_at parts_at info_output_at outcome_after mode_at byte_at many_at keys_at groups_at
 again_is_consistent = record {
   one_chain = (refl, tt);
   linked = (tt, tt);
@@ -301,7 +301,7 @@ again_is_consistent = record {
 }
 
 pub bad_is_consistent : IsConsistentScript (setting bad) (None ∷ [])
-unfolding used info_in payload_after carried_at parts_at held_at outcome_after mode_at byte_at many_at keys_at groups_at
+unfolding used info_in payload_after payload_info_at parts_at info_output_at outcome_after mode_at byte_at many_at keys_at groups_at
 bad_is_consistent = record {
   one_chain = (refl, tt);
   linked = (tt, tt);

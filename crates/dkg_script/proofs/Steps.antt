@@ -11,11 +11,11 @@ use Rattle.dkg_infos.specs.declared.entry.Entry.TheVariants.{Recorded, Ack}
 use Rattle.dkg_infos.specs.declared.entry.Restored.{Restored}
 use Rattle.dkg_text.specs.declared.script.Event.TheVariants.{Peer}
 use Rattle.dkg_text.specs.declared.script.Life.{Life}
-use Rattle.dkg_script.specs.Readings.{Halves, dealing_in}
+use Rattle.dkg_script.specs.Readings.{BothHalves, dealing_in}
 use Rattle.dkg_script.specs.Setting.{Setting, me, limits, life_at}
 use Rattle.dkg_script.specs.Blocks.{round_at}
 use Rattle.dkg_script.specs.Position.{event_of_step, awaited_epoch}
-use Rattle.dkg_script.specs.Progress.{Progress, pair_of, has_pair_key, with_pair, IsValid, Brings}
+use Rattle.dkg_script.specs.Progress.{Progress, pair_of, has_pair_key, with_restored, IsValid, Brings}
 use Rattle.dkg_script.specs.Kept.{IsSound, IsSoundAck}
 use Rattle.std.specs.List.{list_any}
 use Rattle.dkg_script.specs.Due.{is_ack}
@@ -43,20 +43,20 @@ module _ (s : Setting) (p : Progress) (life : Life) (round : Round) (pair : Rest
 
   -- a new dealing's record
   module _ (new : pair_of p.recorded pair.epoch pair.dealer ≡ None) where
-    with_new : with_pair p.recorded pair ≡ p.recorded ++ pair ∷ []
+    with_new : with_restored p.recorded pair ≡ p.recorded ++ pair ∷ []
     with_new = rw new
 
     own_key : has_pair_key pair.epoch pair.dealer pair ≡ true
     own_key = grind (arith, eqb_tells)
 
-    pub found_new : pair_of (with_pair p.recorded pair) pair.epoch pair.dealer ≡ Some pair
+    pub found_new : pair_of (with_restored p.recorded pair) pair.epoch pair.dealer ≡ Some pair
     found_new = rw (with_new, find-append, new, own_key)
 
     pub records : dealing_in (limits s) bytes ≡ Some (record { public = pair.public; private = pair.private }) → IsSound s p (recorded_entry pair)
     records decodes = record { first = λ new. rw h.life_is (record { epoch = h.awaited; event = brings decodes; valid = is_valid }); stays = found_new }
 
   -- a recorded dealing's acknowledgement, whatever dealing the message brings
-  pub acknowledges : (brought : Halves) → dealing_in (limits s) bytes ≡ Some brought → pair_of p.recorded pair.epoch pair.dealer ≡ Some pair
+  pub acknowledges : (brought : BothHalves) → dealing_in (limits s) bytes ≡ Some brought → pair_of p.recorded pair.epoch pair.dealer ≡ Some pair
       → (once : list_any is_ack p.written ≡ false)
       → IsSound s p (ack_entry pair (ack_of (me s) round pair.dealer pair.public))
   acknowledges brought decodes recorded once = rw h.life_is sound

@@ -3,8 +3,8 @@ use Rattle.std.proofs.Common.{ℕ, Bool, List, Err}
 use Rattle.dkg_reading.specs.declared.error.ScriptError.{ScriptError}
 use Rattle.dkg_reading.specs.declared.error.ScriptError.TheVariants.{Bad, NoMemory}
 use Rattle.dkg_reading.specs.Laws.{TellsPlace as PlaceRead}
-use Rattle.dkg_script.specs.InForm.{TellsPlace, refusal_of}
+use Rattle.dkg_script.specs.InForm.{TellsBadPlace, read_refusal}
 
-pub told_as_read : (addressed : Bool) (bytes : List ℕ) (error : ScriptError) → PlaceRead addressed bytes (Err error) → TellsPlace addressed bytes (Err (refusal_of error))
+pub told_as_read : (addressed : Bool) (bytes : List ℕ) (error : ScriptError) → PlaceRead addressed bytes (Err error) → TellsBadPlace addressed bytes (Err (read_refusal error))
 told_as_read addressed bytes (Bad place) is = is
 told_as_read addressed bytes NoMemory is = tt

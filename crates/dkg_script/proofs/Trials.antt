@@ -5,9 +5,9 @@ use Rattle.std.specs.FinMap.{get-empty}
 use Rattle.std.specs.List.{AllByRecursion}
 use Rattle.dkg_ceremony.specs.Rounds.{round_of}
 use Rattle.dkg_ceremony.specs.Modes.{mode_at}
-use Rattle.dkg_infos.specs.InfoCodes.{held_at, parts_at}
+use Rattle.dkg_infos.specs.InfoCodes.{info_output_at, parts_at}
 use Rattle.dkg_infos.specs.OutcomeCodes.{outcome_after}
-use Rattle.dkg_types.specs.PayloadCodes.{carried_at, payload_after}
+use Rattle.dkg_types.specs.PayloadCodes.{payload_info_at, payload_after}
 use Rattle.dkg_infos.specs.declared.entry.Entry.{Entry}
 use Rattle.dkg_infos.specs.declared.entry.Entry.TheVariants.{Committed, Registered, Setup, Entered, Step}
 use Rattle.dkg_infos.specs.declared.entry.Part.TheVariants.{Player}
@@ -23,13 +23,13 @@ use Rattle.dkg_text.specs.declared.script.Cut.{Cut}
 use Rattle.dkg_text.specs.declared.script.Event.{Event}
 use Rattle.dkg_text.specs.declared.script.Life.{Life}
 use Rattle.dkg_text.specs.declared.script.Script.{Script}
-use Rattle.dkg_script.specs.Readings.{Material, info_in, material_in}
+use Rattle.dkg_script.specs.Readings.{SyncMaterial, info_in, material_in}
 use Rattle.dkg_script.specs.Setting.{Setting, CutAt, limits}
 use Rattle.dkg_script.specs.Blocks.{round_at, used, handed_in}
 use Rattle.dkg_script.specs.Position.{IsPlanHistory, IsLeft, cut_of}
 use Rattle.dkg_script.specs.Progress.{Progress, read, progress, AtEachEntry}
 use Rattle.dkg_script.specs.Promise.{InEachCase, IsAnswered, with_plans}
-use Rattle.dkg_script.specs.Due.{IsDue, WroteAck}
+use Rattle.dkg_script.specs.Due.{IsDueNow, WroteAck}
 use Rattle.dkg_script.specs.Kept.{IsSoundOpening}
 use Rattle.dkg_script.proofs.EachEntry.{EachAfter, at_each}
 use Rattle.dkg_script.proofs.Worked.{script_of, setting, genesis, life_of, start, starts, secrets_of, nothing_listed}
@@ -54,7 +54,7 @@ opens script = sym (nothing_listed (secrets_of []))
 
 -- at the end of a step
 abbrev pub IsAnsweredAt : Setting → Progress → Entry → Type 0
-IsAnsweredAt s p (Step step) = InEachCase s p.cuts (λ case. IsDue case p) → WroteAck p.written
+IsAnsweredAt s p (Step step) = InEachCase s p.cuts (λ case. IsDueNow case p) → WroteAck p.written
 IsAnsweredAt s p _ = Unit {0}
 
 pub all_answered : (script : Script) (out : List Entry) → EachAfter (setting script) (IsAnsweredAt (setting script)) start out
@@ -88,9 +88,9 @@ no_plan script cuts reshares none = record {
 -- ROUNDS
 
 -- a script whose one block has the info of epoch 0, whatever the plan held
-pub round_zero_in : (n : ℕ) (some : 0 < n) (events : List Event) (cut : Option Cut) (lives : List Life) (plans : List (Option Material))
+pub round_zero_in : (n : ℕ) (some : 0 < n) (events : List Event) (cut : Option Cut) (lives : List Life) (plans : List (Option SyncMaterial))
     → round_at (with_plans (setting (script_of n some (genesis ∷ []) (life_of events cut ∷ lives))) plans) 0 ≡ Some (round 0)
-unfolding round_at used info_in payload_after carried_at parts_at held_at outcome_after mode_at byte_at many_at keys_at groups_at round_of
+unfolding round_at used info_in payload_after payload_info_at parts_at info_output_at outcome_after mode_at byte_at many_at keys_at groups_at round_of
 round_zero_in n some events cut lives plans = refl
 
 pub round_zero : (n : ℕ) (some : 0 < n) (events : List Event) (cut : Option Cut) (lives : List Life)

@@ -10,9 +10,9 @@ use Rattle.dkg_values.specs.declared.name.Name.TheVariants.{Plan}
 use Rattle.dkg_ceremony.specs.Modes.{mode_at}
 use Rattle.dkg_ceremony.specs.Rounds.{round_of}
 use Rattle.dkg_journal.specs.Names.{name_cmp}
-use Rattle.dkg_infos.specs.InfoCodes.{held_at, parts_at}
+use Rattle.dkg_infos.specs.InfoCodes.{info_output_at, parts_at}
 use Rattle.dkg_infos.specs.OutcomeCodes.{outcome_after}
-use Rattle.dkg_types.specs.PayloadCodes.{carried_at, payload_after}
+use Rattle.dkg_types.specs.PayloadCodes.{payload_info_at, payload_after}
 use Rattle.dkg_infos.specs.declared.entry.Entry.{Entry}
 use Rattle.dkg_infos.specs.declared.entry.Entry.TheVariants.{Opened, Ack, Step, Committed, Registered, Setup, Entered, Acked}
 use Rattle.dkg_infos.specs.declared.entry.Part.TheVariants.{Player}
@@ -26,7 +26,7 @@ use Rattle.dkg_text.specs.declared.script.Life.{Life}
 use Rattle.dkg_text.specs.declared.script.Script.{Script}
 use Rattle.dkg_script.specs.Readings.{info_in}
 use Rattle.dkg_script.specs.Blocks.{used, round_at}
-use Rattle.dkg_script.specs.Position.{awaited_before, awaited_epoch_in, awaited_height}
+use Rattle.dkg_script.specs.Position.{awaited_before, awaited_epoch_in, awaited_height_after}
 use Rattle.dkg_script.specs.Progress.{Progress}
 use Rattle.dkg_script.specs.Consistent.{IsConsistentScript}
 use Rattle.dkg_script.specs.Kept.{IsSound, IsSoundOpening, IsDurable, Kept}
@@ -73,11 +73,11 @@ out = Opened 0 [] ∷ enters 0 ++ Step 0 ∷ recorded ∷ Ack 0 2 ack_of_dealt �
 
 -- THE ROUNDS of epochs 0 and 1, from the blocks
 round_at_zero : round_at (setting chain) 0 ≡ Some (round 0)
-unfolding round_at used info_in payload_after carried_at parts_at held_at outcome_after mode_at byte_at many_at keys_at groups_at round_of
+unfolding round_at used info_in payload_after payload_info_at parts_at info_output_at outcome_after mode_at byte_at many_at keys_at groups_at round_of
 round_at_zero = refl
 
 round_at_one : round_at (setting chain) 1 ≡ Some (round 1)
-unfolding round_at used info_in payload_after carried_at parts_at held_at outcome_after mode_at byte_at many_at keys_at groups_at round_of
+unfolding round_at used info_in payload_after payload_info_at parts_at info_output_at outcome_after mode_at byte_at many_at keys_at groups_at round_of
 round_at_one = refl
 
 -- KEPT
@@ -85,11 +85,11 @@ abbrev at_step : ℕ → List Entry → List Restored → Progress
 at_step step written pairs = record { cuts = []; step = step; written = written; recorded = pairs; opened = Some 0 }
 
 in_first : (written : List Entry) (pairs : List Restored) → InDealingStep (setting chain) (at_step 1 written pairs) first (round 0) pair dealt
-unfolding awaited_height
+unfolding awaited_height_after
 in_first written pairs = record { life_is = refl; event_is = refl; awaited = refl; round_is = round_at_zero; valid = accepts }
 
 in_second : (written : List Entry) (pairs : List Restored) → InDealingStep (setting chain) (at_step 4 written pairs) first (round 1) second_pair dealt
-unfolding awaited_height
+unfolding awaited_height_after
 in_second written pairs = record { life_is = refl; event_is = refl; awaited = refl; round_is = round_at_one; valid = accepts_next }
 
 first_record : IsSound (setting chain) (at_step 1 [] []) recorded
@@ -116,7 +116,7 @@ abbrev before_restart : Progress
 before_restart = record { cuts = None ∷ []; step = 0; written = []; recorded = pair ∷ second_pair ∷ []; opened = Some 0 }
 
 reopens : IsSoundOpening (setting chain) before_restart (second_pair ∷ [])
-unfolding awaited_height
+unfolding awaited_height_after
 reopens = record {
   lists = ((λ current. absurd (past current)), ((λ current. (0, lit< tt, refl)), tt));
   rising = tt;
@@ -131,7 +131,7 @@ abbrev at_end : Progress
 at_end = record { cuts = None ∷ None ∷ []; step = 0; written = []; recorded = pair ∷ second_pair ∷ []; opened = Some 1 }
 
 durable : IsDurable (setting chain) at_end (OnlyThese (files_of (Some (flat 1 1 7)))) (secrets_of (((1, 2), 23) ∷ []))
-unfolding awaited_height
+unfolding awaited_height_after
 durable = is_durable (files_of (Some (flat 1 1 7))) (secrets_of (((1, 2), 23) ∷ [])) second_pair stored_next (setting chain) at_end
     ((λ current. absurd (past current)), ((λ current. is_given (files_of (Some (flat 1 1 7))) (secrets_of (((1, 2), 23) ∷ [])) second_pair stored_next), tt))
 
@@ -158,13 +158,13 @@ not_below : (l : ℕ) → suc (suc l) < 2 → ⊥
 not_below l below = omega arith
 
 never_back : (l : ℕ) → l < 2 → awaited_before (setting chain) (None ∷ None ∷ []) l ≤ awaited_epoch_in (setting chain) l 0 + 1
-unfolding awaited_height
+unfolding awaited_height_after
 never_back zero below = lit≤ tt
 never_back (suc zero) below = lit≤ tt
 never_back (suc (suc l)) below = absurd (not_below l below)
 
 pub chain_is_consistent : IsConsistentScript (setting chain) (None ∷ None ∷ [])
-unfolding used info_in payload_after carried_at parts_at held_at outcome_after mode_at byte_at many_at keys_at groups_at
+unfolding used info_in payload_after payload_info_at parts_at info_output_at outcome_after mode_at byte_at many_at keys_at groups_at
 chain_is_consistent = record {
   one_chain = (refl, (refl, (refl, (refl, (refl, (refl, (refl, tt)))))));
   linked = (tt, (tt, (refl, (refl, (refl, (refl, (refl, tt)))))));

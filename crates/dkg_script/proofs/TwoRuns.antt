@@ -14,9 +14,9 @@ use Rattle.dkg_secrets.specs.Keys.{key_cmp}
 use Rattle.dkg_store.specs.Pairs.{Pairs}
 use Rattle.dkg_secrets.specs.Secrets.{Secrets}
 use Rattle.dkg_secrets.proofs.Map.{keys_total}
-use Rattle.dkg_infos.specs.InfoCodes.{held_at, parts_at}
+use Rattle.dkg_infos.specs.InfoCodes.{info_output_at, parts_at}
 use Rattle.dkg_infos.specs.OutcomeCodes.{outcome_after}
-use Rattle.dkg_types.specs.PayloadCodes.{carried_at, payload_after}
+use Rattle.dkg_types.specs.PayloadCodes.{payload_info_at, payload_after}
 use Rattle.dkg_infos.specs.declared.entry.Entry.{Entry}
 use Rattle.dkg_infos.specs.declared.entry.Entry.TheVariants.{Opened, Ack, Step}
 use Rattle.dkg_infos.specs.declared.entry.Restored.{Restored}
@@ -25,7 +25,7 @@ use Rattle.dkg_script.specs.Readings.{info_in}
 use Rattle.dkg_script.specs.Blocks.{round_at, used}
 use Rattle.dkg_script.specs.Kept.{IsSound, Kept}
 use Rattle.dkg_script.specs.Laws.{GoesOn}
-use Rattle.dkg_script.specs.Position.{awaited_height, begun}
+use Rattle.dkg_script.specs.Position.{awaited_height_after, begun}
 use Rattle.dkg_script.specs.Progress.{Progress, at_start, progress, read}
 use Rattle.dkg_script.specs.Setting.{Setting, listed, recovered_from, setting_of}
 use Rattle.dkg_script.proofs.Listed.{restored_of}
@@ -62,7 +62,7 @@ begins : at_start later ≡ record start { recorded = pair ∷ [] }
 begins = ap (λ pairs. record start { recorded = pairs }) (lists_it left held pair stored_seven)
 
 round_there : round_at later 0 ≡ Some (round 0)
-unfolding round_at used info_in payload_after carried_at parts_at held_at outcome_after mode_at byte_at many_at keys_at groups_at round_of
+unfolding round_at used info_in payload_after payload_info_at parts_at info_output_at outcome_after mode_at byte_at many_at keys_at groups_at round_of
 round_there = refl
 
 -- it is one that goes on from there
@@ -86,7 +86,7 @@ abbrev in_message : Progress
 in_message = record { cuts = []; step = 1; written = []; recorded = pair ∷ []; opened = Some 0 }
 
 in_step : InDealingStep later in_message first_life (round 0) pair dealt
-unfolding awaited_height
+unfolding awaited_height_after
 in_step = record { life_is = refl; event_is = refl; awaited = refl; round_is = round_there; valid = accepts }
 
 acked_again : IsSound later in_message (Ack 0 2 ack_of_dealt)
@@ -113,7 +113,7 @@ either image true = OnlyThese left
 either image false = image
 
 none_begun : begun (setting one) (progress (setting one) out_one).cuts (length (progress (setting one) out_one).cuts) (progress (setting one) out_one).step ≡ 0
-unfolding awaited_height
+unfolding awaited_height_after
 none_begun = rw (progress_is one out_one) refl
 
 pub other_ack_is_not_kept_later : (ack : List ℕ) → ack ≢ ack_of_dealt → (first rest : List Entry) (image : Files → Type 0) (secrets : Secrets) → Kept later (first ++ Ack 0 2 ack ∷ rest) image secrets → ⊥

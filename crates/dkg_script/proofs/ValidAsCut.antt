@@ -7,14 +7,14 @@ use Rattle.dkg_text.specs.declared.script.Event.TheVariants as kind
 use Rattle.dkg_text.specs.declared.script.Life.{Life}
 use Rattle.dkg_script.specs.AsCut.{life_as_cut, with_cuts}
 use Rattle.dkg_script.specs.AsCutLaws.{ValidAnyhow}
-use Rattle.dkg_script.specs.Blocks.{Block, used}
-use Rattle.dkg_script.specs.Position.{IsPlanHistory, awaited_epoch, awaited_height, cut_of, follows}
+use Rattle.dkg_script.specs.Blocks.{ScriptBlock, used}
+use Rattle.dkg_script.specs.Position.{IsPlanHistory, awaited_epoch, awaited_height_after, cut_of, life_follows}
 use Rattle.dkg_script.specs.Progress.{progress}
 use Rattle.dkg_script.specs.Promise.{with_plans}
 use Rattle.dkg_script.specs.Readings.{Info}
 use Rattle.dkg_script.specs.Schedule.{epoch_of}
 use Rattle.dkg_script.specs.Setting.{Setting, CutAt, blocks_per_epoch, found, life_at, setting_of}
-use Rattle.dkg_script.specs.Valid.{BeginsWell, ComesInTurn, EndsEpoch, HasPlayers, IsValidCase, IsValidScript, LiesInRange, ProvidesNext, ServesIn}
+use Rattle.dkg_script.specs.Valid.{BeginsWell, ComesInTurn, MayEndEpoch, HasPlayers, IsValidCase, IsValidScript, LiesInRange, ProvidesNext, ServesIn}
 use Rattle.dkg_script.proofs.AsCut.{its_life}
 use Rattle.dkg_script.proofs.ConsistentAsCut.{before_it, consistent_as_cut, height_as_cut, history_of, is_plain, plain_case, same_ends, step_of_life, used_within}
 use Rattle.dkg_script.proofs.EarlyScripts.{plain_of}
@@ -28,7 +28,7 @@ zero_over zero = div-zero 0
 zero_over (suc n) = div-eq_of_lt (omega arith)
 
 -- the same event ends an epoch
-same_end : (s : Setting) (ends : List (Option CutAt)) (epoch : ℕ) (event : Event) → EndsEpoch (with_cuts ends s) epoch event → EndsEpoch s epoch event
+same_end : (s : Setting) (ends : List (Option CutAt)) (epoch : ℕ) (event : Event) → MayEndEpoch (with_cuts ends s) epoch event → MayEndEpoch s epoch event
 same_end s ends epoch (kind.Final number) its = its
 same_end s ends epoch (kind.Info request) its = tt
 same_end s ends epoch _ its = absurd its
@@ -45,12 +45,12 @@ module _ (s : Setting) (ends : List (Option CutAt)) (l : ℕ) (life : Life) (no_
   turn_as_cut turn j number b event comes there =
       let its = step_of_life end life (suc j) (kind.Final number) event in
       let before = before_it j end its.1 in
-      let same : awaited_height t l shorter j ≡ awaited_height s l life j = height_as_cut s ends l life no_sync none end j before in
+      let same : awaited_height_after t l shorter j ≡ awaited_height_after s l life j = height_as_cut s ends l life no_sync none end j before in
       elim (turn j number b its.0 comes there) [
         | inl low ↦ inl (subst (λ (n : ℕ). b.height ≤ n) (sym same) low)
         | inr first ↦
             let zeroth : awaited_epoch s l life j ≡ 0 = ap (λ (h : ℕ). epoch_of (blocks_per_epoch s) h) first.0 ∙ zero_over (blocks_per_epoch s) in
-            inr (same ∙ first.0, subst (λ (epoch : ℕ). follows t l shorter epoch ≡ follows s l life epoch) zeroth (follows_as_cut s ends l life no_sync none end j before) ∙ first.1)
+            inr (same ∙ first.0, subst (λ (epoch : ℕ). life_follows t l shorter epoch ≡ life_follows s l life epoch) zeroth (follows_as_cut s ends l life no_sync none end j before) ∙ first.1)
       ]
 
   -- AND THE PROVIDER says as much
@@ -59,8 +59,8 @@ module _ (s : Setting) (ends : List (Option CutAt)) (l : ℕ) (life : Life) (no_
       let its = step_of_life end life (suc j) event is in
       let before = before_it j end its.1 in
       let same : awaited_epoch t l shorter j ≡ awaited_epoch s l life j = epoch_as_cut s ends l life no_sync none end j before in
-      let ended : EndsEpoch s (awaited_epoch s l life j) event = same_end s ends (awaited_epoch s l life j) event (subst (λ (epoch : ℕ). EndsEpoch t epoch event) same ends_epoch) in
-      let part : follows t l shorter (awaited_epoch s l life j) ≡ false = subst (λ (epoch : ℕ). follows t l shorter epoch ≡ false) same takes_part in
+      let ended : MayEndEpoch s (awaited_epoch s l life j) event = same_end s ends (awaited_epoch s l life j) event (subst (λ (epoch : ℕ). MayEndEpoch t epoch event) same ends_epoch) in
+      let part : life_follows t l shorter (awaited_epoch s l life j) ≡ false = subst (λ (epoch : ℕ). life_follows t l shorter epoch ≡ false) same takes_part in
       subst (λ (epoch : ℕ). HasPlayers s (epoch + 2)) (sym same)
       (provides j event its.0 comes ended (sym (follows_as_cut s ends l life no_sync none end j before) ∙ part))
 
@@ -82,7 +82,7 @@ module _ (s : Setting) (ends : List (Option CutAt)) where
   serves_as_cut epoch None none = absurd none
   serves_as_cut epoch (Some info) its = record { of_epoch = its.of_epoch; accepted = its.accepted; round = its.round }
 
-  begins_as_cut : (b : Block) → BeginsWell s b → BeginsWell (with_cuts ends s) b
+  begins_as_cut : (b : ScriptBlock) → BeginsWell s b → BeginsWell (with_cuts ends s) b
   begins_as_cut b begins epoch is = serves_as_cut epoch b.info (begins epoch is)
 
   pub valid_case_as_cut : IsPlain s → IsPlanHistory (with_cuts ends s) ends → IsValidCase s ends → IsValidCase (with_cuts ends s) ends

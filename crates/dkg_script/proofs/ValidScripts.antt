@@ -11,22 +11,22 @@ use Rattle.dkg_values.specs.declared.name.Name.TheVariants.{Plan}
 use Rattle.dkg_ceremony.specs.Modes.{mode_at}
 use Rattle.dkg_ceremony.specs.Rounds.{round_of}
 use Rattle.dkg_journal.specs.Names.{name_cmp}
-use Rattle.dkg_infos.specs.InfoCodes.{held_at, parts_at}
+use Rattle.dkg_infos.specs.InfoCodes.{info_output_at, parts_at}
 use Rattle.dkg_infos.specs.OutcomeCodes.{outcome_after}
-use Rattle.dkg_types.specs.PayloadCodes.{carried_at, payload_after}
+use Rattle.dkg_types.specs.PayloadCodes.{payload_info_at, payload_after}
 use Rattle.dkg_infos.specs.Validation.{validation}
 use Rattle.dkg_text.specs.declared.script.Event.{Event}
 use Rattle.dkg_text.specs.declared.script.Event.TheVariants.{Peer, Final, Info}
 use Rattle.dkg_text.specs.declared.script.Life.{Life}
 use Rattle.dkg_text.specs.declared.script.Script.{Script}
-use Rattle.dkg_script.specs.Readings.{Material, info_in}
+use Rattle.dkg_script.specs.Readings.{SyncMaterial, info_in}
 use Rattle.dkg_script.specs.Setting.{Setting, CutAt, life_at}
-use Rattle.dkg_script.specs.Blocks.{Block, block_at, used}
+use Rattle.dkg_script.specs.Blocks.{ScriptBlock, numbered_block, used}
 use Rattle.dkg_script.specs.Consistent.{IsConsistentScript}
-use Rattle.dkg_script.specs.Position.{IsPlanHistory, awaited_epoch, awaited_height, start_height}
+use Rattle.dkg_script.specs.Position.{IsPlanHistory, awaited_epoch, awaited_height_after, first_height}
 use Rattle.dkg_script.specs.Promise.{IsBuilt, with_plans}
 use Rattle.dkg_script.specs.Schedule.{boundary, last}
-use Rattle.dkg_script.specs.Valid.{BeginsWell, ComesInTurn, EndsEpoch, IsValidCase, IsValidScript, LiesInRange, ProvidesNext, ServesIn}
+use Rattle.dkg_script.specs.Valid.{BeginsWell, ComesInTurn, MayEndEpoch, IsValidCase, IsValidScript, LiesInRange, ProvidesNext, ServesIn}
 use Rattle.dkg_script.proofs.Early.{IsEarlyScript}
 use Rattle.dkg_script.proofs.EarlyScripts.{never_back, plain_of}
 use Rattle.dkg_script.proofs.EarlyWithin.{early_within}
@@ -47,16 +47,16 @@ message_no_block from number bytes e = cc
 its_number : (k number : ℕ) → Some (Final k) ≡ Some (Final number) → k ≡ number
 its_number k number e = cc
 
-its_block : (s : Setting) (k number : ℕ) (known b : Block) → k ≡ number → block_at s k ≡ Some known → block_at s number ≡ Some b → known ≡ b
+its_block : (s : Setting) (k number : ℕ) (known b : ScriptBlock) → k ≡ number → numbered_block s k ≡ Some known → numbered_block s number ≡ Some b → known ≡ b
 its_block s k number known b same is there = let e : Some known ≡ Some b = sym is ∙ (rw same there) in cc
 
-in_turn_by : (s : Setting) (k number n : ℕ) (known b : Block) → Some (Final k) ≡ Some (Final number) → block_at s k ≡ Some known → known.height ≤ n → block_at s number ≡ Some b → b.height ≤ n
+in_turn_by : (s : Setting) (k number n : ℕ) (known b : ScriptBlock) → Some (Final k) ≡ Some (Final number) → numbered_block s k ≡ Some known → known.height ≤ n → numbered_block s number ≡ Some b → b.height ≤ n
 in_turn_by s k number n known b final is low there =
-    subst (λ (x : Block). x.height ≤ n) (its_block s k number known b (its_number k number final) is there) low
+    subst (λ (x : ScriptBlock). x.height ≤ n) (its_block s k number known b (its_number k number final) is there) low
 
 -- ENDS OF EPOCHS
-ends_by : (s : Setting) (epoch : ℕ) (one event : Event) → Some one ≡ Some event → EndsEpoch s epoch event → EndsEpoch s epoch one
-ends_by s epoch one event is its = subst (λ (e : Event). EndsEpoch s epoch e) (sym (the_same is)) its
+ends_by : (s : Setting) (epoch : ℕ) (one event : Event) → Some one ≡ Some event → MayEndEpoch s epoch event → MayEndEpoch s epoch one
+ends_by s epoch one event is its = subst (λ (e : Event). MayEndEpoch s epoch e) (sym (the_same is)) its
   where
     the_same : Some one ≡ Some event → one ≡ event
     the_same e = cc
@@ -78,7 +78,7 @@ begins_none (suc epoch) is = let at : 1 ≡ epoch * 8 + 8 - 1 = is in omega (ari
 
 -- THE STORED RUN: no block is delivered
 
-module _ (plans : List (Option Material)) where
+module _ (plans : List (Option SyncMaterial)) where
   abbrev stored : Setting
   stored = with_plans (setting two) plans
 
@@ -106,8 +106,8 @@ module _ (plans : List (Option Material)) where
   two_provides (suc zero) = second_provides
   two_provides (suc (suc l)) = tt
 
-  two_serves : (epoch : ℕ) → 0 ≡ boundary 8 epoch → IsSomeAnd (option_and_then (λ b. b.info) (block_at stored 0)) (ServesIn stored epoch)
-  unfolding info_in payload_after carried_at parts_at held_at outcome_after mode_at byte_at many_at keys_at groups_at validation round_of
+  two_serves : (epoch : ℕ) → 0 ≡ boundary 8 epoch → IsSomeAnd (option_and_then (λ b. b.info) (numbered_block stored 0)) (ServesIn stored epoch)
+  unfolding info_in payload_after payload_info_at parts_at info_output_at outcome_after mode_at byte_at many_at keys_at groups_at validation round_of
   two_serves zero at = record { of_epoch = refl; accepted = refl; round = refl }
   two_serves (suc epoch) at = absurd (begins_first 8 epoch (lit≤ tt) at)
 
@@ -145,7 +145,7 @@ least n = omega arith
 behind_first : (n : ℕ) → 1 ≤ max n 1
 behind_first n = omega arith
 
-module _ (plans : List (Option Material)) where
+module _ (plans : List (Option SyncMaterial)) where
   abbrev case : Setting
   case = with_plans (setting delivering) plans
 
@@ -168,7 +168,7 @@ module _ (plans : List (Option Material)) where
   delivering_is_built = record { form = early_within delivering delivering_is_early; no_plan = get-empty name_cmp Plan }
 
   delivering_consistent : (ends : List (Option CutAt)) → IsPlanHistory case ends → IsConsistentScript case ends
-  unfolding used info_in payload_after carried_at parts_at held_at outcome_after mode_at byte_at many_at keys_at groups_at
+  unfolding used info_in payload_after payload_info_at parts_at info_output_at outcome_after mode_at byte_at many_at keys_at groups_at
   delivering_consistent ends history = record {
     one_chain = (refl, (refl, (refl, tt)));
     linked = (tt, (tt, (refl, tt)));
@@ -178,9 +178,9 @@ module _ (plans : List (Option Material)) where
   }
 
   delivering_turn : ComesInTurn case 0 brought
-  unfolding awaited_height
-  delivering_turn zero number b is comes there = inl (in_turn_by case 0 number (awaited_height case 0 brought 0) _ b is refl (least (awaited_height case 0 brought 0)) there)
-  delivering_turn (suc zero) number b is comes there = inl (in_turn_by case 1 number (awaited_height case 0 brought 1) _ b is refl (behind_first (start_height case 0 brought)) there)
+  unfolding awaited_height_after
+  delivering_turn zero number b is comes there = inl (in_turn_by case 0 number (awaited_height_after case 0 brought 0) _ b is refl (least (awaited_height_after case 0 brought 0)) there)
+  delivering_turn (suc zero) number b is comes there = inl (in_turn_by case 1 number (awaited_height_after case 0 brought 1) _ b is refl (behind_first (first_height case 0 brought)) there)
   delivering_turn (suc (suc j)) number b is comes there = absurd (not_there (Final number) is)
 
   delivering_in_turn : (l : ℕ) → IfSome (life_at case l) (ComesInTurn case l)
@@ -198,8 +198,8 @@ module _ (plans : List (Option Material)) where
   delivering_provides zero = delivering_brought
   delivering_provides (suc l) = tt
 
-  delivering_serves : (epoch : ℕ) → 0 ≡ boundary 8 epoch → IsSomeAnd (option_and_then (λ b. b.info) (block_at case 0)) (ServesIn case epoch)
-  unfolding info_in payload_after carried_at parts_at held_at outcome_after mode_at byte_at many_at keys_at groups_at validation round_of
+  delivering_serves : (epoch : ℕ) → 0 ≡ boundary 8 epoch → IsSomeAnd (option_and_then (λ b. b.info) (numbered_block case 0)) (ServesIn case epoch)
+  unfolding info_in payload_after payload_info_at parts_at info_output_at outcome_after mode_at byte_at many_at keys_at groups_at validation round_of
   delivering_serves zero at = record { of_epoch = refl; accepted = refl; round = refl }
   delivering_serves (suc epoch) at = absurd (begins_first 8 epoch (lit≤ tt) at)
 
@@ -243,32 +243,32 @@ none_alike a b is = omega (arith, is)
 three_not_one : ◌≡◌ {A = ℕ} 3 1 → ⊥
 three_not_one is = omega (arith, is)
 
-serves_zero : (epoch : ℕ) → 0 ≡ boundary 2 epoch → IsSomeAnd (option_and_then (λ b. b.info) (block_at over 0)) (ServesIn over epoch)
-unfolding info_in payload_after carried_at parts_at held_at outcome_after mode_at byte_at many_at keys_at groups_at validation round_of
+serves_zero : (epoch : ℕ) → 0 ≡ boundary 2 epoch → IsSomeAnd (option_and_then (λ b. b.info) (numbered_block over 0)) (ServesIn over epoch)
+unfolding info_in payload_after payload_info_at parts_at info_output_at outcome_after mode_at byte_at many_at keys_at groups_at validation round_of
 serves_zero zero at = record { of_epoch = refl; accepted = refl; round = refl }
 serves_zero (suc epoch) at = absurd (begins_first 2 epoch (lit≤ tt) at)
 
-serves_one : (epoch : ℕ) → 1 ≡ boundary 2 epoch → IsSomeAnd (option_and_then (λ b. b.info) (block_at over 1)) (ServesIn over epoch)
-unfolding info_in payload_after carried_at parts_at held_at outcome_after mode_at byte_at many_at keys_at groups_at validation round_of
+serves_one : (epoch : ℕ) → 1 ≡ boundary 2 epoch → IsSomeAnd (option_and_then (λ b. b.info) (numbered_block over 1)) (ServesIn over epoch)
+unfolding info_in payload_after payload_info_at parts_at info_output_at outcome_after mode_at byte_at many_at keys_at groups_at validation round_of
 serves_one zero at = absurd (none_alike 0 0 at)
 serves_one (suc zero) at = record { of_epoch = refl; accepted = refl; round = refl }
 serves_one (suc (suc epoch)) at = absurd (past_one epoch at)
 
-serves_three : (epoch : ℕ) → 3 ≡ boundary 2 epoch → IsSomeAnd (option_and_then (λ b. b.info) (block_at over 3)) (ServesIn over epoch)
-unfolding info_in payload_after carried_at parts_at held_at outcome_after mode_at byte_at many_at keys_at groups_at validation round_of
+serves_three : (epoch : ℕ) → 3 ≡ boundary 2 epoch → IsSomeAnd (option_and_then (λ b. b.info) (numbered_block over 3)) (ServesIn over epoch)
+unfolding info_in payload_after payload_info_at parts_at info_output_at outcome_after mode_at byte_at many_at keys_at groups_at validation round_of
 serves_three zero at = absurd (none_alike 2 0 at)
 serves_three (suc zero) at = absurd (three_not_one at)
 serves_three (suc (suc zero)) at = record { of_epoch = refl; accepted = refl; round = refl }
 serves_three (suc (suc (suc epoch))) at = absurd (past_three epoch at)
 
 chain_turn : ComesInTurn over 0 chain_life
-unfolding awaited_height
+unfolding awaited_height_after
 chain_turn zero number b is comes there = absurd (message_no_block _ number _ is)
-chain_turn (suc zero) number b is comes there = inl (in_turn_by over 0 number (awaited_height over 0 chain_life 1) _ b is refl (lit≤ tt) there)
-chain_turn (suc (suc zero)) number b is comes there = inl (in_turn_by over 1 number (awaited_height over 0 chain_life 2) _ b is refl (lit≤ tt) there)
+chain_turn (suc zero) number b is comes there = inl (in_turn_by over 0 number (awaited_height_after over 0 chain_life 1) _ b is refl (lit≤ tt) there)
+chain_turn (suc (suc zero)) number b is comes there = inl (in_turn_by over 1 number (awaited_height_after over 0 chain_life 2) _ b is refl (lit≤ tt) there)
 chain_turn (suc (suc (suc zero))) number b is comes there = absurd (message_no_block _ number _ is)
-chain_turn (suc (suc (suc (suc zero)))) number b is comes there = inl (in_turn_by over 2 number (awaited_height over 0 chain_life 4) _ b is refl (lit≤ tt) there)
-chain_turn (suc (suc (suc (suc (suc zero))))) number b is comes there = inl (in_turn_by over 3 number (awaited_height over 0 chain_life 5) _ b is refl (lit≤ tt) there)
+chain_turn (suc (suc (suc (suc zero)))) number b is comes there = inl (in_turn_by over 2 number (awaited_height_after over 0 chain_life 4) _ b is refl (lit≤ tt) there)
+chain_turn (suc (suc (suc (suc (suc zero))))) number b is comes there = inl (in_turn_by over 3 number (awaited_height_after over 0 chain_life 5) _ b is refl (lit≤ tt) there)
 chain_turn (suc (suc (suc (suc (suc (suc j)))))) number b is comes there = absurd (not_there (Final number) is)
 
 chain_in_turn : (l : ℕ) → IfSome (life_at over l) (ComesInTurn over l)
@@ -280,7 +280,7 @@ two_is_last : (epoch : ℕ) → 2 ≡ last 2 epoch → ⊥
 two_is_last epoch is = let at : 2 ≡ epoch * 2 + 2 - 1 = is in omega (arith, at)
 
 chain_life_provides : ProvidesNext over 0 chain_life
-unfolding awaited_height
+unfolding awaited_height_after
 chain_life_provides zero event is comes ends takes_part = absurd (ends_by over 0 _ event is ends)
 chain_life_provides (suc zero) event is comes ends takes_part = absurd (zero_is_last 2 0 (lit≤ tt) (ends_by over 0 (Final 0) event is ends))
 chain_life_provides (suc (suc zero)) event is comes ends takes_part = (lit< tt, lit≤ tt)
@@ -319,7 +319,7 @@ nobody : 0 < 0 → ⊥
 nobody below = omega arith
 
 pub chain_is_unserved : ProvidesNext unserved 0 chain_life → ⊥
-unfolding awaited_height
+unfolding awaited_height_after
 chain_is_unserved its = nobody (its 2 (Final 1) refl tt refl refl).0
 
 abbrev follower : Life
@@ -329,7 +329,7 @@ follows_on : false ≡ true → ⊥
 follows_on e = cc
 
 pub follower_is_served : ProvidesNext (setting (record chain { config = record chain.config { players = [] }; lives = follower ∷ [] })) 0 follower
-unfolding awaited_height
+unfolding awaited_height_after
 follower_is_served zero event is comes ends takes_part = absurd (follows_on (sym takes_part))
 follower_is_served (suc zero) event is comes ends takes_part = absurd (follows_on (sym takes_part))
 follower_is_served (suc (suc j)) event is comes ends takes_part = absurd (not_there event is)
@@ -339,5 +339,5 @@ abbrev asker : Life
 asker = life_of (Info 1 ∷ []) None
 
 pub asker_is_unserved : ProvidesNext (setting (record chain { config = record chain.config { players = [] }; lives = asker ∷ [] })) 0 asker → ⊥
-unfolding awaited_height
+unfolding awaited_height_after
 asker_is_unserved its = nobody (its 0 (Info 1) refl tt tt refl).0

@@ -18,11 +18,11 @@ use Rattle.dkg_types.specs.Paths.{log_of_block, logs_from, logs_of_path}
 use Rattle.dkg_types.specs.PayloadCodes.{payload_spelling}
 use Rattle.dkg_infos.specs.Units.{unit_spelling}
 use Rattle.dkg_text.specs.declared.script.BlockLine.{BlockLine}
-use Rattle.dkg_script.specs.Blocks.{Block, block_of, digest_of}
+use Rattle.dkg_script.specs.Blocks.{ScriptBlock, block_of, digest_of}
 use Rattle.dkg_script.specs.Readings.{Limits, info_in, log_in, with_spelled}
 use Rattle.dkg_script.specs.Schedule.{epoch_of}
 use Rattle.dkg_script.specs.Setting.{Setting, blocks_per_epoch, limits}
-use Rattle.dkg_script.specs.Views.{IsPayloadOf, context_on, log_at, parent_digest, seen_block, seen_provided, seen_with}
+use Rattle.dkg_script.specs.Views.{IsPayloadOf, context_on, log_with_height, parent_digest, seen_block, seen_provided, seen_with}
 use Rattle.dkg_script.proofs.Bridges.{same_digest}
 
 -- A BLOCK that is made as a line says is the block that the script has
@@ -43,7 +43,7 @@ spelled_so limits None (Some its) is = absurd is
 spelled_so limits (Some bytes) None is = absurd is
 spelled_so limits (Some bytes) (Some its) is = ap (λ (text : List ℕ). Some text) is.1
 
-pub seen_is : (s : Setting) (before : List Block) (line : BlockLine) (carried : Option (Payload directory.Unit)) (b : made.Block directory.Unit) → s.script.addressed ≡ false → IsPayloadOf (limits s) line.payload carried
+pub seen_is : (s : Setting) (before : List ScriptBlock) (line : BlockLine) (carried : Option (Payload directory.Unit)) (b : made.Block directory.Unit) → s.script.addressed ≡ false → IsPayloadOf (limits s) line.payload carried
     → IsBlock unit_spelling (context_on s (parent_digest before line) line) (parent_digest before line) line.height carried b → seen_block unit_spelling b ≡ block_of s before line
 seen_is s before line carried b plain read is =
     let epoch = epoch_of (blocks_per_epoch s) line.height in
@@ -54,15 +54,15 @@ seen_is s before line carried b plain read is =
 
 -- LOGS: those of a path that count are those of its blocks as they are seen
 
-same_log : {Dir : Type 0} (spelling : Dir → List ℕ) (b : made.Block Dir) → log_of_block b ≡ log_at (seen_block spelling b)
+same_log : {Dir : Type 0} (spelling : Dir → List ℕ) (b : made.Block Dir) → log_of_block b ≡ log_with_height (seen_block spelling b)
 same_log spelling b = refl
 
-same_placed : {Dir : Type 0} (spelling : Dir → List ℕ) (path : List (made.Block Dir)) → filter_map log_of_block path ≡ filter_map log_at (map (seen_block spelling) path)
+same_placed : {Dir : Type 0} (spelling : Dir → List ℕ) (path : List (made.Block Dir)) → filter_map log_of_block path ≡ filter_map log_with_height (map (seen_block spelling) path)
 same_placed spelling [] = refl
 same_placed spelling (b ∷ path) = ap (cons_option (log_of_block b)) (same_placed spelling path)
 
 pub same_logs : {Dir : Type 0} (spelling : Dir → List ℕ) (check_log_of : Round → SignedDealerLog → Bool) (midpoint last : ℕ) (round : Round) (path : List (made.Block Dir))
-    → logs_of_path check_log_of midpoint last round path ≡ logs_from check_log_of midpoint last round (filter_map log_at (map (seen_block spelling) path))
+    → logs_of_path check_log_of midpoint last round path ≡ logs_from check_log_of midpoint last round (filter_map log_with_height (map (seen_block spelling) path))
 same_logs spelling check_log_of midpoint last round path = ap (logs_from check_log_of midpoint last round) (same_placed spelling path)
 
 -- INFOS: the next one, as it is seen, is the one after the info as it is seen

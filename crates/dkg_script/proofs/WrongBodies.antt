@@ -29,11 +29,11 @@ use Rattle.dkg_infos.specs.declared.entry.Entry.TheVariants.{Opened, Ack, Step, 
 use Rattle.dkg_infos.specs.declared.entry.Restored.{Restored}
 use Rattle.dkg_infos.specs.declared.fault.Fault.TheVariants.{Disk, FloorBlockMissing, NoMemory}
 use Rattle.dkg_text.specs.declared.script.Event.TheVariants.{Peer}
-use Rattle.dkg_script.specs.Readings.{Material}
+use Rattle.dkg_script.specs.Readings.{SyncMaterial}
 use Rattle.dkg_script.specs.Setting.{recovered_from, listed}
-use Rattle.dkg_script.specs.Position.{IsPlanHistory, awaited_height}
+use Rattle.dkg_script.specs.Position.{IsPlanHistory, awaited_height_after}
 use Rattle.dkg_script.specs.Progress.{Progress, read}
-use Rattle.dkg_script.specs.Due.{IsDue, WroteAck}
+use Rattle.dkg_script.specs.Due.{IsDueNow, WroteAck}
 use Rattle.dkg_script.specs.Ends.{EndsRun}
 use Rattle.dkg_script.specs.Kept.{Kept, IsSound, IsDurable, Gives}
 use Rattle.dkg_script.specs.Order.{InOrder, IsInOrder}
@@ -104,7 +104,7 @@ unfolding read32 read64
 closed = entries_are (flat 0 0 7)
 
 pub closed_gate_is_not_kept : Kept (setting two) early (OnlyThese (files_of (Some (flat 0 0 7)))) (secrets_of (((0, 2), 23) ∷ [])) → ⊥
-unfolding awaited_height
+unfolding awaited_height_after
 closed_gate_is_not_kept kept =
     none_given (files_of (Some (flat 0 0 7))) (secrets_of (((0, 2), 23) ∷ [])) closed
     (((gives_back early (OnlyThese (files_of (Some (flat 0 0 7)))) (secrets_of (((0, 2), 23) ∷ [])) kept).gives (files_of (Some (flat 0 0 7))) refl).0 (lit< tt))
@@ -127,7 +127,7 @@ public_first_is_not_kept out kept = no_half (kept.durable.whole (files_of (Some 
 abbrev pub unsynced : Rows
 unsynced = (Flat, record { bytes = flat 1 0 7; synced = 1; undo = (0, 0 ∷ []) ∷ [] }) ∷ []
 
-only_zero : (i : ℕ) → i < 1 → file.IsOutside ((0, 0 ∷ []) ∷ []) i → ⊥
+only_zero : (i : ℕ) → i < 1 → file.IsUntouched ((0, 0 ∷ []) ∷ []) i → ⊥
 only_zero i below outside = grind arith
 
 old_file : file.FileImage (record { bytes = flat 1 0 7; synced = 1; undo = (0, 0 ∷ []) ∷ [] }) (0 ∷ [])
@@ -153,14 +153,14 @@ unfolding read32 read64
 nothing_in_it = entries_are (0 ∷ [])
 
 pub unsynced_is_not_kept : (secrets : Secrets) → Kept (setting two) out_one (RowsImage unsynced) secrets → ⊥
-unfolding awaited_height
+unfolding awaited_height_after
 unsynced_is_not_kept secrets kept =
     none_given (files_of (Some (0 ∷ []))) secrets nothing_in_it
     (((gives_back out_one (RowsImage unsynced) secrets kept).gives (files_of (Some (0 ∷ []))) (record { each = is_old })).0 (lit< tt))
 
 -- KEEPS DEALINGS IN MEMORY ALONE: the disk holds nothing
 pub in_memory_is_not_kept : (secrets : Secrets) → Kept (setting two) out_two (OnlyThese (files_of None)) secrets → ⊥
-unfolding awaited_height
+unfolding awaited_height_after
 in_memory_is_not_kept secrets kept =
     none_given (files_of None) secrets nothing_there
     (((gives_back out_two (OnlyThese (files_of None)) secrets kept).gives (files_of None) refl).0 (lit< tt))
@@ -181,7 +181,7 @@ none_contained : (x : Restored) → Contains [] x → ⊥
 none_contained x (k, below, is) = omega arith
 
 pub pruned_is_not_kept : (image : Files → Type 0) (secrets : Secrets) → Kept (setting two) pruned image secrets → ⊥
-unfolding awaited_height
+unfolding awaited_height_after
 pruned_is_not_kept image secrets kept =
     none_contained pair ((at_entry pruned image secrets kept out_one (Opened 1 []) [] refl).lists.0 (lit< tt))
 
@@ -198,8 +198,8 @@ silent = Opened 0 [] ∷ opening ++ Step 1 ∷ Opened 1 [] ∷ opening
 abbrev in_step_one : Progress
 in_step_one = record { cuts = []; step = 1; written = []; recorded = []; opened = Some 0 }
 
-due_with : (plans : List (Option Material)) → IsPlanHistory (with_plans (setting two) plans) [] → IsDue (with_plans (setting two) plans) in_step_one
-unfolding awaited_height
+due_with : (plans : List (Option SyncMaterial)) → IsPlanHistory (with_plans (setting two) plans) [] → IsDueNow (with_plans (setting two) plans) in_step_one
+unfolding awaited_height_after
 due_with [] history = record {
   unfinished = refl;
   takes_part = refl;
@@ -227,7 +227,7 @@ no_log = record {
 
 pub silent_is_not_complete : IsComplete (setting two) silent → ⊥
 silent_is_not_complete complete =
-    false_not_true (subst (λ p. InEachCase (setting two) p.cuts (λ case. IsDue case p) → WroteAck p.written) (progress_is two (Opened 0 [] ∷ opening))
+    false_not_true (subst (λ p. InEachCase (setting two) p.cuts (λ case. IsDueNow case p) → WroteAck p.written) (progress_is two (Opened 0 [] ∷ opening))
     (complete.answered (Opened 0 [] ∷ opening) (Opened 1 [] ∷ opening) 1 refl no_log) due_with)
 
 -- STOPS EARLY: the second life is left out

@@ -20,11 +20,11 @@ use Rattle.dkg_text.specs.declared.script.Event.TheVariants.{Final}
 use Rattle.dkg_text.specs.declared.script.Life.{Life}
 use Rattle.dkg_text.specs.declared.script.SyncLine.{SyncLine}
 use Rattle.dkg_script.specs.Schedule.{epoch_of, boundary, last}
-use Rattle.dkg_script.specs.Readings.{Info, Material, info_in, log_in, material_in}
+use Rattle.dkg_script.specs.Readings.{Info, SyncMaterial, info_in, log_in, material_in}
 use Rattle.dkg_script.specs.Setting.{Setting, blocks_per_epoch, limits, is_oneshot}
 
 -- A block: what names it, where it stands, and what it carries.
-pub record Block : Type 0 where
+pub record ScriptBlock : Type 0 where
   pub height : ℕ
   pub digest : List ℕ
   pub parent : List ℕ
@@ -49,7 +49,7 @@ digest_of epoch height view parent payload =
     sha256 (context_bytes (record { epoch = epoch; view = view; leader = 0; parent_view = 0; parent = parent }) ++ parent ++ uint height ++ flagged payload)
 
 -- the block of a line, over the blocks of the lines before it
-abbrev pub block_of : Setting → List Block → BlockLine → Block
+abbrev pub block_of : Setting → List ScriptBlock → BlockLine → ScriptBlock
 block_of s before line =
     let parent = option_map_or (λ b. b.digest) (option_and_then (slice_get before) line.parent) zeros
     in record {
@@ -62,11 +62,11 @@ block_of s before line =
       log = option_and_then (log_in (limits s)) line.payload;
     }
 
-abbrev pub blocks : Setting → List Block
+abbrev pub blocks : Setting → List ScriptBlock
 blocks s = fold (λ before line. before ++ block_of s before line ∷ []) [] s.script.blocks
 
-abbrev pub block_at : Setting → ℕ → Option Block
-block_at s number = slice_get (blocks s) number
+abbrev pub numbered_block : Setting → ℕ → Option ScriptBlock
+numbered_block s number = slice_get (blocks s) number
 
 abbrev pub anchor_number : Anchor → ℕ
 anchor_number (Processed number) = number
@@ -78,8 +78,8 @@ delivered_number (Final number) = Some number
 delivered_number _ = None
 
 -- the blocks that the life's source holds as it opens
-abbrev pub held_at_opening : Setting → Life → List Block
-held_at_opening s life = filter_map (block_at s) (option_to_list (option_map anchor_number life.anchor) ++ life.held)
+abbrev pub held_at_opening : Setting → Life → List ScriptBlock
+held_at_opening s life = filter_map (numbered_block s) (option_to_list (option_map anchor_number life.anchor) ++ life.held)
 
 -- the events that a life comes to: those before the step that it is cut before
 abbrev pub events_come_to : Option Cut → List Event → List Event
@@ -87,48 +87,48 @@ events_come_to None events = events
 events_come_to (Some cut) events = if cut.call == 0 then take (cut.step - 1) events else events
 
 -- the blocks that a life uses: its anchor, those it holds, its floor, and those delivered to it
-abbrev pub used_in : Setting → Life → List Block
+abbrev pub used_in : Setting → Life → List ScriptBlock
 used_in s life =
-    held_at_opening s life ++ filter_map (block_at s) (option_to_list (option_map (λ line. line.block) life.sync) ++ filter_map delivered_number (events_come_to life.cut life.events))
+    held_at_opening s life ++ filter_map (numbered_block s) (option_to_list (option_map (λ line. line.block) life.sync) ++ filter_map delivered_number (events_come_to life.cut life.events))
 
-unfoldable pub used : Setting → List Block
+unfoldable pub used : Setting → List ScriptBlock
 used s = flat_map (used_in s) s.script.lives
 
 -- the first of some blocks at a height
-abbrev pub chain_in : List Block → ℕ → Option Block
+abbrev pub chain_in : List ScriptBlock → ℕ → Option ScriptBlock
 chain_in bs height = find (λ b. b.height == height) bs
 
 -- the one chain: the block that is used at a height
-abbrev pub chain : Setting → ℕ → Option Block
+abbrev pub chain : Setting → ℕ → Option ScriptBlock
 chain s height = chain_in (used s) height
 
 -- the chain's block below this one
-abbrev pub chain_below : Setting → ℕ → Option Block
+abbrev pub chain_below : Setting → ℕ → Option ScriptBlock
 chain_below s zero = None
 chain_below s (suc height) = chain s height
 
 -- the start material of a script's line, which is read under the widest limits
-abbrev pub material_of_line : Setting → SyncLine → Option Material
+abbrev pub material_of_line : Setting → SyncLine → Option SyncMaterial
 material_of_line s line =
-    option_and_then (λ info. option_map (λ b. record { info = info; epoch = line.epoch; floor = b.digest }) (block_at s line.block))
+    option_and_then (λ info. option_map (λ b. record { info = info; epoch = line.epoch; floor = b.digest }) (numbered_block s line.block))
     (info_in (record { limit = 2 ^ 30; version = 1; addressed = s.script.addressed }) line.info)
 
-abbrev pub provided : Setting → Life → Option Material
-provided s life = option_and_then (material_of_line s) life.sync
+abbrev pub provided_material : Setting → Life → Option SyncMaterial
+provided_material s life = option_and_then (material_of_line s) life.sync
 
 -- the start material that was stored on the disk handed in
-abbrev pub handed_in : Setting → Option Material
+abbrev pub handed_in : Setting → Option SyncMaterial
 handed_in s = option_and_then (material_in (limits s)) (get s.files Plan)
 
 -- the infos of their own epoch that its boundary block or start material carries
-abbrev pub info_at_boundary : Setting → Block → Option Info
+abbrev pub info_at_boundary : Setting → ScriptBlock → Option Info
 info_at_boundary s b =
     option_and_then (λ info. if b.height == boundary (blocks_per_epoch s) info.epoch then Some info else None) b.info
 
 abbrev pub carried_infos : Setting → List Info
 carried_infos s =
     filter_map (info_at_boundary s) (used s)
-    ++ map (λ m. m.info) (filter_map (provided s) s.script.lives ++ option_to_list (handed_in s))
+    ++ map (λ m. m.info) (filter_map (provided_material s) s.script.lives ++ option_to_list (handed_in s))
 
 -- the first of some infos of an epoch
 abbrev pub known_in : List Info → ℕ → Option Info

@@ -10,10 +10,10 @@ use Rattle.dkg_text.specs.declared.script.Event.{Event}
 use Rattle.dkg_text.specs.declared.script.Event.TheVariants.{Peer}
 use Rattle.dkg_text.specs.declared.script.Life.{Life}
 use Rattle.dkg_script.specs.Schedule.{midpoint}
-use Rattle.dkg_script.specs.Readings.{Halves, dealing_in}
+use Rattle.dkg_script.specs.Readings.{BothHalves, dealing_in}
 use Rattle.dkg_script.specs.Setting.{Setting, me, limits, is_oneshot, blocks_per_epoch, life_at}
 use Rattle.dkg_script.specs.Blocks.{round_at}
-use Rattle.dkg_script.specs.Position.{event_of_step, awaited_height, awaited_epoch, follows, is_finished}
+use Rattle.dkg_script.specs.Position.{event_of_step, awaited_height_after, awaited_epoch, life_follows, is_oneshot_finished}
 use Rattle.dkg_script.specs.Progress.{Progress, pair_of}
 
 abbrev pub is_ack : Entry → Bool
@@ -25,7 +25,7 @@ abbrev pub WroteAck : List Entry → Type 0
 WroteAck written = IsTrue (list_any is_ack written)
 
 -- A dealing that this node has to acknowledge, in a round that it plays.
-pub record IsDueDealing (s : Setting) (p : Progress) (epoch from : ℕ) (round : Round) (dealing : Halves) : Type 0 where
+pub record IsDueDealing (s : Setting) (p : Progress) (epoch from : ℕ) (round : Round) (dealing : BothHalves) : Type 0 where
   pub player : IsTrue (has_key (me s) round.players)
   pub dealer : IsTrue (has_key from round.dealers)
   pub valid : (dealing_of round (me s) from dealing.public dealing.private ≡ Ok tt) ⊎ IsSome (pair_of p.recorded epoch from)
@@ -37,12 +37,12 @@ IsDueEvent s p epoch _ = ⊥
 
 -- The event of the step in hand is a dealing that this node has to acknowledge.
 pub record IsDueIn (s : Setting) (p : Progress) (life : Life) : Type 0 where
-  pub unfinished : IsFalse (is_finished s p.cuts (length p.cuts) life)
-  pub takes_part : IsFalse (follows s (length p.cuts) life (awaited_epoch s (length p.cuts) life (p.step - 1)))
+  pub unfinished : IsFalse (is_oneshot_finished s p.cuts (length p.cuts) life)
+  pub takes_part : IsFalse (life_follows s (length p.cuts) life (awaited_epoch s (length p.cuts) life (p.step - 1)))
   pub oneshot : IsTrue (is_oneshot s) → awaited_epoch s (length p.cuts) life (p.step - 1) ≡ 0
-  pub early : awaited_height s (length p.cuts) life (p.step - 1)
+  pub early : awaited_height_after s (length p.cuts) life (p.step - 1)
       < midpoint (blocks_per_epoch s) (awaited_epoch s (length p.cuts) life (p.step - 1))
   pub dealing : IsSomeAnd (event_of_step life p.step) (IsDueEvent s p (awaited_epoch s (length p.cuts) life (p.step - 1)))
 
-abbrev pub IsDue : Setting → Progress → Type 0
-IsDue s p = IsSomeAnd (life_at s (length p.cuts)) (IsDueIn s p)
+abbrev pub IsDueNow : Setting → Progress → Type 0
+IsDueNow s p = IsSomeAnd (life_at s (length p.cuts)) (IsDueIn s p)

@@ -15,18 +15,18 @@ use Rattle.dkg_text.specs.declared.script.Script.{Script}
 use Rattle.dkg_script.specs.Schedule.{epoch_of, midpoint}
 use Rattle.dkg_script.specs.Readings.{unit_payload}
 use Rattle.dkg_script.specs.Setting.{Setting, blocks_per_epoch}
-use Rattle.dkg_script.specs.Blocks.{Block, block_at}
-use Rattle.dkg_script.specs.Position.{event_of_step, awaited_epoch, follows}
+use Rattle.dkg_script.specs.Blocks.{ScriptBlock, numbered_block}
+use Rattle.dkg_script.specs.Position.{event_of_step, awaited_epoch, life_follows}
 
 -- a script over devices that hold nothing: no plan is found
 abbrev pub alone : Script → Setting
 alone script = record { script = script; files = empty; secrets = record { shares = empty; seeds = empty; privates = empty }; plans = [] }
 
 -- a message of the dealing channel, of a key of 32 bits, or a block of the script
-abbrev pub IsEventIn : List BlockLine → Event → Type 0
-IsEventIn blocks (Peer from bytes) = from < 2 ^ 32
-IsEventIn blocks (Final number) = IsSome (slice_get blocks number)
-IsEventIn blocks _ = ⊥
+abbrev pub IsEpochsEvent : List BlockLine → Event → Type 0
+IsEpochsEvent blocks (Peer from bytes) = from < 2 ^ 32
+IsEpochsEvent blocks (Final number) = IsSome (slice_get blocks number)
+IsEpochsEvent blocks _ = ⊥
 
 -- a block of the script, or the height below one that is above height 0
 abbrev pub IsAnchorIn : List BlockLine → Anchor → Type 0
@@ -40,15 +40,15 @@ IsUncutBefore cut step = IfSome cut (λ its. its.call ≡ 0 → step < its.step)
 -- From its epoch's midpoint on, a block that comes while that epoch is awaited is one that the life follows.
 abbrev pub TakesEarly : Setting → (l : ℕ) → Life → Type 0
 TakesEarly s l life =
-    (j number : ℕ) (b : Block) → event_of_step life (suc j) ≡ Some (Final number) → IsUncutBefore life.cut (suc j) → block_at s number ≡ Some b
+    (j number : ℕ) (b : ScriptBlock) → event_of_step life (suc j) ≡ Some (Final number) → IsUncutBefore life.cut (suc j) → numbered_block s number ≡ Some b
     → midpoint (blocks_per_epoch s) (epoch_of (blocks_per_epoch s) b.height) ≤ b.height → epoch_of (blocks_per_epoch s) b.height ≡ awaited_epoch s l life j
-    → follows s l life (epoch_of (blocks_per_epoch s) b.height) ≡ true
+    → life_follows s l life (epoch_of (blocks_per_epoch s) b.height) ≡ true
 
 -- A life without material, whose events are of these kinds.
-pub record IsLifeIn (script : Script) (l : ℕ) (life : Life) : Type 0 where
+pub record IsEpochsLife (script : Script) (l : ℕ) (life : Life) : Type 0 where
   pub anchor : IfSome life.anchor (IsAnchorIn script.blocks)
   pub no_sync : life.sync ≡ None
-  pub events : AllByRecursion (IsEventIn script.blocks) life.events
+  pub events : AllByRecursion (IsEpochsEvent script.blocks) life.events
   pub takes : TakesEarly (alone script) l life
 
 -- what a block's payload is, if it has one, is read under the script's limits
@@ -66,4 +66,4 @@ pub record IsFormOfEpochs (script : Script) : Type 0 where
   pub short : non_zero_u64_get script.config.blocks_per_epoch < 2 ^ 64
   pub blocks : AllByRecursion (IsBlockIn script) script.blocks
   pub placed : AllByRecursion (λ block. block.height < 2 ^ 64) script.blocks
-  pub lives : (l : ℕ) (life : Life) → slice_get script.lives l ≡ Some life → IsLifeIn script l life
+  pub lives : (l : ℕ) (life : Life) → slice_get script.lives l ≡ Some life → IsEpochsLife script l life

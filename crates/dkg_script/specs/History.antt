@@ -14,35 +14,35 @@ use Rattle.dkg_infos.specs.NextInfos.{Provided, next_info}
 use Rattle.dkg_types.specs.Paths.{log_counts, logs_from}
 use Rattle.dkg_text.specs.declared.script.Event.TheVariants.{Final}
 use Rattle.dkg_text.specs.declared.script.Life.{Life}
-use Rattle.dkg_script.specs.Blocks.{Block, block_at, chain, known_info, round_at}
+use Rattle.dkg_script.specs.Blocks.{ScriptBlock, numbered_block, chain, known_info, round_at}
 use Rattle.dkg_script.specs.Consistent.{IsConsistentScript}
-use Rattle.dkg_script.specs.Position.{awaited_epoch, awaited_height, cut_of, event_of_step, follows}
+use Rattle.dkg_script.specs.Position.{awaited_epoch, awaited_height_after, cut_of, event_of_step, life_follows}
 use Rattle.dkg_script.specs.Readings.{Info}
 use Rattle.dkg_script.specs.Schedule.{last, midpoint}
 use Rattle.dkg_script.specs.Setting.{Setting, CutAt, blocks_per_epoch, life_at}
-use Rattle.dkg_script.specs.Views.{log_at}
+use Rattle.dkg_script.specs.Views.{log_with_height}
 
 -- THE CHAIN'S LOGS of an epoch
 
 -- its blocks at so many heights from one on
-abbrev pub chain_from : Setting → (height count : ℕ) → List Block
+abbrev pub chain_from : Setting → (height count : ℕ) → List ScriptBlock
 chain_from s height zero = []
 chain_from s height (suc count) = option_to_list (chain s height) ++ chain_from s (height + 1) count
 
 -- those that may carry logs of an epoch: from its midpoint on and below its last
-abbrev pub log_blocks : Setting → (epoch : ℕ) → List Block
+abbrev pub log_blocks : Setting → (epoch : ℕ) → List ScriptBlock
 log_blocks s epoch =
     let middle = midpoint (blocks_per_epoch s) epoch in chain_from s middle (last (blocks_per_epoch s) epoch - middle)
 
 -- of each dealer of the round the first log that counts
 abbrev pub chain_logs : Setting → Round → (epoch : ℕ) → LogMap
-chain_logs s round epoch = logs_from check_log_of (midpoint (blocks_per_epoch s) epoch) (last (blocks_per_epoch s) epoch) round (filter_map log_at (log_blocks s epoch))
+chain_logs s round epoch = logs_from check_log_of (midpoint (blocks_per_epoch s) epoch) (last (blocks_per_epoch s) epoch) round (filter_map log_with_height (log_blocks s epoch))
 
 -- PREMISES
 
 -- The chain's block at the height carries this log of the dealer, and it counts in the round,
 pub record CountsAt (s : Setting) (epoch : ℕ) (round : Round) (height dealer : ℕ) (log : DealerLog) : Type 0 where
-  pub block : Block
+  pub block : ScriptBlock
   pub chained : chain s height ≡ Some block
   pub signed : SignedDealerLog
   pub carried : block.log ≡ Some signed
@@ -57,7 +57,7 @@ IsFirstAt s epoch round height dealer = (lower : ℕ) (log : DealerLog) → lowe
 -- A log that is noted with a height stands there on the chain. One without stands below each height that a life awaits first which awaits its epoch at any step.
 abbrev pub StandsAtIts : Setting → (epoch height : ℕ) → Option ℕ → Type 0
 StandsAtIts s epoch height (Some noted) = noted ≡ height
-StandsAtIts s epoch height None = (l j : ℕ) (life : Life) → life_at s l ≡ Some life → awaited_epoch s l life j ≡ epoch → height < awaited_height s l life 0
+StandsAtIts s epoch height None = (l j : ℕ) (life : Life) → life_at s l ≡ Some life → awaited_epoch s l life j ≡ epoch → height < awaited_height_after s l life 0
 
 -- Each log that was handed in, of an epoch that a life comes to and whose round the script has, is its dealer's first one on the chain, and is noted at its height.
 abbrev pub AreChainLogs : Setting → Type 0
@@ -77,23 +77,23 @@ pub record WasSeen (s : Setting) (ends : List (Option CutAt)) (l epoch height : 
   pub life_is : life_at s before ≡ Some life
   pub step : ℕ
   pub number : ℕ
-  pub block : Block
+  pub block : ScriptBlock
   pub event : event_of_step life step ≡ Some (Final number)
   pub completed : WasCompleted ends before step
-  pub block_is : block_at s number ≡ Some block
+  pub block_is : numbered_block s number ≡ Some block
   pub height_is : block.height ≡ height
   pub awaited : awaited_epoch s before life (step - 1) ≡ epoch
-  pub took_part : follows s before life epoch ≡ false
+  pub took_part : life_follows s before life epoch ≡ false
 
 -- No block is missed between the midpoint of the epoch that a life begins in and its start, unless the life follows that epoch.
 abbrev pub MissesNone : Setting → List (Option CutAt) → Type 0
 MissesNone s ends =
-    (l height : ℕ) (life : Life) → life_at s l ≡ Some life → follows s l life (awaited_epoch s l life 0) ≡ false
-    → midpoint (blocks_per_epoch s) (awaited_epoch s l life 0) ≤ height → height < awaited_height s l life 0 → WasSeen s ends l (awaited_epoch s l life 0) height
+    (l height : ℕ) (life : Life) → life_at s l ≡ Some life → life_follows s l life (awaited_epoch s l life 0) ≡ false
+    → midpoint (blocks_per_epoch s) (awaited_epoch s l life 0) ≤ height → height < awaited_height_after s l life 0 → WasSeen s ends l (awaited_epoch s l life 0) height
 
 -- blocks of one digest are one
 abbrev pub IsOneDigest : Setting → Type 0
-IsOneDigest s = (one other : ℕ) (a b : Block) → block_at s one ≡ Some a → block_at s other ≡ Some b → a.digest ≡ b.digest → a ≡ b
+IsOneDigest s = (one other : ℕ) (a b : ScriptBlock) → numbered_block s one ≡ Some a → numbered_block s other ≡ Some b → a.digest ≡ b.digest → a ≡ b
 
 -- WHERE ANSWERS ARE FROM THE PATH
 pub record IsWholeHistory (s : Setting) (ends : List (Option CutAt)) : Type 0 where
@@ -103,7 +103,7 @@ pub record IsWholeHistory (s : Setting) (ends : List (Option CutAt)) : Type 0 wh
   pub missed : MissesNone s ends
 
 -- WHERE SHARES STAND: an epoch's last block carries the info that the chain's logs of the epoch make, whatever the provider says
-abbrev pub CarriesNext : Setting → Provided (List ℕ) → Block → Type 0
+abbrev pub CarriesNext : Setting → Provided (List ℕ) → ScriptBlock → Type 0
 CarriesNext s provided b =
     (epoch : ℕ) (info : Info) (round : Round) → b.height ≡ last (blocks_per_epoch s) epoch → known_info s epoch ≡ Some info → round_at s epoch ≡ Some round
     → b.info ≡ Some (next_info outcome_of provided info round (chain_logs s round epoch))

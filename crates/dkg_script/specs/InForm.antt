@@ -42,21 +42,21 @@ is_plain config = is_alone config && is_limit config && is_key config.me
 -- THE LIVES
 
 -- a message of the dealing channel, one of so many blocks, a request for a log or its release, or a message of a final block's request
-abbrev pub is_event : (blocks : ℕ) → Event → Bool
-is_event blocks (Peer from bytes) = is_key from
-is_event blocks (Final number) = nat_lt number blocks
-is_event blocks (Next request height) = true
-is_event blocks (Release height) = true
-is_event blocks (Info request) = true
-is_event blocks (Feed request number) = nat_lt number blocks
-is_event blocks (Over request) = true
-is_event blocks (Cancel request) = true
-is_event blocks Work = true
-is_event blocks _ = false
+abbrev pub is_event_in_form : (blocks : ℕ) → Event → Bool
+is_event_in_form blocks (Peer from bytes) = is_key from
+is_event_in_form blocks (Final number) = nat_lt number blocks
+is_event_in_form blocks (Next request height) = true
+is_event_in_form blocks (Release height) = true
+is_event_in_form blocks (Info request) = true
+is_event_in_form blocks (Feed request number) = nat_lt number blocks
+is_event_in_form blocks (Over request) = true
+is_event_in_form blocks (Cancel request) = true
+is_event_in_form blocks Work = true
+is_event_in_form blocks _ = false
 
 abbrev pub are_events : (blocks : ℕ) → List Event → Bool
 are_events blocks [] = true
-are_events blocks (event ∷ events) = is_event blocks event && are_events blocks events
+are_events blocks (event ∷ events) = is_event_in_form blocks event && are_events blocks events
 
 -- a life without material
 abbrev pub is_life : (blocks : ℕ) → Life → Bool
@@ -88,9 +88,9 @@ EpochsIsOfInclusion = (script : Script) → IsOfText script → IsFormOfEpochs s
 -- READING
 
 -- why nothing is read of a text that is no script
-abbrev pub refusal_of : ScriptError → ReadError
-refusal_of (error.Bad place) = Bad place
-refusal_of error.NoMemory = NoMemory
+abbrev pub read_refusal : ScriptError → ReadError
+read_refusal (error.Bad place) = Bad place
+read_refusal error.NoMemory = NoMemory
 
 -- What a call answered is what a text spells (`spelled`: the script, or the place of a text that is none), where scripts of another form
 -- are refused. Want of memory tells nothing.
@@ -101,6 +101,6 @@ ReadsInForm spelled (Err Unsupported) = (script : Script) × (spelled ≡ Ok scr
 ReadsInForm spelled (Err NoMemory) = Unit {0}
 
 -- what is told of bytes that are no script: the first line that no script has after the lines before it
-abbrev pub TellsPlace : (addressed : Bool) (bytes : List ℕ) → Result Script ReadError → Type 0
-TellsPlace addressed bytes (Err (Bad place)) = IsPlace addressed bytes place
-TellsPlace addressed bytes _ = Unit {0}
+abbrev pub TellsBadPlace : (addressed : Bool) (bytes : List ℕ) → Result Script ReadError → Type 0
+TellsBadPlace addressed bytes (Err (Bad place)) = IsPlace addressed bytes place
+TellsBadPlace addressed bytes _ = Unit {0}

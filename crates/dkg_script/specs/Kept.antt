@@ -19,7 +19,7 @@ use Rattle.dkg_script.specs.Readings.{dealing_in}
 use Rattle.dkg_script.specs.Setting.{Setting, me, limits, life_at, listed, recovered_from}
 use Rattle.dkg_script.specs.Blocks.{round_at}
 use Rattle.dkg_script.specs.Position.{event_of_step, awaited_epoch, begun, begun_before, cut_of}
-use Rattle.dkg_script.specs.Progress.{Progress, progress, AtEachEntry, pair_of, with_pair, IsValid, IsBrought}
+use Rattle.dkg_script.specs.Progress.{Progress, progress, AtEachEntry, pair_of, with_restored, IsValid, IsBrought}
 use Rattle.dkg_script.specs.Order.{InLife}
 use Rattle.dkg_script.specs.Due.{is_ack}
 
@@ -47,15 +47,15 @@ abbrev pub AllCurrent : ℕ → (Restored → Type 0) → List Restored → Type
 AllCurrent begun P pairs = AllByRecursion (λ pair. begun < pair.epoch + 2 → P pair) pairs
 
 -- by epoch and dealer, rising
-abbrev pub Rises : List Restored → Type 0
-Rises pairs = T (is_sorted key_cmp (map (λ pair. ((pair.epoch, pair.dealer), pair)) pairs))
+abbrev pub ArePairsRising : List Restored → Type 0
+ArePairsRising pairs = T (is_sorted key_cmp (map (λ pair. ((pair.epoch, pair.dealer), pair)) pairs))
 
 -- A later opening lists each recorded dealing that is still current, and nothing but recorded dealings, by epoch and
 -- dealer rising.
 pub record IsLaterOpening (s : Setting) (p : Progress) (restored : List Restored) : Type 0 where
   pub lists : AllCurrent (begun_before s p.cuts (length p.cuts)) (Contains restored) p.recorded
-  pub rising : Rises restored
-  pub sound : AllByRecursion (λ pair. IsRecordedAs p.recorded (fold with_pair p.recorded restored) pair (IsBroughtAtCut s p pair)) restored
+  pub rising : ArePairsRising restored
+  pub sound : AllByRecursion (λ pair. IsRecordedAs p.recorded (fold with_restored p.recorded restored) pair (IsBroughtAtCut s p pair)) restored
 
 -- the first opening lists what the devices handed in give back
 abbrev pub IsSoundOpening : Setting → Progress → List Restored → Type 0
@@ -85,7 +85,7 @@ abbrev pub IsSound : Setting → Progress → Entry → Type 0
 IsSound s p (Opened life restored) = IsSoundOpening s p restored
 IsSound s p (Recorded epoch dealer public private) =
     let pair : Restored = record { epoch = epoch; dealer = dealer; public = public; private = private }
-    in IsRecordedAs p.recorded (with_pair p.recorded pair) pair (IsBroughtNow s p pair)
+    in IsRecordedAs p.recorded (with_restored p.recorded pair) pair (IsBroughtNow s p pair)
 IsSound s p (Ack epoch dealer ack) = InLife s p (IsSoundAck s p epoch dealer ack)
 IsSound s p other = Unit {0}
 

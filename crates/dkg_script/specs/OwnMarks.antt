@@ -12,7 +12,7 @@ use Rattle.dkg_text.specs.declared.script.Event.{Event}
 use Rattle.dkg_text.specs.declared.script.Event.TheVariants.{Final}
 use Rattle.dkg_script.specs.Schedule.{epoch_of}
 use Rattle.dkg_script.specs.Setting.{Setting, me, blocks_per_epoch, life_at, listed, recovered_from}
-use Rattle.dkg_script.specs.Blocks.{Block, block_at, round_at}
+use Rattle.dkg_script.specs.Blocks.{ScriptBlock, numbered_block, round_at}
 use Rattle.dkg_script.specs.Position.{event_of_step}
 use Rattle.dkg_script.specs.Progress.{Progress, AtEachEntry, pair_of}
 
@@ -22,11 +22,11 @@ IsOwnMarkKnown s pairs epoch dealer log =
     IfSome (round_at s epoch) (λ round. IsTrue (bears_ack_of round dealer log (me s))
     → IsSomeAnd (pair_of pairs epoch dealer) (λ pair. log.public ≡ pair.public))
 
-abbrev pub IsKnownInBlock : Setting → List Restored → Block → Type 0
+abbrev pub IsKnownInBlock : Setting → List Restored → ScriptBlock → Type 0
 IsKnownInBlock s pairs b = IfSome b.log (λ signed. IsOwnMarkKnown s pairs (epoch_of (blocks_per_epoch s) b.height) signed.dealer signed.log)
 
 abbrev pub IsKnownInEvent : Setting → List Restored → Event → Type 0
-IsKnownInEvent s pairs (Final number) = IfSome (block_at s number) (IsKnownInBlock s pairs)
+IsKnownInEvent s pairs (Final number) = IfSome (numbered_block s number) (IsKnownInBlock s pairs)
 IsKnownInEvent s pairs _ = Unit {0}
 
 abbrev pub IsKnownInStep : Setting → Progress → Type 0

@@ -10,9 +10,9 @@ use Rattle.dkg_text.specs.declared.script.Anchor.TheVariants.{Processed, Absent}
 use Rattle.dkg_text.specs.declared.script.Event.{Event}
 use Rattle.dkg_text.specs.declared.script.Life.{Life}
 use Rattle.dkg_script.specs.Schedule.{epoch_of, boundary, midpoint, last}
-use Rattle.dkg_script.specs.Readings.{Material}
+use Rattle.dkg_script.specs.Readings.{SyncMaterial}
 use Rattle.dkg_script.specs.Setting.{Setting, CutAt, blocks_per_epoch, is_oneshot, life_at, found}
-use Rattle.dkg_script.specs.Blocks.{Block, block_at, used, delivered_number, events_come_to, held_at_opening, provided, handed_in}
+use Rattle.dkg_script.specs.Blocks.{ScriptBlock, numbered_block, used, delivered_number, events_come_to, held_at_opening, provided_material, handed_in}
 
 -- STEPS. The opening is step 0, and event number j, from 1, is step j.
 
@@ -30,34 +30,34 @@ abbrev pub cut_of : List (Option CutAt) → ℕ → Option CutAt
 cut_of cuts l = option_flatten (slice_get cuts l)
 
 -- the blocks delivered by the first n events, without those from a step on before which the script cuts the life
-abbrev pub delivered : Setting → Life → ℕ → List Block
-delivered s life n = filter_map (block_at s) (filter_map delivered_number (take n (events_come_to life.cut life.events)))
+abbrev pub delivered : Setting → Life → ℕ → List ScriptBlock
+delivered s life n = filter_map (numbered_block s) (filter_map delivered_number (take n (events_come_to life.cut life.events)))
 
 -- START MATERIAL
 
 -- the height above the position that the source tells: 0 where it tells none
 abbrev pub height_after_anchor : Setting → Option Anchor → ℕ
 height_after_anchor s None = 0
-height_after_anchor s (Some (Processed number)) = option_map_or (λ b. suc b.height) (block_at s number) 0
-height_after_anchor s (Some (Absent number)) = option_map_or (λ b. b.height) (block_at s number) 0
+height_after_anchor s (Some (Processed number)) = option_map_or (λ b. suc b.height) (numbered_block s number) 0
+height_after_anchor s (Some (Absent number)) = option_map_or (λ b. b.height) (numbered_block s number) 0
 
 -- the source is in an epoch past the floor's already: the material is deleted
-abbrev pub is_outdated : Setting → Life → Material → Bool
-is_outdated s life m = nat_lt m.epoch (epoch_of (blocks_per_epoch s) (height_after_anchor s life.anchor))
+abbrev pub is_sync_outdated : Setting → Life → SyncMaterial → Bool
+is_sync_outdated s life m = nat_lt m.epoch (epoch_of (blocks_per_epoch s) (height_after_anchor s life.anchor))
 
-abbrev pub unless_outdated : Setting → Life → Option Material → Option Material
+abbrev pub unless_outdated : Setting → Life → Option SyncMaterial → Option SyncMaterial
 unless_outdated s life None = None
-unless_outdated s life (Some m) = if is_outdated s life m then None else Some m
+unless_outdated s life (Some m) = if is_sync_outdated s life m then None else Some m
 
 -- the material that the life starts from: what it provides, else what it finds
-abbrev pub material : Setting → ℕ → Life → Option Material
-material s l life = if is_oneshot s then None else unless_outdated s life (option_or (provided s life) (found s l))
+abbrev pub material : Setting → ℕ → Life → Option SyncMaterial
+material s l life = if is_oneshot s then None else unless_outdated s life (option_or (provided_material s life) (found s l))
 
 -- What the plan holds after the life. One whose opening is cut may also leave what it found, or what it provides.
-abbrev pub IsLeft : Setting → ℕ → Life → Option CutAt → Option Material → Type 0
+abbrev pub IsLeft : Setting → ℕ → Life → Option CutAt → Option SyncMaterial → Type 0
 IsLeft s l life cut new =
     (new ≡ (if is_oneshot s then found s l else material s l life))
-    ⊎ ((option_map (λ c. c.step) cut ≡ Some 0) × ((new ≡ found s l) ⊎ (IsSome (provided s life) × (new ≡ provided s life))))
+    ⊎ ((option_map (λ c. c.step) cut ≡ Some 0) × ((new ≡ found s l) ⊎ (IsSome (provided_material s life) × (new ≡ provided_material s life))))
 
 -- what the next life finds is what this one leaves
 abbrev pub IsNextFound : Setting → List (Option CutAt) → ℕ → Type 0
@@ -71,21 +71,21 @@ pub record IsPlanHistory (s : Setting) (cuts : List (Option CutAt)) : Type 0 whe
 -- POSITION. The position is one below the awaited height, and there is none where that is 0.
 
 -- the block of a material's floor: among those that the life holds, else among all
-abbrev pub floor_block : Setting → Life → Material → Option Block
+abbrev pub floor_block : Setting → Life → SyncMaterial → Option ScriptBlock
 floor_block s life m = find (λ b. bytes_eq b.digest m.floor) (held_at_opening s life ++ used s)
 
-abbrev pub height_of_floor : Setting → Life → Option Material → ℕ
+abbrev pub height_of_floor : Setting → Life → Option SyncMaterial → ℕ
 height_of_floor s life m = option_map_or (λ b. b.height) (option_and_then (floor_block s life) m) 0
 
-abbrev pub start_height : Setting → ℕ → Life → ℕ
-start_height s l life = max (height_after_anchor s life.anchor) (height_of_floor s life (material s l life))
+abbrev pub first_height : Setting → ℕ → Life → ℕ
+first_height s l life = max (height_after_anchor s life.anchor) (height_of_floor s life (material s l life))
 
 -- the height that is awaited after the first n events
-unfoldable pub awaited_height : Setting → ℕ → Life → ℕ → ℕ
-awaited_height s l life n = fold (λ height b. max height (suc b.height)) (start_height s l life) (delivered s life n)
+unfoldable pub awaited_height_after : Setting → ℕ → Life → ℕ → ℕ
+awaited_height_after s l life n = fold (λ height b. max height (suc b.height)) (first_height s l life) (delivered s life n)
 
 abbrev pub awaited_epoch : Setting → ℕ → Life → ℕ → ℕ
-awaited_epoch s l life n = epoch_of (blocks_per_epoch s) (awaited_height s l life n)
+awaited_epoch s l life n = epoch_of (blocks_per_epoch s) (awaited_height_after s l life n)
 
 -- the same of a life by its number
 abbrev pub awaited_epoch_in : Setting → ℕ → ℕ → ℕ
@@ -128,17 +128,17 @@ starts_late s l life =
     (option_and_then (floor_block s life) (material s l life)) false
 
 -- a life without a position, whose first block comes from this epoch
-abbrev pub enters_at : Setting → ℕ → Life → ℕ → Bool
-enters_at s l life epoch =
-    (start_height s l life == 0)
+abbrev pub enters_blind_at : Setting → ℕ → Life → ℕ → Bool
+enters_blind_at s l life epoch =
+    (first_height s l life == 0)
     && option_map_or (λ b. epoch_of (blocks_per_epoch s) b.height == epoch) (slice_get (delivered s life (length life.events)) 0) false
 
 -- the life takes no part in the epoch
-abbrev pub follows : Setting → ℕ → Life → ℕ → Bool
-follows s l life epoch =
+abbrev pub life_follows : Setting → ℕ → Life → ℕ → Bool
+life_follows s l life epoch =
     not (is_oneshot s)
     && (((epoch == awaited_epoch s l life 0) && (starts_late s l life || starts_blind s l life))
-    || (starts_blind s l life && enters_at s l life epoch))
+    || (starts_blind s l life && enters_blind_at s l life epoch))
 
 -- FINISHED (one-shot mode alone)
 
@@ -157,8 +157,8 @@ lacks_address s =
     s.script.addressed
     && option_map_or (λ participants. not (list_all (λ k. has_key k (keys_of s.script.config.addresses)) participants)) s.script.config.oneshot false
 
-abbrev pub is_finished : Setting → List (Option CutAt) → ℕ → Life → Bool
-is_finished s cuts l life =
+abbrev pub is_oneshot_finished : Setting → List (Option CutAt) → ℕ → Life → Bool
+is_oneshot_finished s cuts l life =
     is_oneshot s
-    && (nat_lt (last (blocks_per_epoch s) 0) (start_height s l life) || is_some (get s.secrets.shares 0)
+    && (nat_lt (last (blocks_per_epoch s) 0) (first_height s l life) || is_some (get s.secrets.shares 0)
     || any_below (saw_last s cuts) l || lacks_address s)

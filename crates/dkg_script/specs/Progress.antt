@@ -32,8 +32,8 @@ abbrev pub pair_of : List Restored → ℕ → ℕ → Option Restored
 pair_of pairs epoch dealer = find (has_pair_key epoch dealer) pairs
 
 -- the first dealing of a key stays
-abbrev pub with_pair : List Restored → Restored → List Restored
-with_pair pairs pair = if is_some (pair_of pairs pair.epoch pair.dealer) then pairs else pairs ++ pair ∷ []
+abbrev pub with_restored : List Restored → Restored → List Restored
+with_restored pairs pair = if is_some (pair_of pairs pair.epoch pair.dealer) then pairs else pairs ++ pair ∷ []
 
 abbrev pub is_last_step : Setting → Progress → Bool
 is_last_step s p = option_map_or (λ life. p.step == length life.events) (life_at s (length p.cuts)) false
@@ -47,10 +47,10 @@ with_life_ended p cut = record p { cuts = p.cuts ++ cut ∷ []; step = 0; writte
 -- the progress after one more entry
 abbrev pub read : Setting → Progress → Entry → Progress
 read s p (Opened life restored) =
-    record (with_written p (Opened life restored)) { recorded = fold with_pair p.recorded restored; opened = Some (length p.cuts) }
+    record (with_written p (Opened life restored)) { recorded = fold with_restored p.recorded restored; opened = Some (length p.cuts) }
 read s p (Recorded epoch dealer public private) =
     record (with_written p (Recorded epoch dealer public private)) {
-      recorded = with_pair p.recorded (record { epoch = epoch; dealer = dealer; public = public; private = private });
+      recorded = with_restored p.recorded (record { epoch = epoch; dealer = dealer; public = public; private = private });
     }
 read s p (Cut step call) = with_life_ended p (Some (record { step = step; call = call }))
 read s p (Step step) = if is_last_step s p then with_life_ended p None else record p { step = suc p.step; written = [] }

@@ -10,21 +10,21 @@ use Rattle.dkg_secrets.specs.Secrets.{Secrets}
 use Rattle.dkg_infos.specs.declared.entry.Entry.{Entry}
 use Rattle.dkg_infos.specs.declared.entry.Entry.TheVariants.{Step}
 use Rattle.dkg_text.specs.declared.script.Script.{Script}
-use Rattle.dkg_script.specs.Readings.{Material}
+use Rattle.dkg_script.specs.Readings.{SyncMaterial}
 use Rattle.dkg_script.specs.Inclusion.{IsFormOfInclusion}
 use Rattle.dkg_script.specs.Setting.{Setting, CutAt, setting_of}
 use Rattle.dkg_script.specs.Position.{IsPlanHistory}
 use Rattle.dkg_script.specs.Progress.{progress}
 use Rattle.dkg_script.specs.AsCut.{setting_as_cut}
 use Rattle.dkg_script.specs.Consistent.{IsConsistentScript}
-use Rattle.dkg_script.specs.Due.{IsDue, WroteAck}
+use Rattle.dkg_script.specs.Due.{IsDueNow, WroteAck}
 use Rattle.dkg_script.specs.Order.{InOrder}
 use Rattle.dkg_script.specs.Kept.{Kept}
 use Rattle.dkg_script.specs.OwnMarks.{OwnMarks}
 
 -- THE CASES OF THE PLAN
 
-abbrev pub with_plans : Setting → List (Option Material) → Setting
+abbrev pub with_plans : Setting → List (Option SyncMaterial) → Setting
 with_plans s plans = record s { plans = plans }
 
 abbrev pub cuts_in : Setting → List Entry → List (Option CutAt)
@@ -32,11 +32,11 @@ cuts_in s out = (progress s out).cuts
 
 -- P in each case of what the plan may have held as the lives up to the one in hand opened
 abbrev pub InEachCase : Setting → List (Option CutAt) → (Setting → Type 0) → Type 0
-InEachCase s cuts P = (plans : List (Option Material)) → IsPlanHistory (with_plans s plans) cuts → P (with_plans s plans)
+InEachCase s cuts P = (plans : List (Option SyncMaterial)) → IsPlanHistory (with_plans s plans) cuts → P (with_plans s plans)
 
 -- P in the case that it was
 abbrev pub InACase : Setting → List (Option CutAt) → (Setting → Type 0) → Type 0
-InACase s cuts P = (plans : List (Option Material)) × IsPlanHistory (with_plans s plans) cuts × P (with_plans s plans)
+InACase s cuts P = (plans : List (Option SyncMaterial)) × IsPlanHistory (with_plans s plans) cuts × P (with_plans s plans)
 
 -- PREMISES
 
@@ -61,7 +61,7 @@ pub record IsHonestRun (s : Setting) (image : Files → Type 0) (ends : List (Op
 -- of the step in hand was written in it.
 abbrev pub IsAnswered : Setting → (before : List Entry) → Type 0
 IsAnswered s before =
-    OwnMarks s before → InEachCase s (cuts_in s before) (λ case. IsDue case (progress s before)) → WroteAck (progress s before).written
+    OwnMarks s before → InEachCase s (cuts_in s before) (λ case. IsDueNow case (progress s before)) → WroteAck (progress s before).written
 
 -- every life was run to its cut or its end, and each completed step is so answered
 pub record IsComplete (s : Setting) (out : List Entry) : Type 0 where

@@ -25,17 +25,17 @@ pub record Limits : Type 0 where
 -- MESSAGES
 
 -- both halves of a dealing
-pub record Halves : Type 0 where
+pub record BothHalves : Type 0 where
   pub public : List ℕ
   pub private : ℕ
 
-abbrev pub halves_of : Message → Option Halves
-halves_of (Dealer public private) = Some (record { public = public; private = private })
-halves_of (Ack ack) = None
+abbrev pub halves_in : Message → Option BothHalves
+halves_in (Dealer public private) = Some (record { public = public; private = private })
+halves_in (Ack ack) = None
 
 -- the dealing that a message of the dealing channel brings
-unfoldable pub dealing_in : Limits → List ℕ → Option Halves
-dealing_in limits bytes = option_and_then halves_of (result_ok (whole (message_at limits.limit bytes)))
+unfoldable pub dealing_in : Limits → List ℕ → Option BothHalves
+dealing_in limits bytes = option_and_then halves_in (result_ok (whole (message_at limits.limit bytes)))
 
 -- PAYLOADS
 
@@ -70,7 +70,7 @@ log_in limits bytes = if limits.addressed then None else option_and_then its_log
 -- START MATERIAL
 
 -- the material of a state sync: an epoch's info, and the epoch and the digest of the floor's block
-pub record Material : Type 0 where
+pub record SyncMaterial : Type 0 where
   pub info : Info
   pub epoch : ℕ
   pub floor : List ℕ
@@ -82,11 +82,11 @@ number_of_64_at = uint_at (2 ^ 64 - 1)
 abbrev pub floor_at : List ℕ → Reading (ℕ × (ℕ × (ℕ × (List ℕ × List ℕ))))
 floor_at = beside_at number_of_64_at (beside_at number_of_64_at (beside_at number_of_64_at (beside_at (bytes_at 32) (bytes_at 8))))
 
-abbrev pub material_from : {Dir : Type 0} → (Dir → List ℕ) → EpochInfo Dir × (ℕ × (ℕ × (ℕ × (List ℕ × List ℕ)))) → Material
-material_from spelling m = record { info = with_spelled spelling m.0; epoch = m.1.0; floor = m.1.1.1.1.0 }
+abbrev pub material_read : {Dir : Type 0} → (Dir → List ℕ) → EpochInfo Dir × (ℕ × (ℕ × (ℕ × (List ℕ × List ℕ)))) → SyncMaterial
+material_read spelling m = record { info = with_spelled spelling m.0; epoch = m.1.0; floor = m.1.1.1.1.0 }
 
 -- the material that the plan's file holds
-unfoldable pub material_in : Limits → List ℕ → Option Material
+unfoldable pub material_in : Limits → List ℕ → Option SyncMaterial
 material_in limits bytes =
     if limits.addressed then None
-    else option_map (material_from unit_spelling) (result_ok (whole (beside_at (info_at (λ _. unit_at) (λ _ _. true) limits.limit limits.version) floor_at bytes)))
+    else option_map (material_read unit_spelling) (result_ok (whole (beside_at (info_at (λ _. unit_at) (λ _ _. true) limits.limit limits.version) floor_at bytes)))

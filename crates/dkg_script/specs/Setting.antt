@@ -10,7 +10,7 @@ use Rattle.dkg_secrets.specs.Secrets.{Secrets}
 use Rattle.dkg_infos.specs.declared.entry.Restored.{Restored}
 use Rattle.dkg_text.specs.declared.script.Life.{Life}
 use Rattle.dkg_text.specs.declared.script.Script.{Script}
-use Rattle.dkg_script.specs.Readings.{Limits, Material}
+use Rattle.dkg_script.specs.Readings.{Limits, SyncMaterial}
 
 pub record Setting : Type 0 where
   pub script : Script
@@ -18,7 +18,7 @@ pub record Setting : Type 0 where
   pub files : Files
   pub secrets : Secrets
   -- one case of the start material that the plan held as each life opened
-  pub plans : List (Option Material)
+  pub plans : List (Option SyncMaterial)
 
 abbrev pub setting_of : Script → Files → Secrets → Setting
 setting_of script files secrets = record { script = script; files = files; secrets = secrets; plans = [] }
@@ -44,7 +44,7 @@ abbrev pub life_at : Setting → ℕ → Option Life
 life_at s l = slice_get s.script.lives l
 
 -- the stored start material that the life finds
-abbrev pub found : Setting → ℕ → Option Material
+abbrev pub found : Setting → ℕ → Option SyncMaterial
 found s l = option_flatten (slice_get s.plans l)
 
 -- where the transcript says that a life was cut: within or before this step, at this device call (0: before it)

@@ -14,11 +14,11 @@ use Rattle.dkg_text.specs.declared.script.Event.{Event}
 use Rattle.dkg_text.specs.declared.script.Event.TheVariants as kind
 use Rattle.dkg_text.specs.declared.script.Event.TheVariants.{Final}
 use Rattle.dkg_text.specs.declared.script.Life.{Life}
-use Rattle.dkg_script.specs.Blocks.{Block, block_at, known_info, reshare_round, round_at, used}
+use Rattle.dkg_script.specs.Blocks.{ScriptBlock, numbered_block, known_info, reshare_round, round_at, used}
 use Rattle.dkg_script.specs.Consistent.{IsConsistentScript}
 use Rattle.dkg_script.specs.Epochs.{IsUncutBefore}
 use Rattle.dkg_script.specs.Players.{players_at}
-use Rattle.dkg_script.specs.Position.{awaited_epoch, awaited_height, event_of_step, follows}
+use Rattle.dkg_script.specs.Position.{awaited_epoch, awaited_height_after, event_of_step, life_follows}
 use Rattle.dkg_script.specs.Promise.{InEachCase}
 use Rattle.dkg_script.specs.Readings.{Info}
 use Rattle.dkg_script.specs.Schedule.{boundary, epoch_of, last}
@@ -27,8 +27,8 @@ use Rattle.dkg_script.specs.Setting.{Setting, CutAt, blocks_per_epoch, life_at, 
 -- DELIVERIES: each block that a life is brought stands at the height that is awaited, or at or below the position; a life that follows without a position takes any first block.
 abbrev pub ComesInTurn : Setting → (l : ℕ) → Life → Type 0
 ComesInTurn s l life =
-    (j number : ℕ) (b : Block) → event_of_step life (suc j) ≡ Some (Final number) → IsUncutBefore life.cut (suc j) → block_at s number ≡ Some b
-    → (b.height ≤ awaited_height s l life j) ⊎ ((awaited_height s l life j ≡ 0) × (follows s l life 0 ≡ true))
+    (j number : ℕ) (b : ScriptBlock) → event_of_step life (suc j) ≡ Some (Final number) → IsUncutBefore life.cut (suc j) → numbered_block s number ≡ Some b
+    → (b.height ≤ awaited_height_after s l life j) ⊎ ((awaited_height_after s l life j ≡ 0) × (life_follows s l life 0 ≡ true))
 
 -- PROVIDER: where an epoch that a life takes part in ends, or the info that will end it is asked for, there are players for the epoch two above, and no more than the limit.
 
@@ -36,15 +36,15 @@ abbrev pub HasPlayers : Setting → (epoch : ℕ) → Type 0
 HasPlayers s epoch = let players = players_at s.script.config.players epoch in (0 < length players) × (length players ≤ (limits s).limit)
 
 -- an info is asked for, or a block delivered that is the last of the epoch
-abbrev pub EndsEpoch : Setting → (epoch : ℕ) → Event → Type 0
-EndsEpoch s epoch (kind.Info request) = ⊤
-EndsEpoch s epoch (kind.Final number) = IsSomeAnd (block_at s number) (λ b. b.height ≡ last (blocks_per_epoch s) epoch)
-EndsEpoch s epoch _ = ⊥
+abbrev pub MayEndEpoch : Setting → (epoch : ℕ) → Event → Type 0
+MayEndEpoch s epoch (kind.Info request) = ⊤
+MayEndEpoch s epoch (kind.Final number) = IsSomeAnd (numbered_block s number) (λ b. b.height ≡ last (blocks_per_epoch s) epoch)
+MayEndEpoch s epoch _ = ⊥
 
 abbrev pub ProvidesNext : Setting → (l : ℕ) → Life → Type 0
 ProvidesNext s l life =
-    (j : ℕ) (event : Event) → event_of_step life (suc j) ≡ Some event → IsUncutBefore life.cut (suc j) → EndsEpoch s (awaited_epoch s l life j) event
-    → follows s l life (awaited_epoch s l life j) ≡ false → HasPlayers s (awaited_epoch s l life j + 2)
+    (j : ℕ) (event : Event) → event_of_step life (suc j) ≡ Some event → IsUncutBefore life.cut (suc j) → MayEndEpoch s (awaited_epoch s l life j) event
+    → life_follows s l life (awaited_epoch s l life j) ≡ false → HasPlayers s (awaited_epoch s l life j + 2)
 
 -- RANGE: the heights of the epoch of this one are numbers of 64 bits.
 abbrev pub LiesInRange : Setting → (height : ℕ) → Type 0
@@ -53,17 +53,17 @@ LiesInRange s height = last (blocks_per_epoch s) (epoch_of (blocks_per_epoch s) 
 -- INFOS
 
 -- who deals to whom by an info: the players of its output deal to its players
-abbrev pub participants_in : Info → Participants
-participants_in i = record { dealers = i.output.players; players = i.players; next_players = i.next_players }
+abbrev pub participants_by : Info → Participants
+participants_by i = record { dealers = i.output.players; players = i.players; next_players = i.next_players }
 
 -- An info is of the epoch, its participants may take part in the epoch's round under the script's limit, and make one.
 pub record ServesIn (s : Setting) (epoch : ℕ) (info : Info) : Type 0 where
   pub of_epoch : info.epoch ≡ epoch
-  pub accepted : validation (participants_in info) (limits s).limit (Some info.output) epoch ≡ Ok tt
+  pub accepted : validation (participants_by info) (limits s).limit (Some info.output) epoch ≡ Ok tt
   pub round : IsSome (reshare_round s epoch info)
 
 -- a block that begins an epoch carries such an info of that epoch
-abbrev pub BeginsWell : Setting → Block → Type 0
+abbrev pub BeginsWell : Setting → ScriptBlock → Type 0
 BeginsWell s b = (epoch : ℕ) → b.height ≡ boundary (blocks_per_epoch s) epoch → IsSomeAnd b.info (ServesIn s epoch)
 
 -- THE SCRIPT, where its first lives ended so, in one case of what the plan held

@@ -11,12 +11,12 @@ use Rattle.dkg_infos.specs.NextInfos.{Provided}
 use Rattle.dkg_types.specs.PayloadCodes.{its_log, payload_spelling}
 use Rattle.dkg_infos.specs.Units.{unit_spelling}
 use Rattle.dkg_text.specs.declared.script.BlockLine.{BlockLine}
-use Rattle.dkg_script.specs.Blocks.{Block, zeros}
+use Rattle.dkg_script.specs.Blocks.{ScriptBlock, zeros}
 use Rattle.dkg_script.specs.Readings.{Limits, unit_payload, with_spelled}
 use Rattle.dkg_script.specs.Schedule.{epoch_of}
 use Rattle.dkg_script.specs.Setting.{Setting, blocks_per_epoch}
 
-abbrev pub seen_with : {Dir : Type 0} → (Dir → List ℕ) → (height : ℕ) → (digest parent : List ℕ) → (view : ℕ) → Option (Payload Dir) → Block
+abbrev pub seen_with : {Dir : Type 0} → (Dir → List ℕ) → (height : ℕ) → (digest parent : List ℕ) → (view : ℕ) → Option (Payload Dir) → ScriptBlock
 seen_with spelling height digest parent view payload = record {
   height = height;
   digest = digest;
@@ -28,7 +28,7 @@ seen_with spelling height digest parent view payload = record {
 }
 
 -- a node's block, as a block of a script (an info is seen so by `with_spelled`)
-abbrev pub seen_block : {Dir : Type 0} → (Dir → List ℕ) → made.Block Dir → Block
+abbrev pub seen_block : {Dir : Type 0} → (Dir → List ℕ) → made.Block Dir → ScriptBlock
 seen_block spelling b = seen_with spelling b.height b.digest b.parent b.context.view b.payload
 
 -- what a provider says
@@ -36,8 +36,8 @@ abbrev pub seen_provided : {Dir : Type 0} → (Dir → List ℕ) → Provided Di
 seen_provided spelling provided = record { participants = provided.participants; directory = λ epoch peers. spelling (provided.directory epoch peers) }
 
 -- the log that a script's block carries, at the block's height
-abbrev pub log_at : Block → Option (ℕ × SignedDealerLog)
-log_at b = option_map (λ log. (b.height, log)) b.log
+abbrev pub log_with_height : ScriptBlock → Option (ℕ × SignedDealerLog)
+log_with_height b = option_map (λ log. (b.height, log)) b.log
 
 -- the payload of a line, as a node without addresses reads it, and spells it again
 abbrev pub IsPayloadOf : Limits → Option (List ℕ) → Option (Payload directory.Unit) → Type 0
@@ -46,7 +46,7 @@ IsPayloadOf limits (Some bytes) (Some payload) = (unit_payload limits bytes ≡ 
 IsPayloadOf limits _ _ = ⊥
 
 -- the digest of the block that a line names as its parent, among the blocks of the lines before it
-abbrev pub parent_digest : List Block → BlockLine → List ℕ
+abbrev pub parent_digest : List ScriptBlock → BlockLine → List ℕ
 parent_digest before line = option_map_or (λ b. b.digest) (option_and_then (slice_get before) line.parent) zeros
 
 -- where the block of a line is proposed

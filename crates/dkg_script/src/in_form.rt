@@ -2,7 +2,7 @@
 ghost use Rattle.std.specs.Bool.{OnFalse, OnTrue};
 ghost use Rattle.std.specs.Prelude.{◌≡◌, ◌<◌, ◌^◌, IfOk, length};
 ghost use Rattle.std.specs.Int.NonZero.{non_zero_u64_get};
-ghost use Rattle.dkg_script.specs.InForm.{IsOfText, IsToldNothing, are_events as are_events_of, are_lives as are_lives_of, is_alone as is_alone_of, is_in_form as is_in_form_of, is_event as is_event_of, is_key as is_key_of, is_life as is_life_of, is_limit as is_limit_of, is_plain as is_plain_of};
+ghost use Rattle.dkg_script.specs.InForm.{IsOfText, IsToldNothing, are_events as are_events_of, are_lives as are_lives_of, is_alone as is_alone_of, is_in_form as is_in_form_of, is_event_in_form as is_event_of, is_key as is_key_of, is_life as is_life_of, is_limit as is_limit_of, is_plain as is_plain_of};
 ghost use Rattle.dkg_script.specs.Inclusion.{IsFormOfInclusion};
 
 use dkg_ceremony::Mem;

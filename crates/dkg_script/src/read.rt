@@ -4,7 +4,7 @@
 //! requests for logs, and messages of final blocks' requests.
 ghost use Rattle.std.specs.Prelude.{◌≡◌, IfOk};
 ghost use Rattle.dkg_reading.specs.Grammar.{script_or_place};
-ghost use Rattle.dkg_script.specs.InForm.{ReadsInForm, TellsPlace, refusal_of};
+ghost use Rattle.dkg_script.specs.InForm.{ReadsInForm, TellsBadPlace, read_refusal};
 ghost use Rattle.dkg_script.specs.Inclusion.{IsFormOfInclusion};
 ghost use Rattle.dkg_script.specs.declared.read.ReadError.TheVariants.{NoMemory as OutOfMemory};
 
@@ -38,7 +38,7 @@ impl From<NoMemory> for ReadError {
 }
 
 impl From<ScriptError> for ReadError {
-    ghost from_gives = { λ error e. e ≡ refusal_of error };
+    ghost from_gives = { λ error e. e ≡ read_refusal error };
 
     fn from(error: ScriptError) -> ReadError {
         match error {
@@ -59,7 +59,7 @@ pub fn read_in_form(alloc: Global, bytes: &[u8], addressed: bool) -> Result<Scri
     // What is read is what the bytes spell, and what they spell is read or refused by its form, unless memory runs out.
     ensures reads { ReadsInForm (script_or_place addressed bytes.now) result }
     // Some script's text begins with the lines before the place that is told, and none's goes on with the line there.
-    ensures place { TellsPlace addressed bytes.now result }
+    ensures place { TellsBadPlace addressed bytes.now result }
     ensures form { IfOk result IsFormOfInclusion }
 {
     let script = read_script(alloc, bytes, addressed)?;

@@ -13,13 +13,13 @@ Leaves (CutIn op pick) old new = Tries op old new × ((new ≡ after_cut op pick
 Leaves (Crashes pick) old new = new ≡ old
 
 -- one after another, and no others
-abbrev pub Made : List (DeviceCall SecretOp) → Secrets → Secrets → Type 0
-Made [] old new = new ≡ old
-Made (call ∷ calls) old new = (mid : Secrets) × Leaves call old mid × Made calls mid new
+abbrev pub MadeSecrets : List (DeviceCall SecretOp) → Secrets → Secrets → Type 0
+MadeSecrets [] old new = new ≡ old
+MadeSecrets (call ∷ calls) old new = (mid : Secrets) × Leaves call old mid × MadeSecrets calls mid new
 
-pub made_both : (xs ys : List (DeviceCall SecretOp)) (a b c : Secrets) → Made xs a b → Made ys b c → Made (xs ++ ys) a c
-made_both [] ys a b c first second = subst (λ s. Made ys s c) first second
-made_both (call ∷ xs) ys a b c first second = (first.0, first.1, made_both xs ys first.0 b c first.2 second)
+pub secrets_made_both : (xs ys : List (DeviceCall SecretOp)) (a b c : Secrets) → MadeSecrets xs a b → MadeSecrets ys b c → MadeSecrets (xs ++ ys) a c
+secrets_made_both [] ys a b c first second = subst (λ s. MadeSecrets ys s c) first second
+secrets_made_both (call ∷ xs) ys a b c first second = (first.0, first.1, secrets_made_both xs ys first.0 b c first.2 second)
 
-pub made_one : (call : DeviceCall SecretOp) (s t : Secrets) → Leaves call s t → Made (call ∷ []) s t
-made_one call s t leaves = (t, leaves, refl)
+pub secrets_made_one : (call : DeviceCall SecretOp) (s t : Secrets) → Leaves call s t → MadeSecrets (call ∷ []) s t
+secrets_made_one call s t leaves = (t, leaves, refl)

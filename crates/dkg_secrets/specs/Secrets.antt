@@ -44,11 +44,11 @@ MayDo op old new = (new ≡ old) ⊎ (new ≡ after op old)
 pub record Tries (op : SecretOp) (old new : Secrets) : Type 0 where
   pub so : MayDo op old new
 
-pub record HasCause {T : Type 0} (before now : ℕ) (result : Result T SecretError) : Type 0 where
+pub record HasSecretCause {T : Type 0} (before now : ℕ) (result : Result T SecretError) : Type 0 where
   pub later : before ≤ now
   pub failed : IsErrOf result Failed → Rose before now
 
 -- The call answers want of memory only where the store counted one.
-pub record HasWant {T : Type 0} (before now : ℕ) (result : Result T SecretError) : Type 0 where
+pub record HasSecretWant {T : Type 0} (before now : ℕ) (result : Result T SecretError) : Type 0 where
   pub later : before ≤ now
   pub wanted : IsErrOf result NoMemory → Rose before now

@@ -7,8 +7,8 @@ ghost use Rattle.dkg_journal.specs.Failing.{FailsByNumber};
 ghost use Rattle.std.specs.FinMap as map;
 ghost use Rattle.dkg_secrets.specs.Cuts.{after_cut};
 ghost use Rattle.dkg_journal.specs.DeviceCall.{Makes, CutIn, Crashes};
-ghost use Rattle.dkg_secrets.specs.Made.{Made};
-ghost use Rattle.dkg_secrets.specs.Secrets.{HasCause, HasWant, Tries, after, newest_below};
+ghost use Rattle.dkg_secrets.specs.Made.{MadeSecrets};
+ghost use Rattle.dkg_secrets.specs.Secrets.{HasSecretCause, HasSecretWant, Tries, after, newest_below};
 
 use crate::held::SecretMaps;
 use crate::secrets::{SecretError, SecretOp, SecretStore};
@@ -61,7 +61,7 @@ impl MemorySecrets {
         ensures failing { self.new.failing ≡ self.old.failing }
         // Exactly the calls of these numbers fail.
         ensures number { FailsByNumber SecretError.Failed self.old.failing.items self.old.calls self.new.calls result }
-        ensures cause { HasCause self.old.faults self.new.faults result }
+        ensures cause { HasSecretCause self.old.faults self.new.faults result }
         ensures error_kinds { IsErrOf result SecretError.NoMemory → ⊥ }
     {
         self.calls = self.calls.saturating_add(1);
@@ -76,9 +76,9 @@ impl MemorySecrets {
         ensures done { OnOk result (self.new.held ≡ after op.now self.old.held) }
         ensures kept { OnErr result (self.new.held ≡ self.old.held) }
         ensures tried { Tries op.now self.old.held self.new.held }
-        ensures calls { Made (Makes op.now ∷ []) self.old.held self.new.held }
-        ensures cause { HasCause self.old.faults self.new.faults result }
-        ensures want { HasWant self.old.wants self.new.wants result }
+        ensures calls { MadeSecrets (Makes op.now ∷ []) self.old.held self.new.held }
+        ensures cause { HasSecretCause self.old.faults self.new.faults result }
+        ensures want { HasSecretWant self.old.wants self.new.wants result }
         ensures number { FailsByNumber SecretError.Failed self.old.failing.items self.old.calls self.new.calls result }
         ensures numbers { self.new.failing ≡ self.old.failing }
     {
@@ -95,7 +95,7 @@ impl MemorySecrets {
 
 impl SecretStore for MemorySecrets {
     ghost use Rattle.std.specs.Prelude.{true};
-    ghost use Rattle.dkg_secrets.specs.Made.{Made, made_both};
+    ghost use Rattle.dkg_secrets.specs.Made.{MadeSecrets, secrets_made_both};
 
     ghost tells = { true };
 
@@ -105,15 +105,15 @@ impl SecretStore for MemorySecrets {
 
     ghost wants = { λ s. s.wants };
 
-    ghost made = { λ old new calls. Made calls old.held new.held };
+    ghost made = { λ old new calls. MadeSecrets calls old.held new.held };
 
     fn put_share(&mut self, _alloc: Global, epoch: Epoch, share: Share) -> Result<(), SecretError>
         ensures done { OnOk result (self.new.held ≡ after (SecretOp.PutShare epoch share) self.old.held) }
         ensures crash { Tries (SecretOp.PutShare epoch share) self.old.held self.new.held }
         ensures memory { IsErrOf result SecretError.NoMemory → self.new.held ≡ self.old.held }
-        ensures cause { HasCause self.old.faults self.new.faults result }
-        ensures want { HasWant self.old.wants self.new.wants result }
-        ensures calls { Made (Makes (SecretOp.PutShare epoch share) ∷ []) self.old.held self.new.held }
+        ensures cause { HasSecretCause self.old.faults self.new.faults result }
+        ensures want { HasSecretWant self.old.wants self.new.wants result }
+        ensures calls { MadeSecrets (Makes (SecretOp.PutShare epoch share) ∷ []) self.old.held self.new.held }
         // A failed call changes nothing.
         ensures kept { OnErr result (self.new.held ≡ self.old.held) }
         ensures number { FailsByNumber SecretError.Failed self.old.failing.items self.old.calls self.new.calls result }
@@ -125,9 +125,9 @@ impl SecretStore for MemorySecrets {
     fn get_share(&mut self, _alloc: Global, epoch: Epoch) -> Result<Option<Share>, SecretError>
         ensures share { IfOk result (λ share. share ≡ map.get self.old.held.shares epoch) }
         ensures same { self.new.held ≡ self.old.held }
-        ensures cause { HasCause self.old.faults self.new.faults result }
-        ensures want { HasWant self.old.wants self.new.wants result }
-        ensures calls { Made [] self.old.held self.new.held }
+        ensures cause { HasSecretCause self.old.faults self.new.faults result }
+        ensures want { HasSecretWant self.old.wants self.new.wants result }
+        ensures calls { MadeSecrets [] self.old.held self.new.held }
         ensures number { FailsByNumber SecretError.Failed self.old.failing.items self.old.calls self.new.calls result }
         ensures numbers { self.new.failing ≡ self.old.failing }
     {
@@ -142,9 +142,9 @@ impl SecretStore for MemorySecrets {
     ) -> Result<Option<Share>, SecretError>
         ensures share { IfOk result (λ share. share ≡ newest_below (map.entries self.old.held.shares) epoch) }
         ensures same { self.new.held ≡ self.old.held }
-        ensures cause { HasCause self.old.faults self.new.faults result }
-        ensures want { HasWant self.old.wants self.new.wants result }
-        ensures calls { Made [] self.old.held self.new.held }
+        ensures cause { HasSecretCause self.old.faults self.new.faults result }
+        ensures want { HasSecretWant self.old.wants self.new.wants result }
+        ensures calls { MadeSecrets [] self.old.held self.new.held }
         ensures number { FailsByNumber SecretError.Failed self.old.failing.items self.old.calls self.new.calls result }
         ensures numbers { self.new.failing ≡ self.old.failing }
     {
@@ -156,9 +156,9 @@ impl SecretStore for MemorySecrets {
         ensures done { OnOk result (self.new.held ≡ after (SecretOp.PutSeed epoch seed) self.old.held) }
         ensures crash { Tries (SecretOp.PutSeed epoch seed) self.old.held self.new.held }
         ensures memory { IsErrOf result SecretError.NoMemory → self.new.held ≡ self.old.held }
-        ensures cause { HasCause self.old.faults self.new.faults result }
-        ensures want { HasWant self.old.wants self.new.wants result }
-        ensures calls { Made (Makes (SecretOp.PutSeed epoch seed) ∷ []) self.old.held self.new.held }
+        ensures cause { HasSecretCause self.old.faults self.new.faults result }
+        ensures want { HasSecretWant self.old.wants self.new.wants result }
+        ensures calls { MadeSecrets (Makes (SecretOp.PutSeed epoch seed) ∷ []) self.old.held self.new.held }
         // A failed call changes nothing.
         ensures kept { OnErr result (self.new.held ≡ self.old.held) }
         ensures number { FailsByNumber SecretError.Failed self.old.failing.items self.old.calls self.new.calls result }
@@ -170,9 +170,9 @@ impl SecretStore for MemorySecrets {
     fn get_seed(&mut self, _alloc: Global, epoch: Epoch) -> Result<Option<Seed>, SecretError>
         ensures seed { IfOk result (λ seed. seed ≡ map.get self.old.held.seeds epoch) }
         ensures same { self.new.held ≡ self.old.held }
-        ensures cause { HasCause self.old.faults self.new.faults result }
-        ensures want { HasWant self.old.wants self.new.wants result }
-        ensures calls { Made [] self.old.held self.new.held }
+        ensures cause { HasSecretCause self.old.faults self.new.faults result }
+        ensures want { HasSecretWant self.old.wants self.new.wants result }
+        ensures calls { MadeSecrets [] self.old.held self.new.held }
         ensures number { FailsByNumber SecretError.Failed self.old.failing.items self.old.calls self.new.calls result }
         ensures numbers { self.new.failing ≡ self.old.failing }
     {
@@ -190,9 +190,9 @@ impl SecretStore for MemorySecrets {
         ensures done { OnOk result (self.new.held ≡ after (SecretOp.PutDealing epoch dealer private) self.old.held) }
         ensures crash { Tries (SecretOp.PutDealing epoch dealer private) self.old.held self.new.held }
         ensures memory { IsErrOf result SecretError.NoMemory → self.new.held ≡ self.old.held }
-        ensures cause { HasCause self.old.faults self.new.faults result }
-        ensures want { HasWant self.old.wants self.new.wants result }
-        ensures calls { Made (Makes (SecretOp.PutDealing epoch dealer private) ∷ []) self.old.held self.new.held }
+        ensures cause { HasSecretCause self.old.faults self.new.faults result }
+        ensures want { HasSecretWant self.old.wants self.new.wants result }
+        ensures calls { MadeSecrets (Makes (SecretOp.PutDealing epoch dealer private) ∷ []) self.old.held self.new.held }
         // A failed call changes nothing.
         ensures kept { OnErr result (self.new.held ≡ self.old.held) }
         ensures number { FailsByNumber SecretError.Failed self.old.failing.items self.old.calls self.new.calls result }
@@ -213,9 +213,9 @@ impl SecretStore for MemorySecrets {
     ) -> Result<Option<Private>, SecretError>
         ensures private { IfOk result (λ private. private ≡ map.get self.old.held.privates (epoch, dealer)) }
         ensures same { self.new.held ≡ self.old.held }
-        ensures cause { HasCause self.old.faults self.new.faults result }
-        ensures want { HasWant self.old.wants self.new.wants result }
-        ensures calls { Made [] self.old.held self.new.held }
+        ensures cause { HasSecretCause self.old.faults self.new.faults result }
+        ensures want { HasSecretWant self.old.wants self.new.wants result }
+        ensures calls { MadeSecrets [] self.old.held self.new.held }
         ensures number { FailsByNumber SecretError.Failed self.old.failing.items self.old.calls self.new.calls result }
         ensures numbers { self.new.failing ≡ self.old.failing }
     {
@@ -227,9 +227,9 @@ impl SecretStore for MemorySecrets {
         ensures done { OnOk result (self.new.held ≡ after (SecretOp.Prune min) self.old.held) }
         ensures crash { Tries (SecretOp.Prune min) self.old.held self.new.held }
         ensures memory { IsErrOf result SecretError.NoMemory → self.new.held ≡ self.old.held }
-        ensures cause { HasCause self.old.faults self.new.faults result }
-        ensures want { HasWant self.old.wants self.new.wants result }
-        ensures calls { Made (Makes (SecretOp.Prune min) ∷ []) self.old.held self.new.held }
+        ensures cause { HasSecretCause self.old.faults self.new.faults result }
+        ensures want { HasSecretWant self.old.wants self.new.wants result }
+        ensures calls { MadeSecrets (Makes (SecretOp.Prune min) ∷ []) self.old.held self.new.held }
         // A failed call changes nothing.
         ensures kept { OnErr result (self.new.held ≡ self.old.held) }
         ensures number { FailsByNumber SecretError.Failed self.old.failing.items self.old.calls self.new.calls result }
@@ -244,7 +244,7 @@ impl SecretStore for MemorySecrets {
         ensures cause { self.new.faults ≡ self.old.faults }
         ensures later { self.old.wants ≤ self.new.wants }
         ensures wanted { OnErr result (Rose self.old.wants self.new.wants) }
-        ensures calls { Made (CutIn op.now pick ∷ []) self.old.held self.new.held }
+        ensures calls { MadeSecrets (CutIn op.now pick ∷ []) self.old.held self.new.held }
         // A put is done where the pick is even; of the keys that a prune is to take, those go at whose places the bits are 0.
         ensures picked { OnOk result (self.new.held ≡ after_cut op.now pick self.old.held) }
         ensures uncounted { self.new.calls ≡ self.old.calls }
@@ -261,7 +261,7 @@ impl SecretStore for MemorySecrets {
         ensures same { self.new.held ≡ self.old.held }
         ensures cause { self.new.faults ≡ self.old.faults }
         ensures later { self.old.wants ≤ self.new.wants }
-        ensures calls { Made (Crashes pick ∷ []) self.old.held self.new.held }
+        ensures calls { MadeSecrets (Crashes pick ∷ []) self.old.held self.new.held }
         ensures uncounted { self.new.calls ≡ self.old.calls }
         ensures numbers { self.new.failing ≡ self.old.failing }
     {}
@@ -270,5 +270,5 @@ impl SecretStore for MemorySecrets {
 
     ghost made_none = { λ _. refl };
 
-    ghost made_more = { λ a b c xs ys. made_both xs ys a.held b.held c.held };
+    ghost made_more = { λ a b c xs ys. secrets_made_both xs ys a.held b.held c.held };
 }

@@ -6,7 +6,7 @@ ghost use Rattle.std.specs.Prelude.{◌≡◌, ◌≤◌, ◌++◌, [], ◌∷�
 ghost use Rattle.std.specs.FinMap as map;
 ghost use Rattle.dkg_journal.specs.DeviceCall.{DeviceCall, Makes, CutIn, Crashes};
 ghost use Rattle.dkg_journal.specs.Disk.{Rose};
-ghost use Rattle.dkg_secrets.specs.Secrets.{Secrets, Tries, HasCause, HasWant, after, newest_below};
+ghost use Rattle.dkg_secrets.specs.Secrets.{Secrets, Tries, HasSecretCause, HasSecretWant, after, newest_below};
 ghost use Rattle.dkg_secrets.specs.declared.secrets.SecretOp.{SecretOp};
 
 use dkg_ceremony::{Private, Share};
@@ -69,15 +69,15 @@ pub trait SecretStore {
         ensures done { OnOk result (IsTrue tells → held self.new ≡ after (SecretOp.PutShare epoch share) (held self.old)) }
         ensures crash { Tries (SecretOp.PutShare epoch share) (held self.old) (held self.new) }
         ensures memory { IsErrOf result SecretError.NoMemory → held self.new ≡ held self.old }
-        ensures cause { HasCause (faults self.old) (faults self.new) result }
-        ensures want { HasWant (wants self.old) (wants self.new) result }
+        ensures cause { HasSecretCause (faults self.old) (faults self.new) result }
+        ensures want { HasSecretWant (wants self.old) (wants self.new) result }
         ensures calls { made self.old self.new (Makes (SecretOp.PutShare epoch share) ∷ []) };
 
     fn get_share(&mut self, alloc: Global, epoch: Epoch) -> Result<Option<Share>, SecretError>
         ensures share { IfOk result (λ share. IsTrue tells → share ≡ map.get (held self.old).shares epoch) }
         ensures same { held self.new ≡ held self.old }
-        ensures cause { HasCause (faults self.old) (faults self.new) result }
-        ensures want { HasWant (wants self.old) (wants self.new) result }
+        ensures cause { HasSecretCause (faults self.old) (faults self.new) result }
+        ensures want { HasSecretWant (wants self.old) (wants self.new) result }
         ensures calls { made self.old self.new [] };
 
     /// The newest share of an epoch below this one, if there is one.
@@ -86,8 +86,8 @@ pub trait SecretStore {
     fn get_share_below(&mut self, alloc: Global, epoch: Epoch) -> Result<Option<Share>, SecretError>
         ensures share { IfOk result (λ share. IsTrue tells → share ≡ newest_below (map.entries (held self.old).shares) epoch) }
         ensures same { held self.new ≡ held self.old }
-        ensures cause { HasCause (faults self.old) (faults self.new) result }
-        ensures want { HasWant (wants self.old) (wants self.new) result }
+        ensures cause { HasSecretCause (faults self.old) (faults self.new) result }
+        ensures want { HasSecretWant (wants self.old) (wants self.new) result }
         ensures calls { made self.old self.new [] }
     {
         for below in (0..epoch.0).rev() {
@@ -102,15 +102,15 @@ pub trait SecretStore {
         ensures done { OnOk result (IsTrue tells → held self.new ≡ after (SecretOp.PutSeed epoch seed) (held self.old)) }
         ensures crash { Tries (SecretOp.PutSeed epoch seed) (held self.old) (held self.new) }
         ensures memory { IsErrOf result SecretError.NoMemory → held self.new ≡ held self.old }
-        ensures cause { HasCause (faults self.old) (faults self.new) result }
-        ensures want { HasWant (wants self.old) (wants self.new) result }
+        ensures cause { HasSecretCause (faults self.old) (faults self.new) result }
+        ensures want { HasSecretWant (wants self.old) (wants self.new) result }
         ensures calls { made self.old self.new (Makes (SecretOp.PutSeed epoch seed) ∷ []) };
 
     fn get_seed(&mut self, alloc: Global, epoch: Epoch) -> Result<Option<Seed>, SecretError>
         ensures seed { IfOk result (λ seed. IsTrue tells → seed ≡ map.get (held self.old).seeds epoch) }
         ensures same { held self.new ≡ held self.old }
-        ensures cause { HasCause (faults self.old) (faults self.new) result }
-        ensures want { HasWant (wants self.old) (wants self.new) result }
+        ensures cause { HasSecretCause (faults self.old) (faults self.new) result }
+        ensures want { HasSecretWant (wants self.old) (wants self.new) result }
         ensures calls { made self.old self.new [] };
 
     fn put_dealing(
@@ -123,8 +123,8 @@ pub trait SecretStore {
         ensures done { OnOk result (IsTrue tells → held self.new ≡ after (SecretOp.PutDealing epoch dealer private) (held self.old)) }
         ensures crash { Tries (SecretOp.PutDealing epoch dealer private) (held self.old) (held self.new) }
         ensures memory { IsErrOf result SecretError.NoMemory → held self.new ≡ held self.old }
-        ensures cause { HasCause (faults self.old) (faults self.new) result }
-        ensures want { HasWant (wants self.old) (wants self.new) result }
+        ensures cause { HasSecretCause (faults self.old) (faults self.new) result }
+        ensures want { HasSecretWant (wants self.old) (wants self.new) result }
         ensures calls { made self.old self.new (Makes (SecretOp.PutDealing epoch dealer private) ∷ []) };
 
     fn get_dealing(
@@ -135,8 +135,8 @@ pub trait SecretStore {
     ) -> Result<Option<Private>, SecretError>
         ensures private { IfOk result (λ private. IsTrue tells → private ≡ map.get (held self.old).privates (epoch, dealer)) }
         ensures same { held self.new ≡ held self.old }
-        ensures cause { HasCause (faults self.old) (faults self.new) result }
-        ensures want { HasWant (wants self.old) (wants self.new) result }
+        ensures cause { HasSecretCause (faults self.old) (faults self.new) result }
+        ensures want { HasSecretWant (wants self.old) (wants self.new) result }
         ensures calls { made self.old self.new [] };
 
     /// Takes all below the minimum away. A prune that failed or was cut may leave some of it.
@@ -144,8 +144,8 @@ pub trait SecretStore {
         ensures done { OnOk result (IsTrue tells → held self.new ≡ after (SecretOp.Prune min) (held self.old)) }
         ensures crash { Tries (SecretOp.Prune min) (held self.old) (held self.new) }
         ensures memory { IsErrOf result SecretError.NoMemory → held self.new ≡ held self.old }
-        ensures cause { HasCause (faults self.old) (faults self.new) result }
-        ensures want { HasWant (wants self.old) (wants self.new) result }
+        ensures cause { HasSecretCause (faults self.old) (faults self.new) result }
+        ensures want { HasSecretWant (wants self.old) (wants self.new) result }
         ensures calls { made self.old self.new (Makes (SecretOp.Prune min) ∷ []) };
 
     /// Begins the call and stops in it.

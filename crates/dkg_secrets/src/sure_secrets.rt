@@ -4,8 +4,8 @@ ghost use Rattle.std.specs.FinMap as map;
 ghost use Rattle.dkg_journal.specs.DeviceCall.{CutIn, Makes};
 ghost use Rattle.dkg_journal.specs.Disk.{Rose};
 ghost use Rattle.dkg_secrets.specs.Cuts.{after_cut};
-ghost use Rattle.dkg_secrets.specs.Made.{Made};
-ghost use Rattle.dkg_secrets.specs.Secrets.{HasWant, Tries, after};
+ghost use Rattle.dkg_secrets.specs.Made.{MadeSecrets};
+ghost use Rattle.dkg_secrets.specs.Secrets.{HasSecretWant, Tries, after};
 
 use crate::held::SecretMaps;
 use crate::secrets::{SecretError, SecretOp, SecretStore};
@@ -35,9 +35,9 @@ impl SureSecrets {
         ensures done { OnOk result (self.new.held ≡ after op.now self.old.held) }
         ensures kept { OnErr result (self.new.held ≡ self.old.held) }
         ensures tried { Tries op.now self.old.held self.new.held }
-        ensures calls { Made (Makes op.now ∷ []) self.old.held self.new.held }
+        ensures calls { MadeSecrets (Makes op.now ∷ []) self.old.held self.new.held }
         ensures sure { IsErrOf result SecretError.Failed → ⊥ }
-        ensures want { HasWant self.old.wants self.new.wants result }
+        ensures want { HasSecretWant self.old.wants self.new.wants result }
     {
         match self.held.apply(op) {
             Ok(()) => Ok(()),
@@ -51,7 +51,7 @@ impl SureSecrets {
 
 impl SecretStore for SureSecrets {
     ghost use Rattle.std.specs.Prelude.{true};
-    ghost use Rattle.dkg_secrets.specs.Made.{Made, made_both};
+    ghost use Rattle.dkg_secrets.specs.Made.{MadeSecrets, secrets_made_both};
 
     ghost tells = { true };
 
@@ -61,7 +61,7 @@ impl SecretStore for SureSecrets {
 
     ghost wants = { λ s. s.wants };
 
-    ghost made = { λ old new calls. Made calls old.held new.held };
+    ghost made = { λ old new calls. MadeSecrets calls old.held new.held };
 
     fn put_share(&mut self, _alloc: Global, epoch: Epoch, share: Share) -> Result<(), SecretError> {
         self.change(&SecretOp::PutShare { epoch, share })
@@ -119,7 +119,7 @@ impl SecretStore for SureSecrets {
         ensures memory { OnErr result (self.new.held ≡ self.old.held) }
         ensures later { self.old.wants ≤ self.new.wants }
         ensures wanted { OnErr result (Rose self.old.wants self.new.wants) }
-        ensures calls { Made (CutIn op.now pick ∷ []) self.old.held self.new.held }
+        ensures calls { MadeSecrets (CutIn op.now pick ∷ []) self.old.held self.new.held }
         // A put is done where the pick is even; of the keys that a prune is to take, those go at whose places the bits are 0.
         ensures picked { OnOk result (self.new.held ≡ after_cut op.now pick self.old.held) }
     {
@@ -136,5 +136,5 @@ impl SecretStore for SureSecrets {
 
     ghost made_none = { λ _. refl };
 
-    ghost made_more = { λ a b c xs ys. made_both xs ys a.held b.held c.held };
+    ghost made_more = { λ a b c xs ys. secrets_made_both xs ys a.held b.held c.held };
 }

@@ -34,10 +34,10 @@ use Rattle.dkg_life.specs.Ends.{IsCaused, by_stop, ends_in}
 use Rattle.dkg_life.specs.Given.{IsOf}
 use Rattle.dkg_fence.specs.Readiness.{Readiness}
 use Rattle.dkg_life.specs.declared.life.Life.{Life}
-use Rattle.dkg_life.specs.LiveOf.{Beside, IsDealing, IsFresh, PlayerSits, IsWithin, dealer_of, live_of, seat_of}
+use Rattle.dkg_life.specs.LiveOf.{Beside, IsDealing, IsFresh, PlayerSits, IsRoundWithin, dealer_of, live_of, seat_of}
 use Rattle.dkg_life.specs.Made.{Speaks}
 use Rattle.dkg_life.specs.Rules.{AckOf, CheckAckOf, DealOf, DealsBy, RoundOf, SignLogOf}
-use Rattle.dkg_life.specs.Steps.{IsFaultOrWant, MakesDealer, MakesPlayer, StandsIn, no_round, refusal_of, refused_by, stage_in}
+use Rattle.dkg_life.specs.Steps.{IsFaultOrWant, MakesDealer, MakesPlayer, StandsIn, no_round, refusal_of, refused_by, stage_begun_in}
 use Rattle.dkg_life.proofs.Speaking.{gives_speaks, says_speaks, wants_speaks}
 
 module _ {Dir : Type 0} (c : Fixed Dir) (p : Participants) (output : Output) (share : Option ℕ) (seed : List ℕ) (st : Live Dir) where
@@ -167,8 +167,8 @@ few_players epoch limit info none players is =
 
 -- what holds of a life behind it
 pub sits_drawn : {Dir : Type 0} (ack_of : AckOf) (deal_of : DealOf) (check_ack_of : CheckAckOf) (me key : ℕ) → me ≡ key → (limit : ℕ) (phase : Phase) (new : Life Dir) (r : Result (Unit {0}) Stop)
-    → PlayerSits ack_of me new → OnOk r (IsDealing deal_of check_ack_of key new) → IsWithin limit new.round → IsSome new.round → OnOk r (new.stage ≡ stage_in phase)
-    → OnOk r (PlayerSits ack_of me new × IsDealing deal_of check_ack_of me new × IsWithin limit new.round × IsSome new.round × (new.stage ≡ stage_in phase))
+    → PlayerSits ack_of me new → OnOk r (IsDealing deal_of check_ack_of key new) → IsRoundWithin limit new.round → IsSome new.round → OnOk r (new.stage ≡ stage_begun_in phase)
+    → OnOk r (PlayerSits ack_of me new × IsDealing deal_of check_ack_of me new × IsRoundWithin limit new.round × IsSome new.round × (new.stage ≡ stage_begun_in phase))
 sits_drawn ack_of deal_of check_ack_of me key same limit phase new (Ok done) seated dealing within joins stage = (seated, subst (λ (k : ℕ). IsDealing deal_of check_ack_of k new) (sym same) dealing, within, joins, stage)
 sits_drawn ack_of deal_of check_ack_of me key same limit phase new (Err stop) seated dealing within joins stage = tt
 

@@ -6,7 +6,7 @@ use Rattle.dkg_values.specs.Codec.{whole}
 use Rattle.dkg_values.specs.declared.codec.CodecError.{CodecError}
 use Rattle.dkg_journal.specs.Disk.{Follows}
 use Rattle.dkg_journal.specs.Names.{Files}
-use Rattle.dkg_journal.specs.Pruning.{Leaves}
+use Rattle.dkg_journal.specs.Pruning.{LeavesAbove}
 use Rattle.dkg_journal.specs.Records.{SectionEntry, entries, from_section}
 use Rattle.dkg_journal.specs.Steps.{Keeps}
 use Rattle.dkg_store.specs.Corrupt.{AreFit}
@@ -68,7 +68,7 @@ kept_half : (min key : ℕ) (old new : Option ℕ) → StaysOrGoes min key old n
 kept_half min key old new (inl same) above = same
 kept_half min key old new (inr gone) above = absurd (let low : key < min = gone.0 in omega (arith, low, above))
 
-pub pruned_gives : (min : ℕ) (image next : Files → Type 0) (s t : Secrets) → Follows (Leaves min) image next → Tries (Prune min) s t → StaysFrom min image next s t
+pub pruned_gives : (min : ℕ) (image next : Files → Type 0) (s t : Secrets) → Follows (LeavesAbove min) image next → Tries (Prune min) s t → StaysFrom min image next s t
 pruned_gives min image next s t left tries = λ pairs gives. record {
   each = λ c here key above.
       let d = left.each c here in

@@ -19,7 +19,7 @@ module _ {Dir : Type 0} (c : Fixed Dir) (standing : setup.Standing) (info : Epoc
   behind_secrets both = setup.with_share_and_seed c None standing info both.0 both.1 st
 
   -- The share and the seed are read, and the rest follows.
-  pub judged_as : setup.judged c None standing info st (Ok tt) ≡ bind (reads_secrets c info) behind_secrets
+  pub judged_as : setup.info_judged c None standing info st (Ok tt) ≡ bind (reads_secrets c info) behind_secrets
   judged_as = refl
 
   abbrev its_validation : Result (Unit {0}) ParticipantsError
@@ -29,9 +29,9 @@ module _ {Dir : Type 0} (c : Fixed Dir) (standing : setup.Standing) (info : Epoc
   refusal_in same valid = if same then refused_by valid else Some (WrongEpoch st.participation.epoch info.epoch)
 
   abbrev course_in : Bool → Result (Unit {0}) ParticipantsError → Course Dir Fault (Live Dir)
-  course_in same valid = if same then setup.judged c None standing info st valid else Stops (WrongEpoch st.participation.epoch info.epoch)
+  course_in same valid = if same then setup.info_judged c None standing info st valid else Stops (WrongEpoch st.participation.epoch info.epoch)
 
-  passed_in : (same : Bool) (valid : Result (Unit {0}) ParticipantsError) → refusal_in same valid ≡ None → course_in same valid ≡ setup.judged c None standing info st (Ok tt)
+  passed_in : (same : Bool) (valid : Result (Unit {0}) ParticipantsError) → refusal_in same valid ≡ None → course_in same valid ≡ setup.info_judged c None standing info st (Ok tt)
   passed_in true (Ok passed) none = refl
   passed_in true (Err e) none = absurd cc
   passed_in false valid none = absurd cc
@@ -41,7 +41,7 @@ module _ {Dir : Type 0} (c : Fixed Dir) (standing : setup.Standing) (info : Epoc
   refused_in true (Err e) its is = ap (λ (f : Fault). Stops f) (same_some _ _ is)
   refused_in false valid its is = ap (λ (f : Fault). Stops f) (same_some _ _ is)
 
-  pub passed : refusal_of st.participation.epoch c.limit info ≡ None → setup.with_info c None standing info st ≡ setup.judged c None standing info st (Ok tt)
+  pub passed : refusal_of st.participation.epoch c.limit info ≡ None → setup.with_info c None standing info st ≡ setup.info_judged c None standing info st (Ok tt)
   passed none = passed_in (info.epoch == st.participation.epoch) its_validation none
 
   pub refused : (its : Fault) → refusal_of st.participation.epoch c.limit info ≡ Some its → setup.with_info c None standing info st ≡ Stops its

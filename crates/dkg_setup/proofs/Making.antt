@@ -16,7 +16,7 @@ use Rattle.dkg_store.specs.declared.player.Player.{Player}
 use Rattle.dkg_store.specs.declared.store.Store.{Store}
 use Rattle.dkg_core.specs.Courses.{Course}
 use Rattle.dkg_core.specs.Fixed.{Fixed, has}
-use Rattle.dkg_core.specs.Live.{Live, Plays, Watches, of_epoch}
+use Rattle.dkg_core.specs.Live.{Live, Plays, Watches, records_of_epoch}
 use Rattle.dkg_core.specs.Live as live
 use Rattle.dkg_core.specs.Logs.{logs_of}
 use Rattle.dkg_core.specs.Setup as setup
@@ -44,8 +44,8 @@ module _ {Dir : Type 0} (c : Fixed Dir) (round : Round) (phase : Phase) (dealer 
     refusal = first_refused (dealing_of round me) (of_store.of_epoch round.number store.dealings)
 
     -- are the relation's
-    lost_is : setup.is_lost c round (of_epoch round.number st.records.dealings) (logs_of st round.number) ≡ orphan
-    lost_is = λ i. has_orphan (λ dealer log. bears i round dealer log (mine i)) (of_epoch round.number (records i).dealings) (bare_logs (of_epoch round.number (records i).logs))
+    lost_is : setup.is_lost c round (records_of_epoch round.number st.records.dealings) (logs_of st round.number) ≡ orphan
+    lost_is = λ i. has_orphan (λ dealer log. bears i round dealer log (mine i)) (records_of_epoch round.number (records i).dealings) (bare_logs (records_of_epoch round.number (records i).logs))
 
     refused_is : setup.refused_in c round st ≡ refusal
     refused_is = λ i. first_refused (λ d. checks i round (mine i) d) (setup.pairs_of (record st { records = records i }) round.number)
@@ -56,7 +56,7 @@ module _ {Dir : Type 0} (c : Fixed Dir) (round : Round) (phase : Phase) (dealer 
     makes_is : (h l : Bool) (r : Option ℕ) → has round.players me ≡ h → orphan ≡ l → refusal ≡ r → setup.makes_player c round phase dealer st ≡ part_in (not h || l) r
     makes_is h l r plays lost refused =
         let hp : has round.players c.me ≡ h = ap (has round.players) mine ∙ plays in
-        let lp : setup.is_lost c round (of_epoch round.number st.records.dealings) (logs_of st round.number) ≡ l = lost_is ∙ lost in
+        let lp : setup.is_lost c round (records_of_epoch round.number st.records.dealings) (logs_of st round.number) ≡ l = lost_is ∙ lost in
         let rp : setup.refused_in c round st ≡ r = refused_is ∙ refused in
         λ i. part_in (not (hp i) || lp i) (rp i)
 

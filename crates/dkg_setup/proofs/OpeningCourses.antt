@@ -60,8 +60,8 @@ module _ {Dir : Type 0} (c : Fixed Dir) (reshare : c.oneshot ≡ None) (bare : c
   -- With no material and no plan it is the setup of the epoch above the source's position.
   resharing : (r : Records) → plans.opens_resharing c (begun_by r) ≡ Ask (λ h. setup.setup c None (begun_at c r))
   resharing r =
-      ap (λ (m : Option (Material Dir)). plans.finds_material c m (λ found. plans.in_range c (plans.resolves_plan c (plans.starts_from c (begun_by r)) found))) bare
-      ∙ (λ i. Ask (λ h. plans.reads_plan c (unplanned h i) (λ found. plans.in_range c (plans.resolves_plan c (plans.starts_from c (begun_by r)) found))))
+      ap (λ (m : Option (Material Dir)). plans.finds_material c m (λ found. plans.stays_in_range c (plans.resolves_plan c (plans.starts_from c (begun_by r)) found))) bare
+      ∙ (λ i. Ask (λ h. plans.reads_plan c (unplanned h i) (λ found. plans.stays_in_range c (plans.resolves_plan c (plans.starts_from c (begun_by r)) found))))
       ∙ (λ i. Ask (λ h. in_once (start c) (setup.sets_up c None (begun_at c r)) (begun_at c r) refl i))
 
   pub opening_as : opening c ≡ bind (opens_store c.seen c.life c.opening_calls) (sets_up_over c)

@@ -17,7 +17,7 @@ use Rattle.dkg_infos.specs.declared.entry.Entry.TheVariants.{Opened}
 use Rattle.dkg_infos.specs.declared.fault.Fault.{Fault}
 use Rattle.dkg_infos.specs.declared.fault.Fault.TheVariants as fault
 use Rattle.dkg_store.specs.Acts as acts_of
-use Rattle.dkg_store.specs.Acts.{Acts, Ended, Held, MadeAt, Moment, OnDisk, Runs, Stands, World, after, broken as broken_by, held_in, stopped, went}
+use Rattle.dkg_store.specs.Acts.{Acts, Ended, Held, MadeAt, Moment, OnDisk, Runs, Stands, World, held_after, broken as broken_by, held_in, stopped, went}
 use Rattle.dkg_store.specs.Calls as calls_of
 use Rattle.dkg_store.specs.Calls.{by_error}
 use Rattle.dkg_store.specs.Noted.{Notes}
@@ -152,13 +152,13 @@ tells_line life g = acts_of.Say (Opened life (restored_list g.0)) (acts_of.Goes 
 module _ (Dir : Type 0) (life calls : ℕ) {files files_now : Files} {image now : Files → Type 0} {old new : Moment} (counts : CountsOn old.fuse new.fuse)
   where
     -- it failed
-    pub store_failed : (e : StoreError) → IsOfDevices e → MadeAt (calls_of.opening None calls None) (by_error e) files image files_now now old new
+    pub store_failed : (e : StoreError) → IsOfDevices e → MadeAt (calls_of.store_opening None calls None) (by_error e) files image files_now now old new
         → MakesAt (on_devices (opens_store {Dir = Dir} seen_planless life calls)) (by_stop (stop_of e)) files image files_now now old new
     store_failed e kind opened =
         makes_early (tells_line life) (stop_of e) (makes_error e kind opened counts.call counts.pick)
 
     -- .. or went, and its line was told, or found no memory
-    pub store_opened : (g : Pairs × Notes (List ℕ) × Notes RecordedLog) → MadeAt (calls_of.opening None calls None) (went g) files image files_now now old new → (Reached old.fuse new.fuse → ⊥)
+    pub store_opened : (g : Pairs × Notes (List ℕ) × Notes RecordedLog) → MadeAt (calls_of.store_opening None calls None) (went g) files image files_now now old new → (Reached old.fuse new.fuse → ⊥)
         → (result : Result (Unit {0}) Stop) {out : List Line} → OnOk result (out ≡ new.out ++ Opened life (restored_list g.0) ∷ []) → OnErr result (out ≡ new.out)
         → IfErr result (λ stop. stop ≡ Faulted fault.NoMemory)
         → MakesAt (on_devices (opens_store {Dir = Dir} seen_planless life calls)) (ends_in (recorded g) result) files image files_now now old (acts_of.moment out new.secrets new.fuse)
@@ -325,7 +325,7 @@ pub store_agrees : (Dir : Type 0) (life calls : ℕ) (r : Records) {files files_
     → AreAgreed r (held_in files_now new.secrets)
 store_agrees Dir life calls r {files} {old = old} it here stands whole =
     let done = it.made.made stands _ here in
-    let opened : Held = after (OnDisk (Opens calls)) (after (OnDisk Bars) (held_in files old.secrets)) in
+    let opened : Held = held_after (OnDisk (Opens calls)) (held_after (OnDisk Bars) (held_in files old.secrets)) in
     subst (λ (w : World). AreAgreed r w.held) (sym done.0) (subst (λ (x : Records). AreAgreed x opened) (sym done.1) (record { whole = whole; dealings = refl; acks = refl; logs = refl }))
 
 -- .. and behind a setup

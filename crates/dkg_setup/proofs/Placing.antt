@@ -28,13 +28,13 @@ use Rattle.dkg_life.specs.declared.life.Stage.{Stage}
 use Rattle.dkg_life.specs.declared.life.Stage.TheVariants.{Dealing, Including, Following}
 use Rattle.dkg_life.specs.declared.config.Terms.{Terms}
 use Rattle.dkg_life.specs.Ready.{IsReadyLife, IsSetUp}
-use Rattle.dkg_life.specs.LiveOf.{Beside, IsDealing, IsFresh, IsPlaced, PlayerSits, IsWithin, awaited_of, live_of}
+use Rattle.dkg_life.specs.LiveOf.{Beside, IsDealing, IsFresh, IsPlaced, PlayerSits, IsRoundWithin, awaited_of, live_of}
 use Rattle.dkg_life.specs.Moved.{IsFirm}
 use Rattle.dkg_life.specs.Given.{IsLent, IsOf, ReadsPlanless}
 use Rattle.dkg_life.specs.Rules.{AckOf, BearsAckOf, CheckAckOf, DealOf, DealingOf, IsRuledBy, PartialPublicOf, RoundOf, SharePublicOf, SignLogOf}
 use Rattle.dkg_life.specs.Planless.{seen_planless}
 use Rattle.dkg_values.specs.declared.codec.CodecError.TheVariants.{EndOfBuffer}
-use Rattle.dkg_life.specs.Steps.{AreBoundsAt, StandsIn, stage_in}
+use Rattle.dkg_life.specs.Steps.{AreBoundsAt, StandsIn, stage_begun_in}
 use Rattle.dkg_setup.proofs.OpeningCourses.{out_of_range, sets_up_as}
 use Rattle.dkg_life.proofs.Beside.{fresh_stays}
 use Rattle.dkg_setup.proofs.Ranges.{is_past, not_past}
@@ -122,22 +122,22 @@ pub epoch_there : {Dir : Type 0} (n : ℕ) (old life : Life Dir) (bounds : Bound
 epoch_there {Dir} n old life bounds at now = ap (λ (l : Life Dir). l.epoch) now ∙ ap (λ (b : Bounds). b.epoch) at.are
 
 -- an epoch that begins with dealing is below its midpoint
-below_middle : (middle height : ℕ) → stage_in (phase_at middle height) ≡ Dealing → height < middle
+below_middle : (middle height : ℕ) → stage_begun_in (phase_at middle height) ≡ Dealing → height < middle
 below_middle middle height dealing = by_test (nat_lt height middle) refl dealing
   where
-    by_late : (q : Bool) → stage_in (if q then Midpoint else Late) ≡ Dealing → ⊥
+    by_late : (q : Bool) → stage_begun_in (if q then Midpoint else Late) ≡ Dealing → ⊥
     by_late true e = let h : ◌≡◌ {A = Stage} Including Dealing = e in cc
     by_late false e = let h : ◌≡◌ {A = Stage} Including Dealing = e in cc
 
-    by_test : (b : Bool) → nat_lt height middle ≡ b → stage_in (if b then Early else (if nat_eq height middle then Midpoint else Late)) ≡ Dealing → height < middle
+    by_test : (b : Bool) → nat_lt height middle ≡ b → stage_begun_in (if b then Early else (if nat_eq height middle then Midpoint else Late)) ≡ Dealing → height < middle
     by_test true is e = grind (arith, nat_tests, is)
     by_test false is e = absurd (by_late (nat_eq height middle) e)
 
 -- .. and one that begins with inclusion is past it
-past_middle : (middle height : ℕ) → stage_in (phase_at middle height) ≡ Including → middle ≤ height
+past_middle : (middle height : ℕ) → stage_begun_in (phase_at middle height) ≡ Including → middle ≤ height
 past_middle middle height including = by_test (nat_lt height middle) refl including
   where
-    by_test : (b : Bool) → nat_lt height middle ≡ b → stage_in (if b then Early else (if nat_eq height middle then Midpoint else Late)) ≡ Including → middle ≤ height
+    by_test : (b : Bool) → nat_lt height middle ≡ b → stage_begun_in (if b then Early else (if nat_eq height middle then Midpoint else Late)) ≡ Including → middle ≤ height
     by_test true is e = absurd cc
     by_test false is e = grind (arith, nat_tests, is)
 
@@ -150,7 +150,7 @@ ended_at n long None height middle at is past = absurd (middle_above n long (sub
 ended_at n long (Some t) height middle at is past = subst (λ (h : ℕ). middle ≤ h) at past
 
 set_placed : {Dir : Type 0} (n : ℕ) → 2 ≤ n → (life : Life Dir) (height : ℕ) → height ≡ awaited_of life → (bounds : Bounds) → AreBoundsAt n bounds height
-    → life.epoch ≡ bounds.epoch → life.midpoint ≡ bounds.midpoint → ((life.stage ≡ Following → ⊥) → IsSome life.round) → (life.stage ≡ Dealing → stage_in bounds.phase ≡ Dealing) → (life.stage ≡ Including → stage_in bounds.phase ≡ Including) → IsPlaced n life
+    → life.epoch ≡ bounds.epoch → life.midpoint ≡ bounds.midpoint → ((life.stage ≡ Following → ⊥) → IsSome life.round) → (life.stage ≡ Dealing → stage_begun_in bounds.phase ≡ Dealing) → (life.stage ≡ Including → stage_begun_in bounds.phase ≡ Including) → IsPlaced n life
 set_placed n long life height at bounds lies epoch middle joins deals stage =
     let epoch_is : life.epoch ≡ epoch_of n height = epoch ∙ ap (λ (b : Bounds). b.epoch) lies.are in
     let midpoint_is : life.midpoint ≡ midpoint n (epoch_of n height) = middle ∙ ap (λ (b : Bounds). b.midpoint) lies.are in
@@ -160,9 +160,9 @@ set_placed n long life height at bounds lies epoch middle joins deals stage =
       in_range = λ apart. subst (λ (e : ℕ). last n e < 2 ^ 64) (sym epoch_is) lies.in_range;
       joins = joins;
       early = λ dealing. subst (λ (h : ℕ). h < life.midpoint) at
-          (subst (λ (m : ℕ). height < m) (sym midpoint_is) (below_middle (midpoint n (epoch_of n height)) height (sym (ap (λ (b : Bounds). stage_in b.phase) lies.are) ∙ deals dealing)));
+          (subst (λ (m : ℕ). height < m) (sym midpoint_is) (below_middle (midpoint n (epoch_of n height)) height (sym (ap (λ (b : Bounds). stage_begun_in b.phase) lies.are) ∙ deals dealing)));
       ended = λ including. ended_at n long life.tip height life.midpoint at midpoint_is
-          (subst (λ (m : ℕ). m ≤ height) (sym midpoint_is) (past_middle (midpoint n (epoch_of n height)) height (sym (ap (λ (b : Bounds). stage_in b.phase) lies.are) ∙ stage including)));
+          (subst (λ (m : ℕ). m ≤ height) (sym midpoint_is) (past_middle (midpoint n (epoch_of n height)) height (sym (ap (λ (b : Bounds). stage_begun_in b.phase) lies.are) ∙ stage including)));
     }
 
 module _ {Dir D X : Type 0} (tells : Bool) (files : D → Files) (image : D → Files → Type 0) (ack_of : AckOf) (deal_of : DealOf) (check_ack_of : CheckAckOf) (terms : Terms) (old life : Life Dir)
@@ -178,7 +178,7 @@ module _ {Dir D X : Type 0} (tells : Bool) (files : D → Files) (image : D → 
       placed = set_placed (non_zero_u64_get terms.blocks_per_epoch) terms.long life (awaited_of old) (ap (λ (l : Life Dir). awaited_of l) (sym now)) bounds at (ap (λ (l : Life Dir). l.epoch) now) (ap (λ (l : Life Dir). l.midpoint) now)
           (λ apart. absurd (apart (ap (λ (l : Life Dir). l.stage) now))) (λ dealing. absurd (let e : ◌≡◌ {A = Stage} Following Dealing = sym (ap (λ (l : Life Dir). l.stage) now) ∙ dealing in cc))
           (λ including. absurd (let e : ◌≡◌ {A = Stage} Following Including = sym (ap (λ (l : Life Dir). l.stage) now) ∙ including in cc));
-      within = subst (λ (l : Life Dir). IsWithin (non_zero_u32_get terms.limit) l.round) (sym now) tt;
+      within = subst (λ (l : Life Dir). IsRoundWithin (non_zero_u32_get terms.limit) l.round) (sym now) tt;
       firm = λ told. subst (λ (s : Store Dir). IsFirm s.journal (files devices.disk.now) (image devices.disk.now)) (sym (ap (λ (l : Life Dir). l.store) now)) (firm told);
     }
 
@@ -197,7 +197,7 @@ module _ {Dir D X : Type 0} (tells : Bool) (files : D → Files) (image : D → 
 -- as its last part leaves it
 pub drawn_up : {Dir D X T E : Type 0} (tells : Bool) (files : D → Files) (image : D → Files → Type 0) (ack_of : AckOf) (deal_of : DealOf) (check_ack_of : CheckAckOf) (me limit : ℕ) (phase : Phase) (life new : Life Dir) (devices : Devices D X)
     → new ≡ record life { stage = new.stage; round = new.round; dealer = new.dealer; player = new.player } → (IsTrue tells → IsFirm life.store.journal (files devices.disk.now) (image devices.disk.now))
-    → (r : Result T E) → OnOk r (PlayerSits ack_of me new × IsDealing deal_of check_ack_of me new × IsWithin limit new.round × IsSome new.round × (new.stage ≡ stage_in phase))
+    → (r : Result T E) → OnOk r (PlayerSits ack_of me new × IsDealing deal_of check_ack_of me new × IsRoundWithin limit new.round × IsSome new.round × (new.stage ≡ stage_begun_in phase))
     → OnOk r (IsSetUp tells files image ack_of deal_of check_ack_of me limit phase new devices)
 drawn_up {Dir} tells files image ack_of deal_of check_ack_of me limit phase life new devices rest firm (Ok x) sits = record {
   seated = sits.0;

@@ -28,13 +28,13 @@ ghost use Rattle.dkg_core.specs.Setup as setup;
 ghost use Rattle.dkg_life.specs.Ready.{IsReadyLife, IsSetUp};
 ghost use Rattle.dkg_life.specs.Ends.{IsCaused, IsCausedBy, IsOutside, StopsReading, by_stop, ends, ends_in};
 ghost use Rattle.dkg_life.specs.Given.{CanRead, GivesBoth, GivesSeed, GivesShare, IsIn, IsLent, IsOf, ReadsPlanless};
-ghost use Rattle.dkg_life.specs.LiveOf.{Beside, DealsFor, EndsBeside, IsDealing, IsFresh, PlayerSits, IsToSign, IsWithin, SitsIn, TookSchemes, awaited_of, dealer_of, live_of, records_of, scheme_by, seat_of, with_scheme_of};
+ghost use Rattle.dkg_life.specs.LiveOf.{Beside, DealsFor, EndsBeside, IsDealing, IsFresh, PlayerSits, IsToSign, IsRoundWithin, SitsIn, TookSchemes, awaited_of, dealer_of, live_of, records_of, scheme_by, seat_of, with_scheme_of};
 ghost use Rattle.dkg_life.specs.Made.{Makes, Speaks, Tells, UnlessBroken};
 ghost use Rattle.dkg_life.specs.Moved.{IsFirm, Moved, StaysAbove, StaysFrom, StaysWhole};
 ghost use Rattle.dkg_life.specs.Opened.{epoch_above};
 ghost use Rattle.dkg_life.specs.Rules.{DealsBy, IsRuledBy, SeatsBy, SharesBy};
 ghost use Rattle.dkg_setup.specs.Standings.{standing_of};
-ghost use Rattle.dkg_life.specs.Steps.{AreBoundsAt, IsFaultOrWant, MakesDealer, MakesPlayer, StandsIn, kept_for, no_round, reads_secrets, reads_seed, refusal_of, stage_in};
+ghost use Rattle.dkg_life.specs.Steps.{AreBoundsAt, IsFaultOrWant, MakesDealer, MakesPlayer, StandsIn, kept_for, no_round, reads_secrets, reads_seed, refusal_of, stage_begun_in};
 ghost use Rattle.dkg_life.specs.declared.life.Life.{Life};
 ghost use Rattle.dkg_life.specs.declared.stop.Stop.TheVariants.{Fault as Faulted};
 
@@ -531,7 +531,7 @@ fn begin_stage<C: Ceremony, Dir: Directory + Drop>(
     ensures begun { OnOk result ((c : Fixed Dir) (beside : Beside Dir) (fence : Readiness) → IsFresh beside.inclusion → c.me ≡ C.Signer.key_of signer.now
         → DealsBy C.deal_of C.check_ack_of C.sign_log_of c.rules → live_of beside fence life.new ≡ setup.in_stage c phase (live_of beside fence life.old)) }
     ensures rest { life.new ≡ record life.old { stage = life.new.stage; dealer = life.new.dealer } }
-    ensures stage { OnOk result (life.new.stage ≡ stage_in phase) }
+    ensures stage { OnOk result (life.new.stage ≡ stage_begun_in phase) }
     ensures dealing { OnOk result (IsDealing C.deal_of C.check_ack_of (C.Signer.key_of signer.now) life.new) }
     ensures same { OnErr result (life.new ≡ life.old) }
     ensures memory { IfErr result (λ stop. stop ≡ Faulted OutOfMemory) }
@@ -561,7 +561,7 @@ fn draw_up<C: Ceremony, Dir: Directory + Drop>(
     requires valid { refusal_of life.old.epoch (non_zero_u32_get terms.now.limit) info.now ≡ None }
     ensures rest { life.new ≡ record life.old { stage = life.new.stage; round = life.new.round; dealer = life.new.dealer; player = life.new.player } }
     ensures sits { OnOk result (PlayerSits C.ack_of terms.now.me life.new × IsDealing C.deal_of C.check_ack_of terms.now.me life.new
-        × IsWithin (non_zero_u32_get terms.now.limit) life.new.round × IsSome life.new.round × (life.new.stage ≡ stage_in phase)) }
+        × IsRoundWithin (non_zero_u32_get terms.now.limit) life.new.round × IsSome life.new.round × (life.new.stage ≡ stage_begun_in phase)) }
     ensures speaks { (c : Fixed Dir) (beside : Beside Dir) (fence : Readiness) → IsFresh beside.inclusion → IsOf terms.now c
         → IsRuledBy C.round_of C.deal_of C.dealing_of C.ack_of C.check_ack_of C.sign_log_of C.bears_ack_of C.share_public_of C.partial_public_of c.rules
         → StandsIn c (live_of beside fence life.old) phase → Speaks (setup.draws_up c (setup.participants_of info.now) (Some info.now.output)

@@ -13,7 +13,7 @@ use Rattle.dkg_types.specs.declared.scheme.SchemeInfo.{SchemeInfo}
 use Rattle.dkg_ceremony.specs.declared.sharing.Sharing.{Sharing}
 use Rattle.dkg_sign.specs.Chains.{HoldsOf, IsNextOutput, IsChain, ShareOneKey}
 use Rattle.dkg_sign.specs.Desks.{Desk, material_of}
-use Rattle.dkg_sign.specs.Materials.{key_of, sharing_of}
+use Rattle.dkg_sign.specs.Materials.{scheme_key, sharing_of}
 use Rattle.dkg_sign.specs.Signing.{hash_of, signature_of, times}
 use Rattle.dkg_sign.specs.Signs.{combine_of, combine_with, combine_unless, combine_enough, fault_from}
 use Rattle.dkg_sign.specs.declared.error.CombineError.{CombineError}
@@ -26,7 +26,7 @@ ok_is : (r : Result Output CodecError) (o : Output) → result_ok r ≡ Some o �
 ok_is (Ok x) o e = ap (λ (y : Output). Ok y) (let s : x ≡ o = cc in s)
 ok_is (Err f) o e = absurd cc
 
-alike : (xs ys : List ℕ) → begin_alike xs ys ≡ true → key_of xs ≡ key_of ys
+alike : (xs ys : List ℕ) → begin_alike xs ys ≡ true → scheme_key xs ≡ scheme_key ys
 alike (x ∷ xs) (y ∷ ys) e = eqb-true x y e
 alike [] ys e = absurd cc
 alike (x ∷ xs) [] e = absurd cc
@@ -38,33 +38,33 @@ poly_of round poly revealed o made =
     let parts = parts_of_output p (do_parts_agree p) refl o (ok_is (output_from p) o made) in
     ap (λ (q : OutputParts). q.1.0.poly) parts
 
-key_kept : (round : Round) (before : Output) (poly revealed : List ℕ) (o : Output) → round.previous ≡ Some before → output_for round poly revealed ≡ Some o → key_of o.sharing.poly ≡ key_of before.sharing.poly
+key_kept : (round : Round) (before : Output) (poly revealed : List ℕ) (o : Output) → round.previous ≡ Some before → output_for round poly revealed ≡ Some o → scheme_key o.sharing.poly ≡ scheme_key before.sharing.poly
 key_kept round before poly revealed o was e =
     elim (cases_Bool (keeps_key round.previous poly)) [
       | inl keeps ↦
           let same : begin_alike poly before.sharing.poly ≡ true = sym (ap (λ (b : Option Output). keeps_key b poly) was) ∙ keeps in
-          ap key_of (poly_of round poly revealed o (rw keeps at e)) ∙ alike poly before.sharing.poly same
+          ap scheme_key (poly_of round poly revealed o (rw keeps at e)) ∙ alike poly before.sharing.poly same
       | inr other ↦ absurd (let none : None ≡ Some o = rw other at e in cc)
     ]
 
-kept_by : (round : Round) (logs : LogMap) (selected : Option (List ℕ)) (before o : Output) → round.previous ≡ Some before → option_and_then (combined_of round logs) selected ≡ Some o → key_of o.sharing.poly ≡ key_of before.sharing.poly
+kept_by : (round : Round) (logs : LogMap) (selected : Option (List ℕ)) (before o : Output) → round.previous ≡ Some before → option_and_then (combined_of round logs) selected ≡ Some o → scheme_key o.sharing.poly ≡ scheme_key before.sharing.poly
 unfolding combined_of
 kept_by round logs None before o was e = absurd cc
 kept_by round logs (Some selected) before o was e = key_kept round before (sum_of round logs selected) (revealed_of round logs selected) o was e
 
 -- an outcome keeps the key
-pub outcome_keeps : (round : Round) (logs : LogMap) (before o : Output) → round.previous ≡ Some before → outcome_of round logs ≡ Some o → key_of o.sharing.poly ≡ key_of before.sharing.poly
+pub outcome_keeps : (round : Round) (logs : LogMap) (before o : Output) → round.previous ≡ Some before → outcome_of round logs ≡ Some o → scheme_key o.sharing.poly ≡ scheme_key before.sharing.poly
 unfolding outcome_of
 outcome_keeps round logs before o was e = kept_by round logs (selected_of round logs) before o was e
 
-step_keeps : (before o : Output) → IsNextOutput before o → key_of o.sharing.poly ≡ key_of before.sharing.poly
-step_keeps before o (inl same) = ap (λ (x : Output). key_of x.sharing.poly) same
+step_keeps : (before o : Output) → IsNextOutput before o → scheme_key o.sharing.poly ≡ scheme_key before.sharing.poly
+step_keeps before o (inl same) = ap (λ (x : Output). scheme_key x.sharing.poly) same
 step_keeps before o (inr new) = outcome_keeps new.0 new.1 before o new.2 new.3
 
 -- all outputs of a chain share one key
-pub chain_keeps : (first : Output) (outputs : List Output) → IsChain first outputs → (i : ℕ) (last : Output) → slice_get outputs i ≡ Some last → key_of last.sharing.poly ≡ key_of first.sharing.poly
+pub chain_keeps : (first : Output) (outputs : List Output) → IsChain first outputs → (i : ℕ) (last : Output) → slice_get outputs i ≡ Some last → scheme_key last.sharing.poly ≡ scheme_key first.sharing.poly
 chain_keeps first [] chain i last at = absurd cc
-chain_keeps first (o ∷ os) chain zero last at = (let here : o ≡ last = cc in ap (λ (x : Output). key_of x.sharing.poly) (sym here)) ∙ step_keeps first o chain.0
+chain_keeps first (o ∷ os) chain zero last at = (let here : o ≡ last = cc in ap (λ (x : Output). scheme_key x.sharing.poly) (sym here)) ∙ step_keeps first o chain.0
 chain_keeps first (o ∷ os) chain (suc i) last at = chain_keeps o os chain.1 i last at ∙ step_keeps first o chain.0
 
 -- ---- a combined signature
@@ -93,22 +93,22 @@ one_value one other message epoch later partials partials' s t key of_one of_oth
 
 -- ---- one signature along a chain
 
-in_chain : (first : Output) (outputs : List Output) → IsChain first outputs → (i : ℕ) (a : Output) → slice_get (first ∷ outputs) i ≡ Some a → key_of a.sharing.poly ≡ key_of first.sharing.poly
-in_chain first outputs chain zero a at = let here : first ≡ a = cc in ap (λ (x : Output). key_of x.sharing.poly) (sym here)
+in_chain : (first : Output) (outputs : List Output) → IsChain first outputs → (i : ℕ) (a : Output) → slice_get (first ∷ outputs) i ≡ Some a → scheme_key a.sharing.poly ≡ scheme_key first.sharing.poly
+in_chain first outputs chain zero a at = let here : first ≡ a = cc in ap (λ (x : Output). scheme_key x.sharing.poly) (sym here)
 in_chain first outputs chain (suc i) a at = chain_keeps first outputs chain i a at
 
-share_one : (one : Desk) (epoch : ℕ) (other : Desk) (later : ℕ) (a b : Sharing) → HoldsOf one epoch a → HoldsOf other later b → key_of a.poly ≡ key_of b.poly → ShareOneKey one epoch other later
+share_one : (one : Desk) (epoch : ℕ) (other : Desk) (later : ℕ) (a b : Sharing) → HoldsOf one epoch a → HoldsOf other later b → scheme_key a.poly ≡ scheme_key b.poly → ShareOneKey one epoch other later
 share_one one epoch other later a b held held' same = record {
   info = held.0;
   info' = held'.0;
   held = held.1;
   held' = held'.1;
-  same = ap (λ (s : Sharing). key_of s.poly) held.2 ∙ same ∙ sym (ap (λ (s : Sharing). key_of s.poly) held'.2);
+  same = ap (λ (s : Sharing). scheme_key s.poly) held.2 ∙ same ∙ sym (ap (λ (s : Sharing). scheme_key s.poly) held'.2);
 }
 
 pub chain_value : (first : Output) (outputs : List Output) → IsChain first outputs → (i j : ℕ) (a b : Output) → slice_get (first ∷ outputs) i ≡ Some a → slice_get (first ∷ outputs) j ≡ Some b
     → (one other : Desk) (epoch later : ℕ) → HoldsOf one epoch a.sharing → HoldsOf other later b.sharing → (message : List ℕ) (partials partials' : List Partial) (s t : Signature)
     → combine_of one message epoch partials ≡ Ok s → combine_of other message later partials' ≡ Ok t → s.value ≡ t.value
 chain_value first outputs chain i j a b at_a at_b one other epoch later held held' message partials partials' s t of_one of_other =
-    let key : key_of a.sharing.poly ≡ key_of b.sharing.poly = in_chain first outputs chain i a at_a ∙ sym (in_chain first outputs chain j b at_b) in
+    let key : scheme_key a.sharing.poly ≡ scheme_key b.sharing.poly = in_chain first outputs chain i a at_a ∙ sym (in_chain first outputs chain j b at_b) in
     one_value one other message epoch later partials partials' s t (share_one one epoch other later a.sharing b.sharing held held' key) of_one of_other

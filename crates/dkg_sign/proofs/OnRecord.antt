@@ -12,7 +12,7 @@ use Rattle.dkg_journal.specs.Burn.{Burn}
 use Rattle.dkg_journal.specs.Disk.{Follows, Inside, IsUnchanged, Lands}
 use Rattle.dkg_journal.specs.Names.{Files}
 use Rattle.dkg_journal.specs.Operations.{Journaled, PutsPlan, Tried, Finished}
-use Rattle.dkg_sign.specs.Recorded.{recorded, epoch_in, epoch_of}
+use Rattle.dkg_sign.specs.Recorded.{recorded, epoch_in, epoch_read}
 use Rattle.dkg_journal.specs.declared.call.JournalError.{JournalError}
 use Rattle.dkg_journal.specs.declared.call.JournalError.TheVariants as of_journal
 use Rattle.dkg_journal.specs.declared.disk.Op.TheVariants.{Barrier}
@@ -27,7 +27,7 @@ spelled epoch small = ap (λ (b : List ℕ). whole (uint_at (2 ^ 64 - 1) b)) (sy
 
 -- a record of an epoch
 pub record_says : (epoch : ℕ) (c : Files) → epoch < 2 ^ 64 → get c Plan ≡ Some (uint epoch) → recorded c ≡ Ok (Some epoch)
-record_says epoch c small is = ap epoch_in is ∙ ap epoch_of (spelled epoch small)
+record_says epoch c small is = ap epoch_in is ∙ ap epoch_read (spelled epoch small)
 
 -- the record that was not touched
 pub record_same : (old c : Files) → get c Plan ≡ get old Plan → recorded c ≡ recorded old

@@ -6,8 +6,8 @@ use Rattle.dkg_journal.specs.Names.{Files}
 use Rattle.dkg_types.specs.declared.scheme.SchemeInfo.{SchemeInfo}
 use Rattle.dkg_sign.specs.Desks.{Desk}
 use Rattle.dkg_sign.specs.Recorded.{recorded, IsAsLeft}
-use Rattle.dkg_sign.specs.Registers.{EndsByVerdict, SameFiles, is_below}
-use Rattle.dkg_sign.specs.Registrars.{Asked, PutsAtMost, StaysShut, Wanted}
+use Rattle.dkg_sign.specs.Registers.{EndsByVerdict, SameFiles, is_recorded_below}
+use Rattle.dkg_sign.specs.Registrars.{Asked, PutsAtMost, DeskStaysShut, Wanted}
 use Rattle.dkg_sign.specs.declared.error.DeskError.{DeskError}
 use Rattle.dkg_sign.specs.declared.error.DeskError.TheVariants.{NoMemory}
 
@@ -22,7 +22,7 @@ ended_wanted (Ok true) false epoch info old new ends = absurd ends
 asked_wanted : (tells : Bool) (reading : Result (Option ℕ) DeskError) (reopen reopen' : Bool) (old new : Desk) (epoch : ℕ) (info : SchemeInfo)
     → (asked : Asked tells reading reopen old new epoch info (Err NoMemory)) → reopen' ≡ false → Wanted tells reading reopen reopen' old new
 asked_wanted tells reading reopen reopen' old new epoch info asked is =
-    let same : new ≡ asked.desk = ended_wanted asked.verdict (is_below asked.desk.current epoch) epoch info asked.desk new asked.ended in
+    let same : new ≡ asked.desk = ended_wanted asked.verdict (is_recorded_below asked.desk.current epoch) epoch info asked.desk new asked.ended in
     elim (cases_Bool reopen) [
       | inl had ↦ record {
         desk = inr
@@ -32,7 +32,7 @@ asked_wanted tells reading reopen reopen' old new epoch info asked is =
     ]
 
 pub wanted : (tells : Bool) (reading : Result (Option ℕ) DeskError) (reopen reopen' : Bool) (old new : Desk) (epoch : ℕ) (info : SchemeInfo) (answer : Result (Unit {0}) DeskError)
-    → StaysShut tells reading reopen reopen' old new answer ⊎ (Asked tells reading reopen old new epoch info answer × (reopen' ≡ false)) → answer ≡ Err NoMemory → Wanted tells reading reopen reopen' old new
+    → DeskStaysShut tells reading reopen reopen' old new answer ⊎ (Asked tells reading reopen old new epoch info answer × (reopen' ≡ false)) → answer ≡ Err NoMemory → Wanted tells reading reopen reopen' old new
 wanted tells reading reopen reopen' old new epoch info answer went is = elim went [
   | inl shut ↦ record { desk = inl (shut.has_to ∙ sym shut.had_to, shut.same) }
   | inr asked ↦ asked_wanted tells reading reopen reopen' old new epoch info (subst (λ (r : Result (Unit {0}) DeskError). Asked tells reading reopen old new epoch info r) is asked.0) asked.1

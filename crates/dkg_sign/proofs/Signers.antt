@@ -8,8 +8,8 @@ use Rattle.std.proofs.lemmas.List.{get_or-set_same, get_or-set_other}
 use Rattle.std.specs.List.{position_from}
 use Rattle.dkg_values.specs.Rising.{place_of, has_key}
 use Rattle.dkg_types.specs.declared.scheme.SchemeInfo.{SchemeInfo}
-use Rattle.dkg_sign.specs.Materials.{participants_of}
-use Rattle.dkg_sign.specs.Signs.{AreMet, fault_from, is_valid}
+use Rattle.dkg_sign.specs.Materials.{scheme_participants}
+use Rattle.dkg_sign.specs.Signs.{AreMet, fault_from, is_valid_partial}
 use Rattle.dkg_sign.specs.declared.error.CombineError.TheVariants.{Invalid, Doubled}
 use Rattle.dkg_sign.specs.declared.partial.Partial.{Partial}
 
@@ -74,11 +74,11 @@ meets participants met flags key place is lt are = (
 -- they had no fault, and their signers were met
 pub record IsChecked (info : SchemeInfo) (epoch hash : ℕ) (partials : List Partial) (flags : List Bool) (index : ℕ) : Type 0 where
   pub met : List ℕ
-  pub flagged : AreMet (participants_of info) met flags
+  pub flagged : AreMet (scheme_participants info) met flags
   pub rest : fault_from info epoch hash [] 0 partials ≡ fault_from info epoch hash met index (drop index partials)
 
 pub none_checked : (info : SchemeInfo) (epoch hash : ℕ) (partials : List Partial) (n : ℕ) → IsChecked info epoch hash partials (replicate n false) 0
-none_checked info epoch hash partials n = record { met = []; flagged = none_met (participants_of info) n; rest = refl }
+none_checked info epoch hash partials n = record { met = []; flagged = none_met (scheme_participants info) n; rest = refl }
 
 here_is : (info : SchemeInfo) (epoch hash : ℕ) (partials : List Partial) (met : List ℕ) (index : ℕ) (p : Partial) → index < length partials → p ≡ get_or partials index p
     → fault_from info epoch hash met index (drop index partials) ≡ fault_from info epoch hash met index (p ∷ drop (suc index) partials)
@@ -87,19 +87,19 @@ here_is info epoch hash partials met index p lt is =
 
 -- .. one that is not valid
 pub one_invalid : (info : SchemeInfo) (epoch hash : ℕ) (partials : List Partial) (flags : List Bool) (index : ℕ) (p : Partial) → index < length partials → p ≡ get_or partials index p
-    → IsChecked info epoch hash partials flags index → is_valid info epoch hash p ≡ false → fault_from info epoch hash [] 0 partials ≡ Some (Invalid index)
+    → IsChecked info epoch hash partials flags index → is_valid_partial info epoch hash p ≡ false → fault_from info epoch hash [] 0 partials ≡ Some (Invalid index)
 one_invalid info epoch hash partials flags index p lt is so invalid =
     so.rest ∙ here_is info epoch hash partials so.met index p lt is ∙ rw invalid refl
 
 -- .. one whose signer was met
 pub one_doubled : (info : SchemeInfo) (epoch hash : ℕ) (partials : List Partial) (flags : List Bool) (index : ℕ) (p : Partial) → index < length partials → p ≡ get_or partials index p
-    → (so : IsChecked info epoch hash partials flags index) → is_valid info epoch hash p ≡ true → has_key p.signer so.met ≡ true → fault_from info epoch hash [] 0 partials ≡ Some (Doubled index)
+    → (so : IsChecked info epoch hash partials flags index) → is_valid_partial info epoch hash p ≡ true → has_key p.signer so.met ≡ true → fault_from info epoch hash [] 0 partials ≡ Some (Doubled index)
 one_doubled info epoch hash partials flags index p lt is so valid met =
     so.rest ∙ here_is info epoch hash partials so.met index p lt is ∙ rw (valid, met) refl
 
 -- .. one without a fault
 pub one_more : (info : SchemeInfo) (epoch hash : ℕ) (partials : List Partial) (flags next : List Bool) (index : ℕ) (p : Partial) → index < length partials → p ≡ get_or partials index p
-    → (so : IsChecked info epoch hash partials flags index) → is_valid info epoch hash p ≡ true → has_key p.signer so.met ≡ false → AreMet (participants_of info) (p.signer ∷ so.met) next
+    → (so : IsChecked info epoch hash partials flags index) → is_valid_partial info epoch hash p ≡ true → has_key p.signer so.met ≡ false → AreMet (scheme_participants info) (p.signer ∷ so.met) next
     → IsChecked info epoch hash partials next (index + 1)
 one_more info epoch hash partials flags next index p lt is so valid unmet are = record {
   met = p.signer ∷ so.met;

@@ -6,7 +6,7 @@ use Rattle.dkg_ceremony.specs.declared.sharing.Sharing.{Sharing}
 use Rattle.dkg_ceremony.specs.Outcomes.{LogMap, outcome_of}
 use Rattle.dkg_types.specs.declared.scheme.SchemeInfo.{SchemeInfo}
 use Rattle.dkg_sign.specs.Desks.{Desk, material_of}
-use Rattle.dkg_sign.specs.Materials.{key_of, sharing_of}
+use Rattle.dkg_sign.specs.Materials.{scheme_key, sharing_of}
 
 -- The output of the next epoch: the same after a failed round, or else the outcome of a round that deals this one again.
 abbrev pub IsNextOutput : Output → Output → Type 0
@@ -23,7 +23,7 @@ pub record ShareOneKey (one : Desk) (epoch : ℕ) (other : Desk) (later : ℕ) :
   pub info' : SchemeInfo
   pub held : material_of one epoch ≡ Some info
   pub held' : material_of other later ≡ Some info'
-  pub same : key_of (sharing_of info).poly ≡ key_of (sharing_of info').poly
+  pub same : scheme_key (sharing_of info).poly ≡ scheme_key (sharing_of info').poly
 
 -- a desk holds material of this sharing
 abbrev pub HoldsOf : Desk → (epoch : ℕ) → Sharing → Type 0

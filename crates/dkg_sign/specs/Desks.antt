@@ -14,12 +14,12 @@ replaced_by None epoch = None
 replaced_by (Some current) epoch = if nat_lt epoch current then Some current else None
 
 -- what is held of an epoch, where this is the current one
-abbrev pub held_at : Option ℕ → Option SchemeInfo → (epoch : ℕ) → Option SchemeInfo
-held_at None held epoch = None
-held_at (Some current) held epoch = if current == epoch then held else None
+abbrev pub held_of_current : Option ℕ → Option SchemeInfo → (epoch : ℕ) → Option SchemeInfo
+held_of_current None held epoch = None
+held_of_current (Some current) held epoch = if current == epoch then held else None
 
 abbrev pub material_of : Desk → (epoch : ℕ) → Option SchemeInfo
-material_of desk epoch = held_at desk.current desk.held epoch
+material_of desk epoch = held_of_current desk.current desk.held epoch
 
 -- Material is held of a current epoch alone, and is the desk's own.
 abbrev pub HoldsOwn : (me : ℕ) → Option ℕ → Option SchemeInfo → Type 0

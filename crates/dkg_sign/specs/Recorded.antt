@@ -11,13 +11,13 @@ use Rattle.dkg_sign.specs.Desks.{Desk}
 use Rattle.dkg_sign.specs.declared.error.DeskError.{DeskError}
 use Rattle.dkg_sign.specs.declared.error.DeskError.TheVariants.{Corrupt}
 
-abbrev pub epoch_of : Result ℕ CodecError → Result (Option ℕ) DeskError
-epoch_of (Ok epoch) = Ok (Some epoch)
-epoch_of (Err e) = Err (Corrupt 0)
+abbrev pub epoch_read : Result ℕ CodecError → Result (Option ℕ) DeskError
+epoch_read (Ok epoch) = Ok (Some epoch)
+epoch_read (Err e) = Err (Corrupt 0)
 
 abbrev pub epoch_in : Option (List ℕ) → Result (Option ℕ) DeskError
 epoch_in None = Ok None
-epoch_in (Some bytes) = epoch_of (whole (uint_at (2 ^ 64 - 1) bytes))
+epoch_in (Some bytes) = epoch_read (whole (uint_at (2 ^ 64 - 1) bytes))
 
 -- The epoch in the record, none where there is no record, and Corrupt where it is not one whole epoch.
 abbrev pub recorded : Files → Result (Option ℕ) DeskError

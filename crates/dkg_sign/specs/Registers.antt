@@ -29,14 +29,14 @@ Opens reading (Err (Corrupt place)) = reading ≡ Err (Corrupt place)
 Opens reading (Err e) = Unit {0}
 
 -- the errors that an opening may give
-abbrev pub IsOfOpening : DeskError → Type 0
-IsOfOpening Disk = Unit {0}
-IsOfOpening Cut = Unit {0}
-IsOfOpening NoMemory = Unit {0}
-IsOfOpening (Corrupt place) = Unit {0}
-IsOfOpening (Replaced asked current) = ⊥
-IsOfOpening (Conflict epoch) = ⊥
-IsOfOpening (Foreign epoch) = ⊥
+abbrev pub IsOfDeskOpening : DeskError → Type 0
+IsOfDeskOpening Disk = Unit {0}
+IsOfDeskOpening Cut = Unit {0}
+IsOfDeskOpening NoMemory = Unit {0}
+IsOfDeskOpening (Corrupt place) = Unit {0}
+IsOfDeskOpening (Replaced asked current) = ⊥
+IsOfDeskOpening (Conflict epoch) = ⊥
+IsOfDeskOpening (Foreign epoch) = ⊥
 
 -- the errors that a put of the record may give
 abbrev pub IsOfPut : DeskError → Type 0
@@ -49,15 +49,15 @@ IsOfPut (Conflict epoch) = ⊥
 IsOfPut (Foreign epoch) = ⊥
 
 -- the answers behind which the disk stands beside the desk as before: all but a failed or a cut call of it
-abbrev pub IsKept : Result (Unit {0}) DeskError → Type 0
-IsKept (Ok done) = Unit {0}
-IsKept (Err Disk) = ⊥
-IsKept (Err Cut) = ⊥
-IsKept (Err NoMemory) = Unit {0}
-IsKept (Err (Corrupt place)) = Unit {0}
-IsKept (Err (Replaced asked current)) = Unit {0}
-IsKept (Err (Conflict epoch)) = Unit {0}
-IsKept (Err (Foreign epoch)) = Unit {0}
+abbrev pub IsDiskKept : Result (Unit {0}) DeskError → Type 0
+IsDiskKept (Ok done) = Unit {0}
+IsDiskKept (Err Disk) = ⊥
+IsDiskKept (Err Cut) = ⊥
+IsDiskKept (Err NoMemory) = Unit {0}
+IsDiskKept (Err (Corrupt place)) = Unit {0}
+IsDiskKept (Err (Replaced asked current)) = Unit {0}
+IsDiskKept (Err (Conflict epoch)) = Unit {0}
+IsDiskKept (Err (Foreign epoch)) = Unit {0}
 
 -- The verdict of a registration's tests, in their order: why it is refused, or whether the material is to be taken. The same material again is not.
 abbrev pub Verdict : Option ℕ → Bool → Option SchemeInfo → (epoch : ℕ) → SchemeInfo → Result Bool DeskError → Type 0
@@ -70,9 +70,9 @@ abbrev pub JudgesRegistration : Desk → (epoch : ℕ) → SchemeInfo → Result
 JudgesRegistration desk epoch info verdict = Verdict (replaced_by desk.current epoch) (is_own desk.me info) (material_of desk epoch) epoch info verdict
 
 -- whether the record has a lower epoch, or none
-abbrev pub is_below : Option ℕ → (epoch : ℕ) → Bool
-is_below None epoch = true
-is_below (Some current) epoch = nat_lt current epoch
+abbrev pub is_recorded_below : Option ℕ → (epoch : ℕ) → Bool
+is_recorded_below None epoch = true
+is_recorded_below (Some current) epoch = nat_lt current epoch
 
 -- the desk with the material in place of what it held
 abbrev pub with_material : Desk → (epoch : ℕ) → SchemeInfo → Desk
@@ -97,8 +97,8 @@ pub record Registers {D F : Type 0} (old new : Desk) (epoch : ℕ) (info : Schem
     (disk disk' : D) (fuse fuse' : F) : Type 0 where
   pub verdict : Result Bool DeskError
   pub judged : JudgesRegistration old epoch info verdict
-  pub ended : EndsByVerdict verdict (is_below old.current epoch) epoch info old new result
-  pub untouched : reaches verdict (is_below old.current epoch) ≡ false → (disk' ≡ disk) × (fuse' ≡ fuse)
+  pub ended : EndsByVerdict verdict (is_recorded_below old.current epoch) epoch info old new result
+  pub untouched : reaches verdict (is_recorded_below old.current epoch) ≡ false → (disk' ≡ disk) × (fuse' ≡ fuse)
 
 -- an image as it was
 abbrev pub SameFiles : Files → Files → Type 0

@@ -10,7 +10,7 @@ use Rattle.dkg_journal.specs.declared.disk.Op.TheVariants.{Barrier}
 use Rattle.dkg_types.specs.declared.scheme.SchemeInfo.{SchemeInfo}
 use Rattle.dkg_sign.specs.Desks.{Desk}
 use Rattle.dkg_sign.specs.Recorded.{IsAsLeft, recorded}
-use Rattle.dkg_sign.specs.Registers.{EndsByVerdict, IsOfOpening, JudgesRegistration, Opens, is_below}
+use Rattle.dkg_sign.specs.Registers.{EndsByVerdict, IsOfDeskOpening, JudgesRegistration, Opens, is_recorded_below}
 use Rattle.dkg_sign.specs.declared.error.DeskError.{DeskError}
 use Rattle.dkg_sign.specs.declared.error.DeskError.TheVariants.{Replaced, Conflict, Foreign, Disk, Corrupt, Cut, NoMemory}
 
@@ -30,12 +30,12 @@ is_broken (Err (Conflict epoch)) = false
 is_broken (Err (Foreign epoch)) = false
 
 -- The desk could not be opened again over a record that reads so, and is as it was.
-pub record StaysShut (tells : Bool) (reading : Result (Option ℕ) DeskError) (reopen reopen' : Bool) (old new : Desk)
+pub record DeskStaysShut (tells : Bool) (reading : Result (Option ℕ) DeskError) (reopen reopen' : Bool) (old new : Desk)
     (answer : Result (Unit {0}) DeskError) : Type 0 where
   pub had_to : reopen ≡ true
   pub has_to : reopen' ≡ true
   pub same : new ≡ old
-  pub why : IsErrAnd answer IsOfOpening
+  pub why : IsErrAnd answer IsOfDeskOpening
   pub exact : IsTrue tells → IsErrAnd answer (λ e. Opens reading (Err e))
 
 -- The desk was asked, or the one that was opened again in its place over a record that reads so, and answered so.
@@ -47,19 +47,19 @@ pub record Asked (tells : Bool) (reading : Result (Option ℕ) DeskError) (reope
   pub reads : IsTrue tells → reopen ≡ true → reading ≡ Ok desk.current
   pub verdict : Result Bool DeskError
   pub judged : JudgesRegistration desk epoch info verdict
-  pub ended : EndsByVerdict verdict (is_below desk.current epoch) epoch info desk new answer
+  pub ended : EndsByVerdict verdict (is_recorded_below desk.current epoch) epoch info desk new answer
 
 -- the list of refusals behind an answer
-abbrev pub listed : Result (Unit {0}) DeskError → List DeskError → List DeskError
-listed (Ok done) refused = refused
-listed (Err why) refused = refused ++ why ∷ []
+abbrev pub refusals_listed : Result (Unit {0}) DeskError → List DeskError → List DeskError
+refusals_listed (Ok done) refused = refused
+refusals_listed (Err why) refused = refused ++ why ∷ []
 
 -- A registration that was not answered by want of memory: what the desk answered, and that a refusal is listed.
 pub record Attempted (tells : Bool) (reading : Result (Option ℕ) DeskError) (reopen reopen' : Bool) (old new : Desk)
     (epoch : ℕ) (info : SchemeInfo) (refused refused' : List DeskError) (faults faults' : ℕ) : Type 0 where
   pub answer : Result (Unit {0}) DeskError
-  pub went : StaysShut tells reading reopen reopen' old new answer ⊎ (Asked tells reading reopen old new epoch info answer × (reopen' ≡ is_broken answer))
-  pub list : refused' ≡ listed answer refused
+  pub went : DeskStaysShut tells reading reopen reopen' old new answer ⊎ (Asked tells reading reopen old new epoch info answer × (reopen' ≡ is_broken answer))
+  pub list : refused' ≡ refusals_listed answer refused
   pub not_memory : answer ≢ Err NoMemory
   -- no fuse cuts a registrar's calls
   pub not_cut : answer ≢ Err Cut

@@ -5,7 +5,7 @@ use Rattle.sha2.specs.Sha256.{sha256}
 use Rattle.dkg_ceremony.specs.Polynomials.{prime}
 use Rattle.dkg_ceremony.specs.declared.sharing.Sharing.{Sharing}
 use Rattle.dkg_types.specs.declared.scheme.SchemeInfo.{SchemeInfo}
-use Rattle.dkg_sign.specs.Materials.{key_of, value_of}
+use Rattle.dkg_sign.specs.Materials.{scheme_key, value_of}
 
 abbrev pub one_for_none : ℕ → ℕ
 one_for_none n = if n == 0 then 1 else n
@@ -28,4 +28,4 @@ partial_of info signer message = partial_at info signer (hash_of message)
 
 -- The signature of a sharing: its constant coefficient times the hash.
 abbrev pub signature_of : Sharing → List ℕ → ℕ
-signature_of sharing message = times (hash_of message) (key_of sharing.poly)
+signature_of sharing message = times (hash_of message) (scheme_key sharing.poly)

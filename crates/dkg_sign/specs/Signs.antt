@@ -4,7 +4,7 @@ use Rattle.dkg_values.specs.Rising.{has_key, place_of}
 use Rattle.dkg_ceremony.specs.Thresholds.{quorum_of}
 use Rattle.dkg_types.specs.declared.scheme.SchemeInfo.{SchemeInfo}
 use Rattle.dkg_sign.specs.Desks.{Desk, replaced_by, material_of}
-use Rattle.dkg_sign.specs.Materials.{share_of, sharing_of}
+use Rattle.dkg_sign.specs.Materials.{scheme_share, sharing_of}
 use Rattle.dkg_sign.specs.Signing.{hash_of, partial_at, partial_of, signature_of, times}
 use Rattle.dkg_sign.specs.declared.error.SignError.{SignError}
 use Rattle.dkg_sign.specs.declared.error.SignError.TheVariants.{Replaced, Unknown, NoShare}
@@ -21,7 +21,7 @@ sign_by (Some share) me epoch message = Ok (record { epoch = epoch; signer = me;
 
 abbrev pub sign_with : Option SchemeInfo → (me epoch : ℕ) → List ℕ → Result Partial SignError
 sign_with None me epoch message = Err (Unknown epoch)
-sign_with (Some info) me epoch message = sign_by (share_of info) me epoch message
+sign_with (Some info) me epoch message = sign_by (scheme_share info) me epoch message
 
 abbrev pub sign_unless : Option ℕ → Option SchemeInfo → (me epoch : ℕ) → List ℕ → Result Partial SignError
 sign_unless (Some current) held me epoch message = Err (Replaced epoch current)
@@ -47,14 +47,14 @@ is_this None n = false
 is_this (Some m) n = n == m
 
 -- whether a partial is of this epoch, of a participant, and has its value
-abbrev pub is_valid : SchemeInfo → (epoch hash : ℕ) → Partial → Bool
-is_valid info epoch hash partial = (partial.epoch == epoch) && is_this (partial_at info partial.signer hash) partial.value
+abbrev pub is_valid_partial : SchemeInfo → (epoch hash : ℕ) → Partial → Bool
+is_valid_partial info epoch hash partial = (partial.epoch == epoch) && is_this (partial_at info partial.signer hash) partial.value
 
 -- the first fault of partials, of which the first stands at this index, behind those of these signers
 abbrev pub fault_from : SchemeInfo → (epoch hash : ℕ) → (seen : List ℕ) → (index : ℕ) → List Partial → Option CombineError
 fault_from info epoch hash seen index [] = None
 fault_from info epoch hash seen index (p ∷ ps) =
-    if not (is_valid info epoch hash p) then Some (combine.Invalid index)
+    if not (is_valid_partial info epoch hash p) then Some (combine.Invalid index)
     else if has_key p.signer seen then Some (combine.Doubled index)
     else fault_from info epoch hash (p.signer ∷ seen) (index + 1) ps
 

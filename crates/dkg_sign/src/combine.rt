@@ -1,7 +1,7 @@
 //! How partials make a signature: each is checked, and a quorum of them is combined.
 ghost use Rattle.std.specs.Prelude.{◌≡◌, ◌<◌, ◌^◌, ℕ, true, not, List, [], ◌∷◌, length, is_some};
 ghost use Rattle.std.specs.Bool.{OnTrue};
-ghost use Rattle.dkg_sign.specs.Signs.{AreMet, AnswersFault, AnswersSignature, combine_of, fault_from, is_valid};
+ghost use Rattle.dkg_sign.specs.Signs.{AreMet, AnswersFault, AnswersSignature, combine_of, fault_from, is_valid_partial};
 ghost use Rattle.dkg_values.specs.Rising.{has_key, place_of};
 
 use crate::desk::{SigningDesk, times_of};
@@ -17,7 +17,7 @@ use std::alloc::Global;
 /// Whether a partial is of this epoch, of a participant, and has its value.
 fn is_partial(info: &SchemeInfo, epoch: Epoch, hash: u32, partial: &Partial) -> bool
     requires { hash < 65521 }
-    ensures { result ≡ is_valid info.now epoch hash partial.now }
+    ensures { result ≡ is_valid_partial info.now epoch hash partial.now }
 {
     if partial.epoch != epoch {
         return false;

@@ -2,7 +2,7 @@
 ghost use Rattle.std.specs.Prelude.{◌≡◌, ◌<◌, ◌*◌, ◌%◌, IfOk, List, OnOk};
 ghost use Rattle.std.specs.Option.{option_copied};
 ghost use Rattle.dkg_sign.specs.Desks.{replaced_by, material_of};
-ghost use Rattle.dkg_sign.specs.Lives.{Deed, Signed, Covers, KeptWith, NeverBack};
+ghost use Rattle.dkg_sign.specs.Lives.{DeskDeed, Signed, Covers, KeptWith, NeverBack};
 ghost use Rattle.dkg_sign.specs.Signing.{times};
 ghost use Rattle.dkg_sign.specs.Signs.{sign_of, IsPartialOf};
 
@@ -85,7 +85,7 @@ impl SigningDesk {
         ensures exact { result ≡ sign_of self.now epoch message.now }
         ensures own { IfOk result (IsPartialOf self.now epoch message.now) }
         // The promise over lives: no later epoch was registered, so it is kept with this partial too.
-        ensures lives { OnOk result ((deeds : List Deed) → NeverBack deeds → Covers self.now.current deeds
+        ensures lives { OnOk result ((deeds : List DeskDeed) → NeverBack deeds → Covers self.now.current deeds
             → KeptWith (Signed epoch) self.now.current deeds) }
     {
         if let Some(current) = self.replaced(epoch) {

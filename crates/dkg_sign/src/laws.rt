@@ -4,8 +4,8 @@ ghost use Rattle.dkg_ceremony.specs.declared.output.Output.{Output};
 ghost use Rattle.dkg_journal.specs.Names.{Files};
 ghost use Rattle.dkg_sign.specs.Chains.{HoldsOf, IsChain, ShareOneKey};
 ghost use Rattle.dkg_sign.specs.Desks.{Desk};
-ghost use Rattle.dkg_sign.specs.Lives.{Deed, KeepsPromise, KeptWith, NeverBack};
-ghost use Rattle.dkg_sign.specs.Materials.{key_of};
+ghost use Rattle.dkg_sign.specs.Lives.{DeskDeed, KeepsPromise, KeptWith, NeverBack};
+ghost use Rattle.dkg_sign.specs.Materials.{scheme_key};
 ghost use Rattle.dkg_sign.specs.Signs.{combine_of};
 ghost use Rattle.dkg_sign.specs.declared.partial.Partial.{Partial};
 ghost use Rattle.dkg_sign.specs.declared.partial.Signature.{Signature};
@@ -19,7 +19,7 @@ pub fn one_signature()
         → ShareOneKey one epoch other later → combine_of one message epoch partials ≡ Ok s → combine_of other message later partials' ≡ Ok t
         → s.value ≡ t.value }
     ensures chain { (first : Output) (outputs : List Output) → IsChain first outputs → (i : ℕ) (last : Output) → slice_get outputs i ≡ Some last
-        → key_of last.sharing.poly ≡ key_of first.sharing.poly }
+        → scheme_key last.sharing.poly ≡ scheme_key first.sharing.poly }
     ensures epochs { (first : Output) (outputs : List Output) → IsChain first outputs → (i j : ℕ) (a b : Output)
         → slice_get (first ∷ outputs) i ≡ Some a → slice_get (first ∷ outputs) j ≡ Some b
         → (one other : Desk) (epoch later : ℕ) → HoldsOf one epoch a.sharing → HoldsOf other later b.sharing
@@ -31,9 +31,9 @@ pub fn one_signature()
 /// since its images are fewer; and what keeps it never went back.
 pub fn lives_follow<D: Disk>()
     ensures first { (disk : D) → KeepsPromise [] (D.image disk) }
-    ensures signed { (deed : Deed) (deeds : List Deed) (current : Option ℕ) (disk : D) → KeepsPromise deeds (D.image disk) → KeptWith deed current deeds
+    ensures signed { (deed : DeskDeed) (deeds : List DeskDeed) (current : Option ℕ) (disk : D) → KeepsPromise deeds (D.image disk) → KeptWith deed current deeds
         → KeepsPromise (deed ∷ deeds) (D.image disk) }
-    ensures crash { (deeds : List Deed) (old new : D) → ((c : Files) → D.image new c → D.image old c) → KeepsPromise deeds (D.image old)
+    ensures crash { (deeds : List DeskDeed) (old new : D) → ((c : Files) → D.image new c → D.image old c) → KeepsPromise deeds (D.image old)
         → KeepsPromise deeds (D.image new) }
-    ensures never_back { (deeds : List Deed) (disk : D) → KeepsPromise deeds (D.image disk) → NeverBack deeds }
+    ensures never_back { (deeds : List DeskDeed) (disk : D) → KeepsPromise deeds (D.image disk) → NeverBack deeds }
 {}

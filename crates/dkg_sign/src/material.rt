@@ -1,7 +1,7 @@
 //! The material of an epoch as a desk uses it: who takes part, the shared key in public, and this node's share.
 ghost use Rattle.std.specs.Prelude.{◌≡◌, ◌<◌, IsTrue, IfSome, option_map, is_some};
 ghost use Rattle.dkg_ceremony.specs.Polynomials.{value_at};
-ghost use Rattle.dkg_sign.specs.Materials.{participants_of, sharing_of, share_of, is_own, value_of as value_from};
+ghost use Rattle.dkg_sign.specs.Materials.{scheme_participants, sharing_of, scheme_share, is_own, value_of as value_from};
 ghost use Rattle.dkg_values.specs.Rising.{place_of};
 
 use dkg_ceremony::{Ceremony, Key, Set, Share, Sharing, StandCeremony, quorum, value_of};
@@ -9,7 +9,7 @@ use dkg_types::SchemeInfo;
 
 /// Who takes part.
 pub(crate) fn participants(info: &SchemeInfo) -> &Set
-    ensures { result.now ≡ participants_of info.now }
+    ensures { result.now ≡ scheme_participants info.now }
 {
     match info {
         SchemeInfo::Verifier { participants, .. }
@@ -31,7 +31,7 @@ pub(crate) fn sharing(info: &SchemeInfo) -> &Sharing
 
 /// This node's share, where it holds one.
 pub(crate) fn share(info: &SchemeInfo) -> Option<Share>
-    ensures { result ≡ share_of info.now }
+    ensures { result ≡ scheme_share info.now }
 {
     match info {
         SchemeInfo::Verifier { .. } | SchemeInfo::Member { .. } => None,

@@ -5,9 +5,9 @@ ghost use Rattle.std.specs.Prelude.{◌≡◌, ◌≢◌, ◌≤◌, ◌⊎◌, 
 ghost use Rattle.dkg_journal.specs.Disk.{Follows, IsUnchanged, Lands, Rose};
 ghost use Rattle.dkg_journal.specs.Fuse.{Fused, Ran, RanAll};
 ghost use Rattle.dkg_journal.specs.Names.{Files};
-ghost use Rattle.dkg_sign.specs.Lives.{Deed, KeepsPromise, Covers, with_registered};
+ghost use Rattle.dkg_sign.specs.Lives.{DeskDeed, KeepsPromise, Covers, deeds_with_registered};
 ghost use Rattle.dkg_sign.specs.Recorded.{recorded, epoch_in, IsAsLeft};
-ghost use Rattle.dkg_sign.specs.Registers.{AnswersRecord, IsKept, IsOfOpening, IsOfPut, JudgesRegistration, Opens, Registers, SameFiles, is_below, put_call};
+ghost use Rattle.dkg_sign.specs.Registers.{AnswersRecord, IsDiskKept, IsOfDeskOpening, IsOfPut, JudgesRegistration, Opens, Registers, SameFiles, is_recorded_below, put_call};
 
 use crate::desk::SigningDesk;
 use crate::error::DeskError;
@@ -68,7 +68,7 @@ impl SigningDesk {
     ) -> Result<SigningDesk, DeskError>
         ensures fresh { IfOk result (λ desk. (desk.me ≡ me) × (desk.held ≡ None)) }
         ensures exact { IsTrue D.tells → Opens (recorded (D.files disk.old)) result }
-        ensures error_kinds { IfErr result IsOfOpening }
+        ensures error_kinds { IfErr result IsOfDeskOpening }
         ensures stands { IfOk result (λ desk. IsTrue D.tells → IsAsLeft desk (D.files disk.new) (D.image disk.new)) }
         ensures same { Follows SameFiles (D.image disk.old) (D.image disk.new) }
         ensures later { D.faults disk.old ≤ D.faults disk.new }
@@ -76,7 +76,7 @@ impl SigningDesk {
         ensures fused { Fused DeskError.Cut DeskError.NoMemory result fuse.old fuse.new }
         ensures calls { RanAll D.made disk.old disk.new fuse.old fuse.new (Op.Barrier ∷ []) }
         // The promise over lives: what was registered in earlier lives is known to this one.
-        ensures lives { IsTrue D.tells → (deeds : List Deed) → KeepsPromise deeds (D.image disk.old)
+        ensures lives { IsTrue D.tells → (deeds : List DeskDeed) → KeepsPromise deeds (D.image disk.old)
             → KeepsPromise deeds (D.image disk.new) × IfOk result (λ desk. Covers desk.current deeds) }
     {
         perform(alloc, disk, fuse, &Op::Barrier)?;
@@ -111,7 +111,7 @@ impl SigningDesk {
 
     /// Whether the record has a lower epoch, or none.
     fn is_below(&self, epoch: Epoch) -> bool
-        ensures { result ≡ is_below self.now.current epoch }
+        ensures { result ≡ is_recorded_below self.now.current epoch }
     {
         match self.current {
             None => true,
@@ -134,7 +134,7 @@ impl SigningDesk {
         info: SchemeInfo,
     ) -> Result<(), DeskError>
         ensures exact { Registers self.old self.new epoch info result disk.old disk.new fuse.old fuse.new }
-        ensures stands { IsTrue D.tells → IsAsLeft self.old (D.files disk.old) (D.image disk.old) → IsKept result
+        ensures stands { IsTrue D.tells → IsAsLeft self.old (D.files disk.old) (D.image disk.old) → IsDiskKept result
             → IsAsLeft self.new (D.files disk.new) (D.image disk.new) }
         ensures tried { IsAsLeft self.old (D.files disk.old) (D.image disk.old) → (c : Files) → D.image disk.new c
             → (recorded c ≡ Ok self.old.current) ⊎ (recorded c ≡ Ok (Some epoch)) }
@@ -146,8 +146,8 @@ impl SigningDesk {
             → RanAll D.made disk.old disk.new fuse.old fuse.new (put_call epoch ∷ [])) }
         ensures calls { Ran D.made disk.old disk.new fuse.old fuse.new (put_call epoch ∷ []) }
         // The promise over lives: an epoch is in the record, whatever a crash leaves, before its registration is answered Ok.
-        ensures lives { IsTrue D.tells → IsAsLeft self.old (D.files disk.old) (D.image disk.old) → (deeds : List Deed) → KeepsPromise deeds (D.image disk.old)
-            → KeepsPromise (with_registered result epoch deeds) (D.image disk.new) × Covers self.new.current (with_registered result epoch deeds) }
+        ensures lives { IsTrue D.tells → IsAsLeft self.old (D.files disk.old) (D.image disk.old) → (deeds : List DeskDeed) → KeepsPromise deeds (D.image disk.old)
+            → KeepsPromise (deeds_with_registered result epoch deeds) (D.image disk.new) × Covers self.new.current (deeds_with_registered result epoch deeds) }
     {
         if !self.judge(epoch, &info)? {
             return Ok(());

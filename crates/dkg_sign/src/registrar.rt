@@ -5,10 +5,10 @@ ghost use Rattle.std.specs.Prelude.{◌≡◌, ◌≤◌, ◌⊎◌, ◌||◌, �
 ghost use Rattle.dkg_types.specs.declared.scheme.SchemeInfo.{SchemeInfo};
 ghost use Rattle.dkg_journal.specs.Disk.{Follows, Rose};
 ghost use Rattle.dkg_journal.specs.Fuse.{Fused, RanAll};
-ghost use Rattle.dkg_sign.specs.Lives.{Deed, KeepsPromise, Covers, Registered, with_registered};
+ghost use Rattle.dkg_sign.specs.Lives.{DeskDeed, KeepsPromise, Covers, Registered, deeds_with_registered};
 ghost use Rattle.dkg_sign.specs.Recorded.{recorded};
-ghost use Rattle.dkg_sign.specs.Registrars.{Asked, Attempted, IsAsLeftOrShut, PutsAtMost, RanUncut, StaysShut, Wanted, is_broken, opening_calls};
-ghost use Rattle.dkg_sign.specs.Registers.{IsKept, SameFiles, put_call};
+ghost use Rattle.dkg_sign.specs.Registrars.{Asked, Attempted, IsAsLeftOrShut, PutsAtMost, RanUncut, DeskStaysShut, Wanted, is_broken, opening_calls};
+ghost use Rattle.dkg_sign.specs.Registers.{IsDiskKept, SameFiles, put_call};
 
 use crate::desk::SigningDesk;
 use crate::error::DeskError;
@@ -71,7 +71,7 @@ impl<D: Disk> DeskRegistrar<D> {
         ensures first { OnOk result (self.old.reopen ≡ false → self.new.desk ≡ self.old.desk) }
         ensures again { OnOk result (self.old.reopen ≡ true → (self.new.desk.me ≡ self.old.desk.me) × (self.new.desk.held ≡ None)) }
         ensures reads { IsTrue D.tells → OnOk result (self.old.reopen ≡ true → recorded (D.files self.old.disk) ≡ Ok self.new.desk.current) }
-        ensures shut { OnErr result (StaysShut D.tells (recorded (D.files self.old.disk)) self.old.reopen self.new.reopen self.old.desk self.new.desk result) }
+        ensures shut { OnErr result (DeskStaysShut D.tells (recorded (D.files self.old.disk)) self.old.reopen self.new.reopen self.old.desk self.new.desk result) }
         ensures later { D.faults self.old.disk ≤ D.faults self.new.disk }
         ensures disk { IsErrOf result DeskError.Disk → Rose (D.faults self.old.disk) (D.faults self.new.disk) }
         ensures fused { Fused DeskError.Cut DeskError.NoMemory result fuse.old fuse.new }
@@ -79,7 +79,7 @@ impl<D: Disk> DeskRegistrar<D> {
         ensures same { Follows SameFiles (D.image self.old.disk) (D.image self.new.disk) }
         ensures stands { IsTrue D.tells → IsAsLeftOrShut self.old.reopen self.old.desk (D.files self.old.disk) (D.image self.old.disk)
             → IsAsLeftOrShut self.new.reopen self.new.desk (D.files self.new.disk) (D.image self.new.disk) }
-        ensures lives { IsTrue D.tells → (deeds : List Deed) → KeepsPromise deeds (D.image self.old.disk) → Covers self.old.desk.current deeds
+        ensures lives { IsTrue D.tells → (deeds : List DeskDeed) → KeepsPromise deeds (D.image self.old.disk) → Covers self.old.desk.current deeds
             → KeepsPromise deeds (D.image self.new.disk) × Covers self.new.desk.current deeds }
     {
         if !self.reopen {
@@ -94,7 +94,7 @@ impl<D: Disk> DeskRegistrar<D> {
     /// Registers with the desk. No fuse cuts its calls.
     fn attempt(&mut self, alloc: Global, epoch: Epoch, info: SchemeInfo) -> Result<(), DeskError>
         ensures refused { self.new.refused ≡ self.old.refused }
-        ensures went { StaysShut D.tells (recorded (D.files self.old.disk)) self.old.reopen self.new.reopen self.old.desk self.new.desk result
+        ensures went { DeskStaysShut D.tells (recorded (D.files self.old.disk)) self.old.reopen self.new.reopen self.old.desk self.new.desk result
             ⊎ (Asked D.tells (recorded (D.files self.old.disk)) self.old.reopen self.old.desk self.new.desk epoch info result
             × (self.new.reopen ≡ false)) }
         ensures not_cut { IsErrOf result DeskError.Cut → ⊥ }
@@ -103,11 +103,11 @@ impl<D: Disk> DeskRegistrar<D> {
         ensures calls { RanUncut D.made self.old.disk self.new.disk (opening_calls self.old.reopen ++ put_call epoch ∷ []) }
         ensures tried { IsTrue D.tells → IsAsLeftOrShut self.old.reopen self.old.desk (D.files self.old.disk) (D.image self.old.disk)
             → Follows (PutsAtMost epoch) (D.image self.old.disk) (D.image self.new.disk) }
-        ensures stands { IsTrue D.tells → IsAsLeftOrShut self.old.reopen self.old.desk (D.files self.old.disk) (D.image self.old.disk) → IsKept result
+        ensures stands { IsTrue D.tells → IsAsLeftOrShut self.old.reopen self.old.desk (D.files self.old.disk) (D.image self.old.disk) → IsDiskKept result
             → IsAsLeftOrShut self.new.reopen self.new.desk (D.files self.new.disk) (D.image self.new.disk) }
-        ensures lives { IsTrue D.tells → IsAsLeftOrShut self.old.reopen self.old.desk (D.files self.old.disk) (D.image self.old.disk) → (deeds : List Deed)
+        ensures lives { IsTrue D.tells → IsAsLeftOrShut self.old.reopen self.old.desk (D.files self.old.disk) (D.image self.old.disk) → (deeds : List DeskDeed)
             → KeepsPromise deeds (D.image self.old.disk) → Covers self.old.desk.current deeds
-            → KeepsPromise (with_registered result epoch deeds) (D.image self.new.disk) × Covers self.new.desk.current (with_registered result epoch deeds) }
+            → KeepsPromise (deeds_with_registered result epoch deeds) (D.image self.new.disk) × Covers self.new.desk.current (deeds_with_registered result epoch deeds) }
     {
         let mut fuse = Fuse::never();
         self.ready(alloc, &mut fuse)?;
@@ -139,7 +139,7 @@ impl<D: Disk> Registrar for DeskRegistrar<D> {
         ensures stands { IsTrue D.tells → IsAsLeftOrShut self.old.reopen self.old.desk (D.files self.old.disk) (D.image self.old.disk)
             → IsAsLeftOrShut self.new.reopen self.new.desk (D.files self.new.disk) (D.image self.new.disk) }
         // The promise over lives.
-        ensures lives { IsTrue D.tells → IsAsLeftOrShut self.old.reopen self.old.desk (D.files self.old.disk) (D.image self.old.disk) → (deeds : List Deed)
+        ensures lives { IsTrue D.tells → IsAsLeftOrShut self.old.reopen self.old.desk (D.files self.old.disk) (D.image self.old.disk) → (deeds : List DeskDeed)
             → KeepsPromise deeds (D.image self.old.disk) → Covers self.old.desk.current deeds
             → (KeepsPromise deeds (D.image self.new.disk) × Covers self.new.desk.current deeds)
             × OnOk result (self.new.refused.items ≡ self.old.refused.items

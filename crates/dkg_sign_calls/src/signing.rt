@@ -1,7 +1,7 @@
 //! What desks give over one output, and what one keeps over several lives.
 ghost use Rattle.std.specs.Prelude.{◌<◌, ◌-◌, ◌^◌, length, IfOk, IsTrue, OnOk};
 ghost use Rattle.dkg_sign.specs.Lives.{KeepsPromise, NeverBack};
-ghost use Rattle.dkg_sign.specs.Played.{IsPlaying, deeds_of};
+ghost use Rattle.dkg_sign.specs.Played.{IsPlaying, desk_deeds};
 
 use crate::asserts::{is, is_at};
 use dkg_ceremony::{Mode, Public, Set, Share, Sharing};
@@ -293,10 +293,10 @@ fn ask<D: Disk>(
     request: (bool, u64),
     deeds: &mut Vec<(bool, u64)>,
 ) -> Result<bool, Fail>
-    requires { IsTrue D.tells → IsPlaying (deeds_of deeds.old.items) desk.old (D.files disk.old) (D.image disk.old) }
+    requires { IsTrue D.tells → IsPlaying (desk_deeds deeds.old.items) desk.old (D.files disk.old) (D.image disk.old) }
     ensures goes_on { IfOk result (λ goes. IsTrue D.tells → IsTrue goes
-        → IsPlaying (deeds_of deeds.new.items) desk.new (D.files disk.new) (D.image disk.new)) }
-    ensures keeps { OnOk result (IsTrue D.tells → KeepsPromise (deeds_of deeds.new.items) (D.image disk.new)) }
+        → IsPlaying (desk_deeds deeds.new.items) desk.new (D.files disk.new) (D.image disk.new)) }
+    ensures keeps { OnOk result (IsTrue D.tells → KeepsPromise (desk_deeds deeds.new.items) (D.image disk.new)) }
 {
     let (registers, epoch) = request;
     if !registers {
@@ -323,8 +323,8 @@ fn live<D: Disk>(
     life: &Life<'_>,
     deeds: &mut Vec<(bool, u64)>,
 ) -> Result<(), Fail>
-    requires { IsTrue D.tells → KeepsPromise (deeds_of deeds.old.items) (D.image disk.old) }
-    ensures { OnOk result (IsTrue D.tells → KeepsPromise (deeds_of deeds.new.items) (D.image disk.new)) }
+    requires { IsTrue D.tells → KeepsPromise (desk_deeds deeds.old.items) (D.image disk.old) }
+    ensures { OnOk result (IsTrue D.tells → KeepsPromise (desk_deeds deeds.new.items) (D.image disk.new)) }
 {
     let (call, pick, requests) = *life;
     let mut fuse = Fuse::at(call, pick);
@@ -348,7 +348,7 @@ fn live_all<D: Disk>(
     disk: &mut D,
     lives: &[Life<'_>],
 ) -> Result<Vec<(bool, u64)>, Fail>
-    ensures { IfOk result (λ deeds. IsTrue D.tells → NeverBack (deeds_of deeds.items)) }
+    ensures { IfOk result (λ deeds. IsTrue D.tells → NeverBack (desk_deeds deeds.items)) }
 {
     let mut deeds = Vec::new(alloc);
     for life in lives {

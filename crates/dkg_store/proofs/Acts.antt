@@ -7,7 +7,7 @@ use Rattle.dkg_journal.specs.Fuse.{Reached}
 use Rattle.dkg_journal.specs.Names.{Files}
 use Rattle.dkg_journal.specs.Operations.{Journaled, journaled}
 use Rattle.dkg_infos.specs.declared.entry.Entry.{Entry as Line}
-use Rattle.dkg_store.specs.Acts.{Acts, Say, Do, Ask, Goes, Stops, bind, World, says, does, IsTorn, Completes, Faults, Breaks, Cause, by_cut, by_disk, by_secrets, by_want, EndsBy, IsBetween, Ended, went, stopped, broken, Runs, IfWent, Stands, Moment, moment, world, held_in, at, MadeAt, GoesOn, Along, Operation, OnDisk, Changes, Held}
+use Rattle.dkg_store.specs.Acts.{Acts, Say, Do, Ask, Goes, Stops, bind, World, says, does, IsTorn, Completes, Faults, Breaks, Cause, by_cut, by_disk, by_secrets, by_want, EndsBy, IsBetween, Ended, went, stopped, broken, Runs, IfWent, Stands, Moment, moment, world, held_in, at, MadeAt, RunsRest, Along, Operation, OnDisk, Changes, Held}
 use Rattle.dkg_secrets.specs.Secrets.{Secrets}
 use Rattle.dkg_secrets.proofs.Tried.{nothing_done}
 
@@ -156,11 +156,11 @@ module _ {F S : Type 0} (files : Files) (image : Files → Type 0) where
   }
 
 -- a loop that has begun, one turn more, and its end
-pub goes_on_first : {F S : Type 0} (acts : Acts F S) (files : Files) (image : Files → Type 0) (old : Moment) → GoesOn acts acts files image files image old old
+pub goes_on_first : {F S : Type 0} (acts : Acts F S) (files : Files) (image : Files → Type 0) (old : Moment) → RunsRest acts acts files image files image old old
 goes_on_first acts files image old = record { stood = λ stands. stands; on = λ stands ended new runs. runs }
 
 pub goes_on_next : {F R S : Type 0} {whole : Acts F R} {first : Acts F S} (next : S → Acts F R) {files files_here files_mid : Files} {image here between : Files → Type 0} {old mid new : Moment} {end : S}
-    → GoesOn whole (bind first next) files image files_here here old mid → MadeAt first (went end) files_here here files_mid between mid new → GoesOn whole (next end) files image files_mid between old new
+    → RunsRest whole (bind first next) files image files_here here old mid → MadeAt first (went end) files_here here files_mid between mid new → RunsRest whole (next end) files image files_mid between old new
 goes_on_next {first = first} next {files_here = files_here} {files_mid = files_mid} {mid = mid} {new = new} {end = end} goes made = record {
   stood = λ stands. made.stands (goes.stood stands);
   on = λ stands ended last runs.
@@ -169,7 +169,7 @@ goes_on_next {first = first} next {files_here = files_here} {files_mid = files_m
 }
 
 pub goes_on_last : {F S : Type 0} {whole rest : Acts F S} {files files_here files_now : Files} {image here now : Files → Type 0} {old mid new : Moment} {ended : Ended F S}
-    → GoesOn whole rest files image files_here here old mid → MadeAt rest ended files_here here files_now now mid new → MadeAt whole ended files image files_now now old new
+    → RunsRest whole rest files image files_here here old mid → MadeAt rest ended files_here here files_now now mid new → MadeAt whole ended files image files_now now old new
 goes_on_last {F = F} {S = S} {files = files} {files_here = files_here} {files_now = files_now} {image = image} {here = here} {now = now} {new = new} {ended = ended} goes made = record {
   made = λ stands c left. goes.on stands ended (at new c) (made.made (goes.stood stands) c left);
   stands = stood ended made.stands;

@@ -9,12 +9,12 @@ use Rattle.dkg_journal.specs.Records.{SectionEntry, entries, from_section, place
 use Rattle.dkg_journal.specs.Steps.{Keeps, MayAdd}
 use Rattle.dkg_journal.specs.declared.disk.Op.TheVariants.{Barrier}
 use Rattle.dkg_store.specs.Corrupt.{AreEvents, AreFit}
-use Rattle.dkg_store.specs.Events.{EventFits, event_spelling, is_event}
+use Rattle.dkg_store.specs.Events.{EventFits, event_spelling, is_event_body}
 use Rattle.dkg_store.specs.declared.event.Event.{Event}
 use Rattle.dkg_store.proofs.Events.{read_again}
 
 module _ (limit : ℕ) where
-  placed_events : (es : List SectionEntry) (e : SectionEntry) → is_event limit e.1 ≡ true → AreEvents limit es → AreEvents limit (placed es e)
+  placed_events : (es : List SectionEntry) (e : SectionEntry) → is_event_body limit e.1 ≡ true → AreEvents limit es → AreEvents limit (placed es e)
   placed_events [] e is all = (is, tt)
   placed_events (x ∷ xs) e is all = by_place (nat_lt e.0 x.0) (placed_events xs e is all.1)
     where
@@ -39,7 +39,7 @@ module _ (limit : ℕ) where
     events = λ c here. let from = follows.each c here in same_events (entries from.0) (entries c) from.2.same (fit.events from.0 from.1);
   }
 
-  pub may_add_fit : (e : SectionEntry) (image next : Files → Type 0) → is_event limit e.1 ≡ true → Follows (MayAdd e) image next → AreUnbroken next → AreFit limit image → AreFit limit next
+  pub may_add_fit : (e : SectionEntry) (image next : Files → Type 0) → is_event_body limit e.1 ≡ true → Follows (MayAdd e) image next → AreUnbroken next → AreFit limit image → AreFit limit next
   may_add_fit e image next is follows whole fit = record {
     whole = whole;
     events = λ c here.
@@ -64,5 +64,5 @@ pub barred_unbroken : (image next : Files → Type 0) → Follows (Inside Barrie
 barred_unbroken image next follows whole = record { each = λ c here. let from = follows.each c here in ap broken from.2 ∙ whole.each from.0 from.1 }
 
 -- an event within the limit is read under it
-pub fits_event : (limit : ℕ) (e : Event) → EventFits limit e → is_event limit (event_spelling e) ≡ true
+pub fits_event : (limit : ℕ) (e : Event) → EventFits limit e → is_event_body limit (event_spelling e) ≡ true
 fits_event limit e fits = ap (λ (r : Reading Event). is_ok (whole r)) (read_again limit e fits)

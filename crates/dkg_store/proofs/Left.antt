@@ -10,7 +10,7 @@ use Rattle.dkg_journal.specs.Errors.{IsOfDevice}
 use Rattle.dkg_journal.specs.Disk.{Follows, Rose}
 use Rattle.dkg_journal.specs.Fuse.{Ran, RanAll, Reached}
 use Rattle.dkg_journal.specs.Records.{SectionEntry, entries}
-use Rattle.dkg_journal.specs.Steps.{Adds, IsOpenAt, Keeps, MayAdd}
+use Rattle.dkg_journal.specs.Steps.{AddsEntry, IsOpenAt, Keeps, MayAdd}
 use Rattle.dkg_journal.specs.Names.{Files}
 use Rattle.dkg_journal.specs.declared.call.JournalError.{JournalError}
 use Rattle.dkg_journal.specs.declared.call.JournalError.TheVariants as of_journal
@@ -197,13 +197,13 @@ module _ (tell : Type 0) (epoch dealer private : ℕ) (public : List ℕ) (fits 
     }
 
     -- .. or it is done
-    pub gives_recorded : (tell → now ≡ after op held) → Follows (Adds (section, body)) image next → GivesDealing tell (Some true) pairs (insert pairs (epoch, dealer) (public, private)) image next held now
+    pub gives_recorded : (tell → now ≡ after op held) → Follows (AddsEntry (section, body)) image next → GivesDealing tell (Some true) pairs (insert pairs (epoch, dealer) (public, private)) image next held now
     gives_recorded done adds = record {
       notes = gives_put.notes;
       either = gives_put.either;
       done = λ told holds.
           done_holds epoch dealer private public fits pairs unknown held now image next holds (done told ∙ ap (λ (o : SecretOp). after o held) puts)
-          (subst (λ (e : SectionEntry). Follows (Adds e) image next) (same_entry at spells) adds);
+          (subst (λ (e : SectionEntry). Follows (AddsEntry e) image next) (same_entry at spells) adds);
     }
 
 -- WHERE IT ENDED SO
@@ -269,7 +269,7 @@ module _ {V W : Type 0} (note_of : SectionEntry → Option (Note V)) (other_of :
       }
 
       -- .. or it is done
-      pub note_done : Follows (Adds e) image next → GivesNote (noted note_of) (noted other_of) (Some true) m (insert m k v) image next held now
+      pub note_done : Follows (AddsEntry e) image next → GivesNote (noted note_of) (noted other_of) (Some true) m (insert m k v) image next held now
       note_done adds = record {
         either = note_put.either;
         done = λ gives. gives_added note_of m k v e image next says unknown adds gives;

@@ -26,7 +26,7 @@ one op end = Do op (Goes end)
 same_world : {out : List Line} {h k : Held} {f g : Burn} → h ≡ k → f ≡ g → ◌≡◌ {A = World} (record { out = out; held = h; fuse = f }) (record { out = out; held = k; fuse = g })
 same_world {out} a b = λ i. record { out = out; held = a i; fuse = b i }
 
-module _ {F S : Type 0} {files files_now : Files} {image next : Files → Type 0} {out : List Line} {s : Secrets} {before now : Burn} (op : of_journal.Operation) (end : S) where
+module _ {F S : Type 0} {files files_now : Files} {image next : Files → Type 0} {out : List Line} {s : Secrets} {before now : Burn} (op : of_journal.JournalOperation) (end : S) where
   pub disk_torn : {how : Ended F S} (cause : Cause) → how ≡ broken cause → (Stands files image → Tried op files next before now) → EndsBy cause before now
       → MadeAt (one (OnDisk op) end) how files image files_now next (moment out s before) (moment out s now)
   disk_torn cause is tried ends = subst (λ (x : Ended F S). MadeAt (one (OnDisk op) end) x files image files_now next (moment out s before) (moment out s now)) (sym is) (record {

@@ -8,7 +8,7 @@ use Rattle.dkg_journal.specs.Disk.{Follows}
 use Rattle.dkg_journal.specs.Operations.{Journaled, Opens, Appends, Tried, Finished, opened_names}
 use Rattle.dkg_journal.specs.Pruning.{MayLeave}
 use Rattle.dkg_journal.specs.Records.{SectionEntry, entries}
-use Rattle.dkg_journal.specs.Steps.{Adds}
+use Rattle.dkg_journal.specs.Steps.{AddsEntry}
 use Rattle.dkg_journal.proofs.SameFiles.{named}
 use Rattle.dkg_journal.proofs.Journals.{leaves_names}
 use Rattle.dkg_store.specs.Named.{Named, MayBeNamed, NamesOpened, NamesPruned}
@@ -40,7 +40,7 @@ append_names e old image next f g itself tried = record {
 }
 
 -- .. and one that is done
-pub made_name : (e : SectionEntry) (image next : Files → Type 0) → ((c : Files) → next c → is_some (get c (Segment e.0)) ≡ true) → Follows (Adds e) image next → Follows (Named true e.0) image next
+pub made_name : (e : SectionEntry) (image next : Files → Type 0) → ((c : Files) → next c → is_some (get c (Segment e.0)) ≡ true) → Follows (AddsEntry e) image next → Follows (Named true e.0) image next
 made_name e image next there adds = record {
   each = λ c here. let from = adds.each c here in (from.0, from.1, record { names = named (Segment e.0) from.0 c from.2.others (there c here) });
 }

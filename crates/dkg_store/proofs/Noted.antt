@@ -6,7 +6,7 @@ use Rattle.dkg_values.specs.Codec.{Reading, whole}
 use Rattle.dkg_journal.specs.Names.{Files}
 use Rattle.dkg_journal.specs.Disk.{Follows}
 use Rattle.dkg_journal.specs.Records.{SectionEntry, entries, placed, from_section}
-use Rattle.dkg_journal.specs.Steps.{Adds, MayAdd}
+use Rattle.dkg_journal.specs.Steps.{AddsEntry, MayAdd}
 use Rattle.dkg_secrets.specs.Keys.{key_cmp}
 use Rattle.dkg_store.specs.Events.{event_spelling, no_limit, IsEvent}
 use Rattle.dkg_store.specs.declared.event.Event.{Event}
@@ -90,7 +90,7 @@ module _ {V : Type 0} (note_of : SectionEntry → Option (Note V)) where
 
   -- WHAT A CRASH LEAVES
 
-  pub gives_added : (m : Notes V) (k : ℕ × ℕ) (v : V) (e : SectionEntry) (image next : Files → Type 0) → note_of e ≡ Some (k, v) → get m k ≡ None → Follows (Adds e) image next → ImagesGive (noted note_of) m image → ImagesGive (noted note_of) (insert m k v) next
+  pub gives_added : (m : Notes V) (k : ℕ × ℕ) (v : V) (e : SectionEntry) (image next : Files → Type 0) → note_of e ≡ Some (k, v) → get m k ≡ None → Follows (AddsEntry e) image next → ImagesGive (noted note_of) m image → ImagesGive (noted note_of) (insert m k v) next
   gives_added m k v e image next says none follows gives = record {
     each = λ c here. let from = follows.each c here in let was = gives.each from.0 from.1 in
         ap (noted note_of) from.2.added

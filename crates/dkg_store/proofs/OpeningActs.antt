@@ -14,7 +14,7 @@ use Rattle.dkg_values.specs.declared.name.Name.TheVariants.{Segment}
 use Rattle.dkg_values.specs.declared.name.Name.{Name}
 use Rattle.dkg_journal.specs.Operations.{Bars, Opens}
 use Rattle.dkg_store.specs.Acts.{Acts, Stops, Cause, EndsBy, Ended, broken, went, stopped, moment, at, MadeAt}
-use Rattle.dkg_store.specs.Calls.{opens, opens_then, reading}
+use Rattle.dkg_store.specs.Calls.{opens, opens_then, store_reading}
 use Rattle.dkg_store.specs.Noted.{Notes}
 use Rattle.dkg_store.specs.Pairs.{Pairs}
 use Rattle.dkg_store.specs.declared.recorded_log.RecordedLog.{RecordedLog}
@@ -99,9 +99,9 @@ module _ {files mid files_now : Files} {between next : Files → Type 0} {out : 
 
 -- a body that is no event, of an open journal
 pub alien_stops : (alien : Option (Name × ℕ)) (name : Name) (place : ℕ) (files : Files) (image : Files → Type 0) {how : Ended StoreError (Pairs × Notes (List ℕ) × Notes RecordedLog)} {out : List Line} {s now : Secrets} {f : Burn}
-    → alien ≡ Some (name, place) → how ≡ stopped (Corrupt name place) → now ≡ s → MadeAt (reading alien) how files image files image (moment out s f) (moment out now f)
+    → alien ≡ Some (name, place) → how ≡ stopped (Corrupt name place) → now ≡ s → MadeAt (store_reading alien) how files image files image (moment out s f) (moment out now f)
 alien_stops alien name place files image {how} {out} {s} {now} {f} is ends same =
-    subst (λ (a : Option (Name × ℕ)). MadeAt (reading a) how files image files image (moment out s f) (moment out now f)) (sym is)
+    subst (λ (a : Option (Name × ℕ)). MadeAt (store_reading a) how files image files image (moment out s f) (moment out now f)) (sym is)
     (subst (λ (x : Ended StoreError (Pairs × Notes (List ℕ) × Notes RecordedLog)). MadeAt (Stops (Corrupt name place)) x files image files image (moment out s f) (moment out now f)) (sym ends)
     (subst (λ (t : Secrets). MadeAt {S = Pairs × Notes (List ℕ) × Notes RecordedLog} (Stops (Corrupt name place)) (stopped (Corrupt name place)) files image files image (moment out s f) (moment out t f)) (sym same) (record {
       made = λ stands c here. (ap (λ (x : Files). at (moment out s f) x) (stands.lands.only c here), refl);

@@ -8,7 +8,7 @@ use Rattle.dkg_journal.specs.Fuse.{spent_once}
 use Rattle.dkg_journal.specs.Names.{Files}
 use Rattle.dkg_journal.specs.Disk.{Follows}
 use Rattle.dkg_journal.specs.Operations.{Tried, Finished, Prunes as PrunesJournal}
-use Rattle.dkg_journal.specs.Pruning.{Leaves, MayLeave}
+use Rattle.dkg_journal.specs.Pruning.{LeavesAbove, MayLeave}
 use Rattle.dkg_journal.specs.Records.{SectionEntry, entries, from_section}
 use Rattle.dkg_infos.specs.declared.entry.Entry.{Entry as Line}
 use Rattle.dkg_values.specs.declared.name.Name.TheVariants.{Plan}
@@ -76,7 +76,7 @@ module _ {V : Type 0} (note_of : SectionEntry → Option (Note V)) (min : ℕ) (
   left_of : (m : Notes V) (d es : List SectionEntry) → noted note_of d ≡ m → es ≡ from_section min d → noted note_of es ≡ above m
   left_of m d es was is = ap (noted note_of) is ∙ from d ∙ ap (λ (n : Notes V). above n) was
 
-  pub gives_left : (m : Notes V) (image next : Files → Type 0) → Follows (Leaves min) image next → ImagesGive (noted note_of) m image → ImagesGive (noted note_of) (above m) next
+  pub gives_left : (m : Notes V) (image next : Files → Type 0) → Follows (LeavesAbove min) image next → ImagesGive (noted note_of) m image → ImagesGive (noted note_of) (above m) next
   gives_left m image next follows gives = record {
     each = λ c here. let d = follows.each c here in left_of m (entries d.0) (entries c) (gives.each d.0 d.1) d.2.left;
   }
@@ -158,7 +158,7 @@ module _ (min : ℕ) (s t : Secrets) (halves : (k : ℕ × ℕ) → min ≤ k.0 
   ]
 
   -- The journal is pruned, and the secrets at or above the minimum are there.
-  pub left_holds : (pairs : Pairs) (image next : Files → Type 0) → Follows (Leaves min) image next → HoldsDealings pairs image s → HoldsDealings (retain_keys pairs (λ k. nat_le min k.0)) next t
+  pub left_holds : (pairs : Pairs) (image next : Files → Type 0) → Follows (LeavesAbove min) image next → HoldsDealings pairs image s → HoldsDealings (retain_keys pairs (λ k. nat_le min k.0)) next t
   left_holds pairs image next follows holds = record {
     whole = λ c here. let d = follows.each c here in subst (λ (es : List SectionEntry). IsWhole es t) (sym d.2.left) (whole_from (entries d.0) (holds.whole d.0 d.1));
     gives = λ c here. let d = follows.each c here in
@@ -212,8 +212,8 @@ module _ (min : ℕ) {files files_now : Files} {image next : Files → Type 0} {
 -- THE SAME MINIMUM
 
 module _ {m n : ℕ} {image next : Files → Type 0} (same : m ≡ n) where
-  pub same_left : Follows (Leaves m) image next → Follows (Leaves n) image next
-  same_left follows = subst (λ (k : ℕ). Follows (Leaves k) image next) same follows
+  pub same_left : Follows (LeavesAbove m) image next → Follows (LeavesAbove n) image next
+  same_left follows = subst (λ (k : ℕ). Follows (LeavesAbove k) image next) same follows
 
   pub same_may : Follows (MayLeave m) image next → Follows (MayLeave n) image next
   same_may follows = subst (λ (k : ℕ). Follows (MayLeave k) image next) same follows
@@ -228,7 +228,7 @@ same_finished {files = files} {files_now = files_now} {next = next} {f = f} {g =
 pub may_others : (min : ℕ) (image next : Files → Type 0) → Follows (MayLeave min) image next → Follows SamePlan image next
 may_others min image next follows = record { each = λ c here. let from = follows.each c here in (from.0, from.1, from.2.leaves.others Plan refl) }
 
-pub left_others : (min : ℕ) (image next : Files → Type 0) → Follows (Leaves min) image next → Follows SamePlan image next
+pub left_others : (min : ℕ) (image next : Files → Type 0) → Follows (LeavesAbove min) image next → Follows SamePlan image next
 left_others min image next follows = record { each = λ c here. let from = follows.each c here in (from.0, from.1, from.2.others Plan refl) }
 
 -- those at or above the minimum

@@ -31,26 +31,26 @@ plan h = h.journaled.plan
 
 -- An operation is one of the disk, or a changing call of the secret store.
 pub data Operation : Type 0 where
-  OnDisk : of_journal.Operation → Operation
+  OnDisk : of_journal.JournalOperation → Operation
   Changes : SecretOp → Operation
 
 -- its changing calls, which follow from what is held (an opening of the journal has their number with it)
 abbrev pub device_calls : Operation → Held → ℕ
-device_calls (OnDisk op) h = of_journal.calls_of op h.journaled
+device_calls (OnDisk op) h = of_journal.changing_calls op h.journaled
 device_calls (Changes op) h = 1
 
 -- what an operation leaves that is done
-abbrev pub after : Operation → Held → Held
-after (OnDisk op) h = record { journaled = of_journal.after_operation op h.journaled; secrets = h.secrets }
-after (Changes op) h = record { journaled = h.journaled; secrets = of_secrets.after op h.secrets }
+abbrev pub held_after : Operation → Held → Held
+held_after (OnDisk op) h = record { journaled = of_journal.after_operation op h.journaled; secrets = h.secrets }
+held_after (Changes op) h = record { journaled = h.journaled; secrets = of_secrets.after op h.secrets }
 
 -- .. and one of the disk that was ended within: what was before it, or behind it; a prune up to a lower minimum; an append or an
 -- opening with names alone changed
-abbrev pub IsLeft : of_journal.Operation → Journaled → Journaled → Type 0
-IsLeft op j new = (new ≡ j) ⊎ ((new ≡ of_journal.after_operation op j) ⊎ InPart op j new)
+abbrev pub IsDiskLeft : of_journal.JournalOperation → Journaled → Journaled → Type 0
+IsDiskLeft op j new = (new ≡ j) ⊎ ((new ≡ of_journal.after_operation op j) ⊎ InPart op j new)
 
 abbrev pub IsTorn : Operation → Held → Held → Type 0
-IsTorn (OnDisk op) h new = (new.secrets ≡ h.secrets) × IsLeft op h.journaled new.journaled
+IsTorn (OnDisk op) h new = (new.secrets ≡ h.secrets) × IsDiskLeft op h.journaled new.journaled
 IsTorn (Changes op) h new = (new.journaled ≡ h.journaled) × Tries op h.secrets new.secrets
 
 pub data Acts (F S : Type 0) : Type 0 where
@@ -88,7 +88,7 @@ abbrev pub says : World → Line → World
 says w line = record w { out = w.out ++ line ∷ [] }
 
 abbrev pub does : World → Operation → World
-does w op = record w { held = after op w.held; fuse = burnt (device_calls op w.held) w.fuse }
+does w op = record w { held = held_after op w.held; fuse = burnt (device_calls op w.held) w.fuse }
 
 abbrev pub world : List Line → Journaled → Secrets → Burn → World
 world out j s fuse = record { out = out; held = record { journaled = j; secrets = s }; fuse = fuse }
@@ -187,7 +187,7 @@ pub record MadeAt {F S : Type 0} (acts : Acts F S) (ended : Ended F S) (files : 
   pub stands : IfWent ended (Stands files image → Stands files_now next)
 
 -- A loop's invariant: to run the rest from here is to run the whole from the start.
-pub record GoesOn {F S : Type 0} (whole rest : Acts F S) (files : Files) (image : Files → Type 0) (files_here : Files) (here : Files → Type 0) (old mid : Moment) : Type 0 where
+pub record RunsRest {F S : Type 0} (whole rest : Acts F S) (files : Files) (image : Files → Type 0) (files_here : Files) (here : Files → Type 0) (old mid : Moment) : Type 0 where
   pub stood : Stands files image → Stands files_here here
   pub on : Stands files image → (ended : Ended F S) (new : World) → Runs rest ended (at mid files_here) new → Runs whole ended (at old files) new
 

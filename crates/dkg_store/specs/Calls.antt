@@ -115,13 +115,13 @@ abbrev pub given_back : Held → Pairs × Notes (List ℕ) × Notes RecordedLog
 given_back h = (recovered (notes h) h.secrets, acks_in (notes h), logs_in (notes h))
 
 -- what is read of an open journal, but where a body is no event
-abbrev pub reading : (alien : Option (Name × ℕ)) → Acts StoreError (Pairs × Notes (List ℕ) × Notes RecordedLog)
-reading (Some place) = Stops (Corrupt place.0 place.1)
-reading None = Ask (λ h. Goes (given_back h))
+abbrev pub store_reading : (alien : Option (Name × ℕ)) → Acts StoreError (Pairs × Notes (List ℕ) × Notes RecordedLog)
+store_reading (Some place) = Stops (Corrupt place.0 place.1)
+store_reading None = Ask (λ h. Goes (given_back h))
 
 -- An opening: what is restored, or the record for which it is not opened.
-abbrev pub opening : (torn : Option (Name × ℕ)) → (calls : ℕ) → (alien : Option (Name × ℕ)) → Acts StoreError (Pairs × Notes (List ℕ) × Notes RecordedLog)
-opening torn calls alien = bind (opens torn calls) (λ opened. reading alien)
+abbrev pub store_opening : (torn : Option (Name × ℕ)) → (calls : ℕ) → (alien : Option (Name × ℕ)) → Acts StoreError (Pairs × Notes (List ℕ) × Notes RecordedLog)
+store_opening torn calls alien = bind (opens torn calls) (λ opened. store_reading alien)
 
 abbrev pub sharing : ℕ → Acts StoreError (Option ℕ)
 sharing epoch = Ask (λ h. Goes (get h.secrets.shares epoch))

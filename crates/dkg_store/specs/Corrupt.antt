@@ -7,16 +7,16 @@ use Rattle.dkg_journal.specs.Opening.{AreUnbroken, broken}
 use Rattle.dkg_journal.specs.Gated.{gated, gated_entries}
 use Rattle.dkg_journal.specs.Records.{SectionEntry, entries}
 use Rattle.dkg_journal.specs.declared.opening.JournalEntry.{JournalEntry}
-use Rattle.dkg_store.specs.Events.{is_event, no_event_at}
+use Rattle.dkg_store.specs.Events.{is_event_body, no_event_at}
 
 -- the body of each entry is an event within the limit
 abbrev pub AreEvents : ℕ → List SectionEntry → Type 0
-AreEvents limit es = AllByRecursion (λ e. is_event limit e.1 ≡ true) es
+AreEvents limit es = AllByRecursion (λ e. is_event_body limit e.1 ≡ true) es
 
 -- there is an entry, and the first is an event
 abbrev pub BeginsWithEvent : ℕ → List SectionEntry → Type 0
 BeginsWithEvent limit [] = ⊥
-BeginsWithEvent limit (e ∷ es) = is_event limit e.1 ≡ true
+BeginsWithEvent limit (e ∷ es) = is_event_body limit e.1 ≡ true
 
 -- These are the entries of the files, each with the place of its gate, and the one at this place is the first that is no event.
 pub record HasNoEvent (limit : ℕ) (files : Files) (name : Name) (place : ℕ) : Type 0 where

@@ -152,10 +152,10 @@ abbrev pub IsEvent : Event → Type 0
 IsEvent event = EventFits no_limit event
 
 -- all of the bytes are one event within the limit
-abbrev pub is_event : ℕ → List ℕ → Bool
-is_event limit body = is_ok (whole (event_at limit body))
+abbrev pub is_event_body : ℕ → List ℕ → Bool
+is_event_body limit body = is_ok (whole (event_at limit body))
 
 -- the file and the place of the first of these records whose body is no event
 abbrev pub no_event_at : ℕ → List JournalEntry → Option (Name × ℕ)
 no_event_at limit [] = None
-no_event_at limit (e ∷ es) = if is_event limit e.body then no_event_at limit es else Some (Segment e.section, e.place)
+no_event_at limit (e ∷ es) = if is_event_body limit e.body then no_event_at limit es else Some (Segment e.section, e.place)

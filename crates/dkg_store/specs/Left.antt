@@ -8,13 +8,13 @@ use Rattle.dkg_journal.specs.Gated.{gated as the_gate}
 use Rattle.dkg_journal.specs.Journals.{IsOpen}
 use Rattle.dkg_journal.specs.Names.{Files}
 use Rattle.dkg_journal.specs.Opening.{broken}
-use Rattle.dkg_journal.specs.Pruning.{Leaves}
+use Rattle.dkg_journal.specs.Pruning.{LeavesAbove}
 use Rattle.dkg_journal.specs.Records.{SectionEntry, entries}
 use Rattle.dkg_journal.specs.Steps.{Keeps}
 use Rattle.dkg_journal.specs.Views.{views}
 use Rattle.dkg_journal.specs.declared.journal.Journal.{Journal}
 use Rattle.dkg_store.specs.Corrupt.{AreEvents, AreFit}
-use Rattle.dkg_store.specs.Events.{is_event}
+use Rattle.dkg_store.specs.Events.{is_event_body}
 use Rattle.dkg_store.specs.Named.{Named, MayBeNamed, NamesOpened, NamesPruned, SamePlan}
 use Rattle.dkg_store.specs.Noted.{ImagesGive, ImagesGiveEither, GivesPruned, Notes, SameNotes, acks_in, logs_in}
 use Rattle.dkg_store.specs.Pairs.{Pairs, HoldsDealings, HoldsEither, HoldsPruned, IsWhole, recovered}
@@ -26,7 +26,7 @@ use Rattle.dkg_store.specs.declared.store.Store.{Store}
 -- An append leaves this of the disk.
 pub record Extends (ends : Option Bool) (section : ℕ) (body : List ℕ) (files files_now : Files) (image next : Files → Type 0) : Type 0 where
   -- each record that a crash leaves is whole and an event within a limit, where that was so and this is one
-  pub fit : (limit : ℕ) → is_event limit body ≡ true → AreFit limit image → AreFit limit next
+  pub fit : (limit : ℕ) → is_event_body limit body ≡ true → AreFit limit image → AreFit limit next
   -- every file but the journal's is as it was
   pub others : Follows (SameElse (Segment section)) image next
   -- Where nothing was loose, each image has the names from before, or the journal's own with them.
@@ -53,7 +53,7 @@ pub record Shrinks (min : ℕ) (ends : Option Bool) (files files_now : Files) (i
   pub fit : (limit : ℕ) → AreFit limit image → AreFit limit next
   pub plan : Follows SamePlan image next
   pub names : Follows (NamesPruned min) image next
-  pub left : IfSome ends (λ made. Follows (Leaves min) image next)
+  pub left : IfSome ends (λ made. Follows (LeavesAbove min) image next)
   pub lands : IfSome ends (λ made. Lands files image → Lands files_now next)
 
 -- Behind it: what the devices gave back at or above a minimum, at or below this one; and exactly at or above this where it ended.

@@ -10,7 +10,7 @@ ghost use Rattle.dkg_store.specs.Calls.{cause_of};
 ghost use Rattle.dkg_store.specs.Called.{ErrorIsDue};
 ghost use Rattle.dkg_store.specs.Errors.{store_error_of};
 ghost use Rattle.dkg_store.specs.declared.call.StoreError.TheVariants.{NoMemory as WantOfMemory};
-ghost use Rattle.dkg_secrets.specs.Secrets.{Tries, HasCause, HasWant, after};
+ghost use Rattle.dkg_secrets.specs.Secrets.{Tries, HasSecretCause, HasSecretWant, after};
 
 use dkg_infos::LocalCause;
 use dkg_journal::{Fuse, JournalError};
@@ -93,8 +93,8 @@ fn made_call<X: SecretStore>(
     ensures done { OnOk result (IsTrue X.tells → X.held secrets.new ≡ after op.now (X.held secrets.old)) }
     ensures crash { Tries op.now (X.held secrets.old) (X.held secrets.new) }
     ensures memory { IsErrOf result SecretError.NoMemory → X.held secrets.new ≡ X.held secrets.old }
-    ensures cause { HasCause (X.faults secrets.old) (X.faults secrets.new) result }
-    ensures want { HasWant (X.wants secrets.old) (X.wants secrets.new) result }
+    ensures cause { HasSecretCause (X.faults secrets.old) (X.faults secrets.new) result }
+    ensures want { HasSecretWant (X.wants secrets.old) (X.wants secrets.new) result }
     ensures calls { X.made secrets.old secrets.new (Makes op.now ∷ []) }
 {
     match *op {

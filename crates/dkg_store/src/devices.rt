@@ -6,7 +6,7 @@ ghost use Rattle.dkg_journal.specs.Disk.{Follows, IsUnchanged, Rose};
 ghost use Rattle.dkg_journal.specs.Fuse.{Reached};
 ghost use Rattle.dkg_journal.specs.Journals.{IsOpen};
 ghost use Rattle.dkg_journal.specs.Ready.{CanAppend};
-ghost use Rattle.dkg_journal.specs.Steps.{Adds, MayAdd};
+ghost use Rattle.dkg_journal.specs.Steps.{AddsEntry, MayAdd};
 ghost use Rattle.dkg_store.specs.Acts.{MadeOn};
 ghost use Rattle.dkg_store.specs.Both.{IsWant, IsWanted, prune_both, put_then_append};
 ghost use Rattle.dkg_store.specs.Called.{Called, ErrorIsDue, made_in};
@@ -44,7 +44,7 @@ pub fn put_and_append<D: Disk, X: SecretStore>(
     requires open { IsTrue D.tells → IsOpen journal.old (D.files devices.old.disk.now) (D.image devices.old.disk.now) }
     ensures open { OnOk result (IsTrue D.tells → IsOpen journal.new (D.files devices.new.disk.now) (D.image devices.new.disk.now)) }
     ensures done { OnOk result (IsTrue X.tells → X.held devices.new.secrets.now ≡ after put.now (X.held devices.old.secrets.now)) }
-    ensures added { OnOk result (IsTrue D.tells → Follows (Adds (section, body.now)) (D.image devices.old.disk.now) (D.image devices.new.disk.now)) }
+    ensures added { OnOk result (IsTrue D.tells → Follows (AddsEntry (section, body.now)) (D.image devices.old.disk.now) (D.image devices.new.disk.now)) }
     // Each image has the entries from before, with the new one or without.
     ensures images { IsTrue D.tells → Follows (MayAdd (section, body.now)) (D.image devices.old.disk.now) (D.image devices.new.disk.now) }
     ensures steps { IsTrue D.tells → IsTrue X.tells → PutsFirst put.now (section, body.now)

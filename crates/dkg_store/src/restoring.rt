@@ -3,7 +3,7 @@ ghost use Rattle.std.specs.Prelude.{◌≡◌, ◌≤◌, [], ℕ, IfOk, OnOk, I
 ghost use Rattle.dkg_values.specs.declared.name.Name.{Name};
 ghost use Rattle.dkg_values.specs.declared.name.Name.TheVariants.{Segment};
 ghost use Rattle.dkg_store.specs.Corrupt.{BeginsWithEvent};
-ghost use Rattle.dkg_store.specs.Events.{is_event, no_event_at};
+ghost use Rattle.dkg_store.specs.Events.{is_event_body, no_event_at};
 ghost use Rattle.std.specs.FinMap as map;
 ghost use Rattle.dkg_journal.specs.Disk.{Rose};
 ghost use Rattle.dkg_journal.specs.Views.{view, views};
@@ -121,11 +121,11 @@ fn restore_one<X: SecretStore>(
     ensures same { X.held secrets.new ≡ X.held secrets.old }
     ensures later { X.faults secrets.old ≤ X.faults secrets.new }
     ensures secrets { IsErrOf result StoreError.Secrets → Rose (X.faults secrets.old) (X.faults secrets.new) }
-    ensures event { OnOk result (is_event limit entry.now.body ≡ true) }
-    ensures half { IsErrOf result StoreError.Secrets → is_event limit entry.now.body ≡ true }
+    ensures event { OnOk result (is_event_body limit entry.now.body ≡ true) }
+    ensures half { IsErrOf result StoreError.Secrets → is_event_body limit entry.now.body ≡ true }
     // A body that is no event is the one cause of Corrupt.
     ensures corrupt { (name : Name) (place : ℕ) → IsErrOf result (StoreError.Corrupt name place)
-        → (name ≡ Segment entry.now.section) × (place ≡ entry.now.place) × (is_event limit entry.now.body ≡ false) }
+        → (name ≡ Segment entry.now.section) × (place ≡ entry.now.place) × (is_event_body limit entry.now.body ≡ false) }
     ensures error_kinds { IfErr result IsOfRestoring }
     ensures calls { X.made secrets.old secrets.new [] }
 {

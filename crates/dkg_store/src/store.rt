@@ -21,7 +21,7 @@ ghost use Rattle.dkg_journal.specs.Disk.{IsUnchanged, Rose, Follows, Lands, Same
 ghost use Rattle.dkg_journal.specs.Fuse.{Reached, Ran, RanAll};
 ghost use Rattle.dkg_journal.specs.Journals.{IsOpen, append_calls};
 ghost use Rattle.dkg_journal.specs.Operations.{Journaled};
-ghost use Rattle.dkg_journal.specs.Pruning.{Leaves};
+ghost use Rattle.dkg_journal.specs.Pruning.{LeavesAbove};
 ghost use Rattle.dkg_journal.specs.Places.{place_at};
 ghost use Rattle.dkg_journal.specs.Steps.{Keeps};
 ghost use Rattle.dkg_journal.specs.Opening.{AreUnbroken, broken, open_calls};
@@ -30,14 +30,14 @@ ghost use Rattle.dkg_store.specs.Called.{Called, ErrorIsDue, ErrorIsDueWith, if_
 ghost use Rattle.dkg_store.specs.Left.{Extends, GivesAbove, GivesDealing, GivesNote, OpensOver, Rereads, Restores, Shrinks};
 ghost use Rattle.dkg_store.specs.Rest.{KeepsAbove, KeepsAck, KeepsLog, KeepsPair};
 ghost use Rattle.dkg_store.specs.Acts.{MadeAt, MadeOn, Runs, moment, world};
-ghost use Rattle.dkg_store.specs.Calls.{put_and_appended, noting, recording, sharing, sharing_below, seeding, committing, pruning, opens, opened, opening, ended, ended_as};
+ghost use Rattle.dkg_store.specs.Calls.{put_and_appended, noting, recording, sharing, sharing_below, seeding, committing, pruning, opens, opened, store_opening, ended, ended_as};
 ghost use Rattle.dkg_store.specs.Commits.{commit_calls, committed};
 ghost use Rattle.dkg_store.specs.Corrupt.{IsAlien, IsCorruptAt, AreEvents, AreFit, BeginsWithEvent};
 ghost use Rattle.dkg_store.specs.Counts.{CountsOn};
 ghost use Rattle.dkg_journal.specs.Opens.{KeepsAll};
 ghost use Rattle.dkg_store.specs.Errors.{IsOfDealing, IsOfDevices, IsOfPlaying};
 ghost use Rattle.dkg_secrets.specs.Secrets.{Secrets, Tries, after, newest_below};
-ghost use Rattle.dkg_store.specs.Events.{event_spelling, is_event};
+ghost use Rattle.dkg_store.specs.Events.{event_spelling, is_event_body};
 ghost use Rattle.dkg_store.specs.declared.event.Event.TheVariants as events;
 ghost use Rattle.dkg_store.specs.Pairs.{Pairs, HoldsPruned, IsWhole, AreAtOrAbove, HoldsDealings, HoldsEither, recovered};
 ghost use Rattle.dkg_store.specs.declared.recorded_log.RecordedLog.{RecordedLog};
@@ -473,7 +473,7 @@ impl<Dir: Drop> Store<Dir> {
         // other exit a part, whatever image is left.
         ensures acts { IsTrue D.tells → IsTrue X.tells → broken (D.files devices.old.disk.now) ≡ None
             → (alien : Option (Name × ℕ)) → IsAlien (non_zero_u32_get limit) (D.files devices.old.disk.now) alien → (out : List Line)
-            → MadeOn D.files D.image X.held (opening None (length (open_calls (D.files devices.old.disk.now))) alien)
+            → MadeOn D.files D.image X.held (store_opening None (length (open_calls (D.files devices.old.disk.now))) alien)
             (ended_as (λ store. (store.dealings, store.acks, store.logs)) result) devices.old devices.new out out }
         // Where there is a record that is not whole, or, where all are, a first body that is no event within the limit, the answer is Corrupt at its
         // gate, but where a device, a cut or want of memory ended it before.

@@ -11,7 +11,7 @@ use Rattle.dkg_text.specs.declared.events.Slot.TheVariants as slot
 use Rattle.dkg_text.specs.declared.events.Span.{Span}
 use Rattle.dkg_text.specs.declared.script.Event.{Event}
 use Rattle.dkg_text.specs.declared.script.Event.TheVariants as event
-use Rattle.dkg_text.specs.Kept.{IsGrown, IsWithin, LiesIn, event_in, span_in}
+use Rattle.dkg_text.specs.Kept.{IsGrown, IsSpanWithin, LiesIn, event_in, span_in}
 
 pub always_on_err : {T E P : Type 0} (r : Result T E) → P → OnErr r P
 always_on_err (Ok x) is = tt
@@ -21,7 +21,7 @@ grown_length : {A : Type 0} (old new : List A) → IsGrown old new → length ol
 grown_length old new is = omega (arith, ap length is, length-take (length old) new)
 
 -- the items of a span stay
-span_grown : {A : Type 0} (old new : List A) (span : Span) → IsGrown old new → IsWithin (length old) span → span_in new span ≡ span_in old span
+span_grown : {A : Type 0} (old new : List A) (span : Span) → IsGrown old new → IsSpanWithin (length old) span → span_in new span ≡ span_in old span
 span_grown old new span is within =
     let rest = drop (length old) new in
     let parts : old ++ rest ≡ new = ap (λ xs. xs ++ rest) (sym is) ∙ take-append-drop (length old) new in

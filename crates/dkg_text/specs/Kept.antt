@@ -9,8 +9,8 @@ use Rattle.dkg_text.specs.declared.script.Event.TheVariants as event
 abbrev pub span_in : {A : Type 0} → List A → Span → List A
 span_in items span = slice_range items span.start span.end
 
-abbrev pub IsWithin : (size : ℕ) → Span → Type 0
-IsWithin size span = (span.start ≤ span.end) × (span.end ≤ size)
+abbrev pub IsSpanWithin : (size : ℕ) → Span → Type 0
+IsSpanWithin size span = (span.start ≤ span.end) × (span.end ≤ size)
 
 -- the event of a slot, over all bytes and numbers
 abbrev pub event_in : (bytes numbers : List ℕ) → Slot → Event
@@ -35,11 +35,11 @@ event_in bytes numbers slot.Retry = event.Retry
 
 -- its span lies within so many bytes or numbers
 abbrev pub LiesIn : (bytes numbers : ℕ) → Slot → Type 0
-LiesIn bytes numbers (slot.Peer from at) = IsWithin bytes at
-LiesIn bytes numbers (slot.Prepare at) = IsWithin numbers at
-LiesIn bytes numbers (slot.Propose at) = IsWithin numbers at
-LiesIn bytes numbers (slot.Verify at) = IsWithin numbers at
-LiesIn bytes numbers (slot.Reply from at) = IsWithin bytes at
+LiesIn bytes numbers (slot.Peer from at) = IsSpanWithin bytes at
+LiesIn bytes numbers (slot.Prepare at) = IsSpanWithin numbers at
+LiesIn bytes numbers (slot.Propose at) = IsSpanWithin numbers at
+LiesIn bytes numbers (slot.Verify at) = IsSpanWithin numbers at
+LiesIn bytes numbers (slot.Reply from at) = IsSpanWithin bytes at
 LiesIn bytes numbers _ = Unit {0}
 
 -- the first items are the old ones

@@ -9,7 +9,7 @@ use Rattle.dkg_text.specs.declared.tallies.Item.{Item}
 use Rattle.dkg_text.specs.declared.tallies.Item.TheVariants as item
 use Rattle.dkg_text.specs.FaultLines.{fault_line}
 use Rattle.dkg_text.specs.Fields.{number_field}
-use Rattle.dkg_text.specs.Writing.{ended}
+use Rattle.dkg_text.specs.Writing.{with_line_feed}
 
 -- how much an entry adds to an item: steps are completed ones but openings, logs are answers to a request with a log, and answers are
 -- those that an artifact is available
@@ -53,11 +53,11 @@ all_items =
     ∷ item.Registered ∷ item.Entered ∷ item.Acknowledged ∷ item.Logs ∷ item.Answers ∷ item.Blocked ∷ []
 
 abbrev pub item_line : List Entry → Item → List ℕ
-item_line entries item = ended (item_name item ++ number_field (tally item entries))
+item_line entries item = with_line_feed (item_name item ++ number_field (tally item entries))
 
 abbrev pub ending_line : Option Fault → List ℕ
-ending_line None = ended (codes "done")
-ending_line (Some fault) = ended (fault_line fault)
+ending_line None = with_line_feed (codes "done")
+ending_line (Some fault) = with_line_feed (fault_line fault)
 
 abbrev pub summary_of : (number : ℕ) → List Entry → Option Fault → List ℕ
-summary_of number entries fault = ended (codes "made" ++ number_field number) ++ flat_map (item_line entries) all_items ++ ending_line fault
+summary_of number entries fault = with_line_feed (codes "made" ++ number_field number) ++ flat_map (item_line entries) all_items ++ ending_line fault

@@ -5,7 +5,7 @@ ghost use Rattle.std.specs.Prelude.{◌≡◌, ◌++◌, IfOk, MatchOption, None
 ghost use Rattle.std.specs.Int.NonZero.{non_zero_u32_get};
 ghost use Rattle.dkg_values.specs.Codec.{IsBytes};
 ghost use Rattle.dkg_text.specs.Fields.{bytes_field};
-ghost use Rattle.dkg_text.specs.FoundPayloads.{IsFound, found_bytes};
+ghost use Rattle.dkg_text.specs.FoundPayloads.{IsFoundPayload, found_bytes};
 ghost use Rattle.dkg_text.specs.PayloadKinds.{payload_kind, unit_spelled};
 
 use crate::payload::carried_by;
@@ -28,13 +28,13 @@ struct Found {
 
 impl Model for Found {
     ghost use Rattle.std.specs.Int.NonZero.{non_zero_u32_get};
-    ghost use Rattle.dkg_text.specs.FoundPayloads.{Found as Seen, IsFound};
+    ghost use Rattle.dkg_text.specs.FoundPayloads.{Found as Seen, IsFoundPayload};
 
     ghost Value = { Seen };
 
     ghost view = { λ f. record { limit = non_zero_u32_get f.limit; version = f.version.0; payload = f.payload } };
 
-    ghost invariant = { λ f. IsFound (record { limit = non_zero_u32_get f.limit; version = f.version.0; payload = f.payload }) };
+    ghost invariant = { λ f. IsFoundPayload (record { limit = non_zero_u32_get f.limit; version = f.version.0; payload = f.payload }) };
 }
 
 /// How the bytes lie.
@@ -78,7 +78,7 @@ fn decoded(
 
 /// What was read of bytes under limits.
 fn found_of(alloc: Global, limits: (NonZeroU32, ModeVersion), payload: Payload<Unit>) -> Mem<Found>
-    requires { IsFound (record { limit = non_zero_u32_get limits.0; version = limits.1.0; payload = payload }) }
+    requires { IsFoundPayload (record { limit = non_zero_u32_get limits.0; version = limits.1.0; payload = payload }) }
     ensures { IfOk result (λ made. made ≡ record { limit = non_zero_u32_get limits.0; version = limits.1.0; payload = payload }) }
 {
     Ok(Found {

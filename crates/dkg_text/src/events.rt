@@ -1,7 +1,7 @@
 //! The events of a life, of which a script may have millions: each takes three words, and what they say at length lies
 //! one after another.
 ghost use Rattle.std.specs.Prelude.{◌≡◌, ◌<◌, ◌++◌, ◌∷◌, [], IfOk, OnErr, OnOk, Some, length, slice_get};
-ghost use Rattle.dkg_text.specs.Kept.{IsGrown, IsWithin, LiesIn, event_in, span_in};
+ghost use Rattle.dkg_text.specs.Kept.{IsGrown, IsSpanWithin, LiesIn, event_in, span_in};
 
 use crate::held::{Ancestry, MessageBytes};
 use crate::script::Event;
@@ -63,7 +63,7 @@ impl Model for Events {
 
 /// Adds items behind the others, and says where they lie.
 fn added<T: Copy>(all: &mut Vec<T>, items: &[T]) -> Mem<Span>
-    ensures span { IfOk result (λ span. IsWithin (length all.new.items) span × (span_in all.new.items span ≡ items.now)) }
+    ensures span { IfOk result (λ span. IsSpanWithin (length all.new.items) span × (span_in all.new.items span ≡ items.now)) }
     ensures grown { IsGrown all.old.items all.new.items }
 {
     let start = all.len();
@@ -76,7 +76,7 @@ fn added<T: Copy>(all: &mut Vec<T>, items: &[T]) -> Mem<Span>
 
 /// The items of a span.
 fn spanned<T>(all: &[T], span: Span) -> &[T]
-    requires { IsWithin (length all.now) span }
+    requires { IsSpanWithin (length all.now) span }
     ensures { result.now ≡ span_in all.now span }
 {
     &all[span.start..span.end]
@@ -134,14 +134,14 @@ fn kept(bytes: &mut Vec<u8>, numbers: &mut Vec<u32>, event: &Event<'_>) -> Mem<S
 }
 
 fn message(bytes: &[u8], span: Span) -> MessageBytes<'_>
-    requires { IsWithin (length bytes.now) span }
+    requires { IsSpanWithin (length bytes.now) span }
     ensures { result ≡ span_in bytes.now span }
 {
     MessageBytes::lent(spanned(bytes, span))
 }
 
 fn ancestry(numbers: &[u32], span: Span) -> Ancestry<'_>
-    requires { IsWithin (length numbers.now) span }
+    requires { IsSpanWithin (length numbers.now) span }
     ensures { result ≡ span_in numbers.now span }
 {
     Ancestry::lent(spanned(numbers, span))

@@ -26,17 +26,17 @@ abbrev pub DeviceTold : (text : List ℕ) → List Entry → (words : List ℕ) 
 DeviceTold text entries words = LastTold text entries (slice_get entries (length entries - 1)) words
 
 -- by the status, of a script's text and the entries that its run added
-abbrev pub Tells : Status → (text : List ℕ) → List Entry → (words : List ℕ) → Type 0
-Tells status.Done text entries words = Warns text words
-Tells (status.BadScript place) text entries words = words ≡ bad_text text place
-Tells status.Unsupported text entries words = words ≡ unbuilt_text text
-Tells (status.Fault fault) text entries words = IsFaultLine text entries fault words
-Tells status.Device text entries words = DeviceTold text entries words
-Tells status.Usage text entries words = words ≡ help_text
-Tells status.NoMemory text entries words = words ≡ codes "memory ran out" ++ 10 ∷ []
-Tells status.ReadFault text entries words = words ≡ codes "standard input could not be read, and nothing was run" ++ 10 ∷ []
-Tells status.WriteFault text entries words = words ≡ codes "standard output could not be written: what stands there is a front of what was to be" ++ 10 ∷ []
-Tells status.TooLong text entries words = words ≡ codes "standard input has more than 16777216 bytes, and nothing was run" ++ 10 ∷ []
+abbrev pub TellsByStatus : Status → (text : List ℕ) → List Entry → (words : List ℕ) → Type 0
+TellsByStatus status.Done text entries words = Warns text words
+TellsByStatus (status.BadScript place) text entries words = words ≡ bad_text text place
+TellsByStatus status.Unsupported text entries words = words ≡ unbuilt_text text
+TellsByStatus (status.Fault fault) text entries words = IsFaultLine text entries fault words
+TellsByStatus status.Device text entries words = DeviceTold text entries words
+TellsByStatus status.Usage text entries words = words ≡ help_text
+TellsByStatus status.NoMemory text entries words = words ≡ codes "memory ran out" ++ 10 ∷ []
+TellsByStatus status.ReadFault text entries words = words ≡ codes "standard input could not be read, and nothing was run" ++ 10 ∷ []
+TellsByStatus status.WriteFault text entries words = words ≡ codes "standard output could not be written: what stands there is a front of what was to be" ++ 10 ∷ []
+TellsByStatus status.TooLong text entries words = words ≡ codes "standard input has more than 16777216 bytes, and nothing was run" ++ 10 ∷ []
 
 -- whether what is told of a status is about the script's text
 abbrev pub is_of_text : Status → Bool
@@ -47,5 +47,5 @@ is_of_text _ = false
 
 -- the same where the text may not have been kept
 abbrev pub TellsOf : Status → Option (List ℕ) → List Entry → (words : List ℕ) → Type 0
-TellsOf its (Some text) entries words = Tells its text entries words
-TellsOf its None entries words = (is_of_text its ≡ false) × Tells its [] entries words
+TellsOf its (Some text) entries words = TellsByStatus its text entries words
+TellsOf its None entries words = (is_of_text its ≡ false) × TellsByStatus its [] entries words

@@ -2,7 +2,7 @@
 ghost use Rattle.std.specs.Prelude.{◌≡◌, IfOk, Some};
 ghost use Rattle.std.specs.Option.{option_copied};
 ghost use Rattle.dkg_words.specs.Help.{help_text};
-ghost use Rattle.dkg_told.specs.Tells.{DeviceTold, Tells, TellsOf, Warns, is_of_text as is_of_text_status};
+ghost use Rattle.dkg_told.specs.Tells.{DeviceTold, TellsByStatus, TellsOf, Warns, is_of_text as is_of_text_status};
 
 use dkg_infos::Entry;
 use dkg_run::Status;
@@ -38,7 +38,7 @@ fn help_words(alloc: Global) -> Mem<Vec<u8>>
 
 /// What is told where the script's text is kept.
 fn told_of(alloc: Global, status: &Status, text: &[u8], entries: &[Entry]) -> Mem<Vec<u8>>
-    ensures { IfOk result (λ words. Tells status.now text.now entries.now words.items) }
+    ensures { IfOk result (λ words. TellsByStatus status.now text.now entries.now words.items) }
 {
     match status {
         Status::Done => warnings(alloc, text),

@@ -4,7 +4,7 @@ use Rattle.atomic_table.specs.Seated.{TableId}
 use Rattle.dkg_turn.specs.declared.turn.HistoryEntry.{HistoryEntry}
 use Rattle.dkg_turn.specs.declared.view.Node.{Node}
 use Rattle.dkg_turn.specs.declared.view.View.{View}
-use Rattle.dkg_turn.specs.History.{has, calls_of, IsStamped, IsRun, RunOf}
+use Rattle.dkg_turn.specs.History.{contains_number, calls_of, IsStamped, IsRun, RunOf}
 use Rattle.dkg_turn.specs.Known.{Lock, Known}
 use Rattle.dkg_turn.specs.Passes.{IsPassOf, after_stay, Finds, Called, Posted}
 use Rattle.dkg_turn.specs.Stops.{HasStopped}
@@ -26,7 +26,7 @@ module _ {T C R : Type 0} (turns : T → C → R → T → Type 0) where
 
   -- the node goes back after one turn
   pub gives_one : (v w : View T C R) (t : ℕ) (node node' : Node T C R) (e : HistoryEntry C R) → Took turns t (drawn t v) node w → 0 < v.parts → node'.history.items ≡ node.history.items ++ e ∷ []
-      → has v.numbers e.caller ≡ true → e.ticket ≡ t → turns node.value e.call e.reply node'.value → MayGive turns w node'
+      → contains_number v.numbers e.caller ≡ true → e.ticket ≡ t → turns node.value e.call e.reply node'.value → MayGive turns w node'
   gives_one v w t node node' e took some_part grown own stamp turned = subst (λ (u : View T C R). MayGive turns u node') (sym took.now) record {
     ticket = t;
     stage = refl;
@@ -58,12 +58,12 @@ module _ {T C R : Type 0} (turns : T → C → R → T → Type 0) (lock : Lock 
 
   pub called : (alike : R → R → Type 0) (w w' : View T C R) (t : ℕ) (node node' : Node T C R) (e : HistoryEntry C R) (reply : R) (id' : TableId) → IsPassOf lock k → Took turns t (drawn t v) node w → t + 1 < 2 ^ 64 → ¬ (v.exhausted ≡ true) → (v.parts ≡ 2 ^ 64 → v.drew ≡ t)
       → id' ≡ id → node'.history.items ≡ node.history.items ++ e ∷ [] → w' ≡ rested (ticket_in w.stage) node'.history.items w
-      → e.caller ≡ n → e.ticket ≡ t → has v.numbers n ≡ true → turns node.value e.call e.reply node'.value → turns node.value e.call reply node'.value → alike e.reply reply
+      → e.caller ≡ n → e.ticket ≡ t → contains_number v.numbers n ≡ true → turns node.value e.call e.reply node'.value → turns node.value e.call reply node'.value → alike e.reply reply
       → Called turns lock.start alike e.call reply k (known_of id' n w')
   called alike w w' t node node' e reply id' own took left not_told whole same grown back caller stamp mine kept given says =
       let found : Finds turns lock.start t k node.history.items node.value = finds w t node own took left not_told whole in
       let now : known_of id' n w' ≡ after_stay t (node.history.items ++ e ∷ []) k = after w w' t node.history.items (node.history.items ++ e ∷ []) id' same took.now (back ∙ ap (λ l. rested (ticket_in w.stage) l w) grown) in
-      let own_number : has k.numbers e.caller ≡ true = subst (λ (z : List ℕ × ℕ). has z.0 z.1 ≡ true) (λ i. ((is i).numbers, sym caller i)) mine in record {
+      let own_number : contains_number k.numbers e.caller ≡ true = subst (λ (z : List ℕ × ℕ). contains_number z.0 z.1 ≡ true) (λ i. ((is i).numbers, sym caller i)) mine in record {
         ticket = t;
         log = node.history.items;
         before = node.value;

@@ -2,7 +2,7 @@
 use Rattle.std.proofs.Common.{◌≡◌, ℕ, ◌+◌, ◌≤◌, arith, append-nil, Bool, true, false, true≢false, List, [], ◌∷◌, ◌++◌, Option, Some, None, refl, sym, ap, ◌∙◌, subst, inl, inr, ⊎_elim, ◌⊎◌}
 use Rattle.dkg_turn.specs.declared.turn.HistoryEntry.{HistoryEntry}
 use Rattle.dkg_turn.specs.Rules.{PartOf, AddsOne}
-use Rattle.dkg_turn.specs.History.{has, put_if, calls_of, HasSeen, IsStamped, IsRun, RunOf}
+use Rattle.dkg_turn.specs.History.{contains_number, put_if, calls_of, HasSeen, IsStamped, IsRun, RunOf}
 
 pub not_true : (b : Bool) → ¬ (b ≡ true) → b ≡ false
 not_true true h = absurd (h refl)
@@ -24,12 +24,12 @@ module _ {C R : Type 0} where
 
   pub calls_of-append : (ns : List ℕ) (xs ys : List (HistoryEntry C R)) → calls_of ns (xs ++ ys) ≡ calls_of ns xs ++ calls_of ns ys
   calls_of-append ns [] ys = refl
-  calls_of-append ns (e ∷ es) ys = ap (put_if (has ns e.caller) e) (calls_of-append ns es ys) ∙ put_if-append (has ns e.caller) e (calls_of ns es) (calls_of ns ys)
+  calls_of-append ns (e ∷ es) ys = ap (put_if (contains_number ns e.caller) e) (calls_of-append ns es ys) ∙ put_if-append (contains_number ns e.caller) e (calls_of ns es) (calls_of ns ys)
 
-  pub no_call : (ns : List ℕ) (e : HistoryEntry C R) → ¬ (has ns e.caller ≡ true) → calls_of ns (e ∷ []) ≡ []
-  no_call ns e h = ap (λ b. put_if b e []) (not_true (has ns e.caller) h)
+  pub no_call : (ns : List ℕ) (e : HistoryEntry C R) → ¬ (contains_number ns e.caller ≡ true) → calls_of ns (e ∷ []) ≡ []
+  no_call ns e h = ap (λ b. put_if b e []) (not_true (contains_number ns e.caller) h)
 
-  pub own_call : (ns : List ℕ) (e : HistoryEntry C R) → has ns e.caller ≡ true → calls_of ns (e ∷ []) ≡ e ∷ []
+  pub own_call : (ns : List ℕ) (e : HistoryEntry C R) → contains_number ns e.caller ≡ true → calls_of ns (e ∷ []) ≡ e ∷ []
   own_call ns e h = ap (λ b. put_if b e []) h
 
   pub run_snoc : {T : Type 0} (turns : T → C → R → T → Type 0) (first last next : T) (es : List (HistoryEntry C R)) (e : HistoryEntry C R) → IsRun turns first es last → turns last e.call e.reply next → IsRun turns first (es ++ e ∷ []) next
@@ -40,12 +40,12 @@ module _ {C R : Type 0} where
   run_of_snoc turns (Some first) last next es e r h = run_snoc turns first last next es e r h
   run_of_snoc turns None last next es e r h = absurd r
 
-  pub fewer : (small big : List ℕ) → ((n : ℕ) → has small n ≡ true → has big n ≡ true) → (l : List (HistoryEntry C R)) → calls_of big l ≡ [] → calls_of small l ≡ []
+  pub fewer : (small big : List ℕ) → ((n : ℕ) → contains_number small n ≡ true → contains_number big n ≡ true) → (l : List (HistoryEntry C R)) → calls_of big l ≡ [] → calls_of small l ≡ []
   fewer small big sub [] e = refl
   fewer small big sub (x ∷ xs) e = ⊎_elim
       (λ t. let h : x ∷ calls_of big xs ≡ [] = subst (λ b. put_if b x (calls_of big xs) ≡ []) t e in absurd (cc))
-      (λ f. ap (λ b. put_if b x (calls_of small xs)) (not_true (has small x.caller) (λ h. true≢false (sym (sub x.caller h) ∙ f))) ∙ fewer small big sub xs (subst (λ b. put_if b x (calls_of big xs) ≡ []) f e))
-      (bool_is (has big x.caller))
+      (λ f. ap (λ b. put_if b x (calls_of small xs)) (not_true (contains_number small x.caller) (λ h. true≢false (sym (sub x.caller h) ∙ f))) ∙ fewer small big sub xs (subst (λ b. put_if b x (calls_of big xs) ≡ []) f e))
+      (bool_is (contains_number big x.caller))
 
   pub none_of : (l : List (HistoryEntry C R)) → calls_of [] l ≡ []
   none_of [] = refl
@@ -69,10 +69,10 @@ module _ {C R : Type 0} where
   pub stamped_adds : (t : ℕ) (ns : List ℕ) (l ext : List (HistoryEntry C R)) → AddsOne t ns ext → IsStamped 0 t l → IsStamped 0 (t + 1) (l ++ ext)
   stamped_adds t ns l ext adds h = ⊎_elim
       (λ (e : ext ≡ []). subst (IsStamped 0 (t + 1)) (sym (append-nil l) ∙ ap (λ x. l ++ x) (sym e)) (stamped_below 0 t (t + 1) l (omega arith) h))
-      (λ (x : (e : HistoryEntry C R) × (ext ≡ e ∷ []) × (has ns e.caller ≡ true) × (e.ticket ≡ t)). subst (IsStamped 0 (t + 1)) (ap (λ y. l ++ y) (sym x.1)) (stamped_one t l x.0 x.3 h))
+      (λ (x : (e : HistoryEntry C R) × (ext ≡ e ∷ []) × (contains_number ns e.caller ≡ true) × (e.ticket ≡ t)). subst (IsStamped 0 (t + 1)) (ap (λ y. l ++ y) (sym x.1)) (stamped_one t l x.0 x.3 h))
       adds
 
   -- of the callers' own calls, those seen before and the last one
-  pub own_calls : (ns : List ℕ) (seen log : List (HistoryEntry C R)) (e : HistoryEntry C R) → HasSeen ns seen log → has ns e.caller ≡ true → calls_of ns (log ++ e ∷ []) ≡ calls_of ns seen ++ e ∷ []
+  pub own_calls : (ns : List ℕ) (seen log : List (HistoryEntry C R)) (e : HistoryEntry C R) → HasSeen ns seen log → contains_number ns e.caller ≡ true → calls_of ns (log ++ e ∷ []) ≡ calls_of ns seen ++ e ∷ []
   own_calls ns seen log e h own =
       calls_of-append ns log (e ∷ []) ∙ (λ i. (ap (calls_of ns) h.1 ∙ calls_of-append ns seen h.0 ∙ ap (λ l. calls_of ns seen ++ l) h.2 ∙ append-nil (calls_of ns seen)) i ++ own_call ns e own i)

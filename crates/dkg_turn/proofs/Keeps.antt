@@ -14,7 +14,7 @@ use Rattle.dkg_turn.specs.declared.view.Node.{Node}
 use Rattle.dkg_turn.specs.declared.view.View.{View}
 use Rattle.dkg_turn.specs.declared.view.Stage.{Stage}
 use Rattle.dkg_turn.specs.declared.view.Stage.TheVariants.{Idle, Waits, Holds}
-use Rattle.dkg_turn.specs.History.{has, calls_of, HasSeen, IsStamped, RunOf}
+use Rattle.dkg_turn.specs.History.{contains_number, calls_of, HasSeen, IsStamped, RunOf}
 use Rattle.dkg_turn.specs.Rules.{HasTicket, ticket_in, AddsOne, InTurn, first_view, drawn, holding, rested, Fits, tickets_of, parts_of, Apart, tickets_in, holders_of, AtHome, IsOut, Kept, looked, drew_one, Took, came, passed_on}
 use Rattle.dkg_turn.specs.Rules.{MayGive, numbered, passed_named, spent, PartOf, settled}
 use Rattle.dkg_turn.proofs.Histories.{calls_of-append, no_call, fewer, empty_part, nil_left, stamped_adds}
@@ -26,15 +26,15 @@ set_at [] i a b e = absurd (some-ne-none a (sym e))
 set_at (x ∷ xs) zero a b e = refl
 set_at (x ∷ xs) (suc i) a b e = set_at xs i a b e
 
-pub has_later : (m : ℕ) (ns : List ℕ) (n : ℕ) → has ns n ≡ true → has (m ∷ ns) n ≡ true
+pub has_later : (m : ℕ) (ns : List ℕ) (n : ℕ) → contains_number ns n ≡ true → contains_number (m ∷ ns) n ≡ true
 has_later m ns n h = ap (λ b. (m == n) || b) h ∙ or_true (m == n)
   where
     or_true : (b : Bool) → (b || true) ≡ true
     or_true true = refl
     or_true false = refl
 
-pub has_cons : (m : ℕ) (ns : List ℕ) (n : ℕ) → has (m ∷ ns) n ≡ true → (m ≡ n) ⊎ (has ns n ≡ true)
-has_cons m ns n h = dite (ℕ_discrete m n) (λ e. inl e) (λ ne. inr (sym (ap (λ b. b || has ns n) (ne_eqb m n ne)) ∙ h))
+pub has_cons : (m : ℕ) (ns : List ℕ) (n : ℕ) → contains_number (m ∷ ns) n ≡ true → (m ≡ n) ⊎ (contains_number ns n ≡ true)
+has_cons m ns n h = dite (ℕ_discrete m n) (λ e. inl e) (λ ne. inr (sym (ap (λ b. b || contains_number ns n) (ne_eqb m n ne)) ∙ h))
 
 abbrev pub is_idle : Stage → Bool
 is_idle Idle = true
@@ -93,9 +93,9 @@ module _ {C R : Type 0} where
   seen_all ns log = ([], sym (append-nil log), refl)
 
   -- the calls that others do not have
-  not_theirs : (t : ℕ) (mine theirs : List ℕ) (ext : List (HistoryEntry C R)) → AddsOne t mine ext → ((n : ℕ) → has mine n ≡ true → ¬ (has theirs n ≡ true)) → calls_of theirs ext ≡ []
+  not_theirs : (t : ℕ) (mine theirs : List ℕ) (ext : List (HistoryEntry C R)) → AddsOne t mine ext → ((n : ℕ) → contains_number mine n ≡ true → ¬ (contains_number theirs n ≡ true)) → calls_of theirs ext ≡ []
   not_theirs t mine theirs ext adds apart = ⊎_elim (λ (e : ext ≡ []). ap (calls_of theirs) e)
-      (λ (x : (e : HistoryEntry C R) × (ext ≡ e ∷ []) × (has mine e.caller ≡ true) × (e.ticket ≡ t)). ap (calls_of theirs) x.1 ∙ no_call theirs x.0 (apart x.0.caller x.2)) adds
+      (λ (x : (e : HistoryEntry C R) × (ext ≡ e ∷ []) × (contains_number mine e.caller ≡ true) × (e.ticket ≡ t)). ap (calls_of theirs) x.1 ∙ no_call theirs x.0 (apart x.0.caller x.2)) adds
 
 module _ {T C R : Type 0} where
   pub tickets_of-set : (l : List (View T C R)) (i : ℕ) (v w : View T C R) → get_elem? l i ≡ some v → tickets_of (set l i w) + v.drew ≡ tickets_of l + w.drew
@@ -132,10 +132,10 @@ module _ {T C R : Type 0} where
   abbrev pub Alone : List (View T C R) → ℕ → View T C R → Type 0
   Alone views id w =
       ((t : ℕ) → HasTicket w.stage t → (j : ℕ) (u : View T C R) → j ≢ id → get_elem? views j ≡ some u → ¬ (HasTicket u.stage t))
-      × ((n : ℕ) → has w.numbers n ≡ true → (j : ℕ) (u : View T C R) → j ≢ id → get_elem? views j ≡ some u → ¬ (has u.numbers n ≡ true))
+      × ((n : ℕ) → contains_number w.numbers n ≡ true → (j : ℕ) (u : View T C R) → j ≢ id → get_elem? views j ≡ some u → ¬ (contains_number u.numbers n ≡ true))
 
   abbrev pub Between : View T C R → View T C R → Type 0
-  Between a b = ((t : ℕ) → HasTicket a.stage t → ¬ (HasTicket b.stage t)) × ((n : ℕ) → has a.numbers n ≡ true → ¬ (has b.numbers n ≡ true))
+  Between a b = ((t : ℕ) → HasTicket a.stage t → ¬ (HasTicket b.stage t)) × ((n : ℕ) → contains_number a.numbers n ≡ true → ¬ (contains_number b.numbers n ≡ true))
 
   pub apart_set : (views : List (View T C R)) (id : ℕ) (w : View T C R) → Apart views → Alone views id w → Apart (set views id w)
   apart_set views id w old alone i j a b ea eb ij =
@@ -166,8 +166,8 @@ module _ {T C R : Type 0} (turns : T → C → R → T → Type 0) (start : T) w
       → ((j : ℕ) (u : View T C R) → j ≢ id → get_elem? s.views j ≡ some u → Fits start r.tickets r.serving r.log u → Fits start tickets serving log u)
       → Fits start tickets serving log w
       → Alone s.views id w
-      → ((n : ℕ) → has v.numbers n ≡ true → has w.numbers n ≡ true)
-      → ((n : ℕ) → calls_of (n ∷ []) log ≢ [] → (calls_of (n ∷ []) r.log ≢ []) ⊎ (has w.numbers n ≡ true))
+      → ((n : ℕ) → contains_number v.numbers n ≡ true → contains_number w.numbers n ≡ true)
+      → ((n : ℕ) → calls_of (n ∷ []) log ≢ [] → (calls_of (n ∷ []) r.log ≢ []) ⊎ (contains_number w.numbers n ≡ true))
       → Rule record { words = words; homes = homes; views = set s.views id w }
   moved s r id v w tickets serving log words homes at ws narrow below stamped drew held parts node others mine alone numbers kept = record {
     tickets = tickets;
@@ -186,9 +186,9 @@ module _ {T C R : Type 0} (turns : T → C → R → T → Type 0) (start : T) w
     apart = apart_set s.views id w r.apart alone;
     kept_by_one = λ n h. ⊎_elim
         (λ (old : calls_of (n ∷ []) r.log ≢ []). let k = r.kept_by_one n old in dite (ℕ_discrete k.0 id)
-        (λ same. (id, w, set_at s.views id v w at, numbers n (subst (λ (u : View T C R). has u.numbers n ≡ true) (some-injective k.1 v (sym (subst (λ (i : ℕ). get_elem? s.views i ≡ some k.1) same k.2) ∙ at)) k.3)))
+        (λ same. (id, w, set_at s.views id v w at, numbers n (subst (λ (u : View T C R). contains_number u.numbers n ≡ true) (some-injective k.1 v (sym (subst (λ (i : ℕ). get_elem? s.views i ≡ some k.1) same k.2) ∙ at)) k.3)))
         (λ other. (k.0, k.1, set_else s.views id k.0 w other ∙ k.2, k.3)))
-        (λ (own : has w.numbers n ≡ true). (id, w, set_at s.views id v w at, own))
+        (λ (own : contains_number w.numbers n ≡ true). (id, w, set_at s.views id v w at, own))
         (kept n h);
   }
 
@@ -324,8 +324,8 @@ module _ {T C R : Type 0} (turns : T → C → R → T → Type 0) (start : T) w
   abbrev after : ℕ → View T C R → Node T C R → List ℕ → M
   after t v node ns = (numbered ns (rested t node.history.items v), [])
 
-  passes_at : (slots id : ℕ) (v : View T C R) (node : Node T C R) (t : ℕ) (ext : List (HistoryEntry C R)) (ns : List ℕ) → ((n : ℕ) → has v.numbers n ≡ true → has ns n ≡ true) → ((n : ℕ) → has ns n ≡ true → (has v.numbers n ≡ true) ⊎ (n ≡ t + 1)) → v.stage ≡ Holds t → node.history.items ≡ v.seen ++ ext → AddsOne t v.numbers ext → 0 < v.parts → RunOf turns v.start node.history.items node.value
-      → Allows Rule slots id (v, (0, Some node) ∷ []) 1 (λ n. (n + 1) % 2 ^ 64) (λ r m'. (m' ≡ after t v node ns) × ¬ (has v.numbers (t + 1) ≡ true))
+  passes_at : (slots id : ℕ) (v : View T C R) (node : Node T C R) (t : ℕ) (ext : List (HistoryEntry C R)) (ns : List ℕ) → ((n : ℕ) → contains_number v.numbers n ≡ true → contains_number ns n ≡ true) → ((n : ℕ) → contains_number ns n ≡ true → (contains_number v.numbers n ≡ true) ⊎ (n ≡ t + 1)) → v.stage ≡ Holds t → node.history.items ≡ v.seen ++ ext → AddsOne t v.numbers ext → 0 < v.parts → RunOf turns v.start node.history.items node.value
+      → Allows Rule slots id (v, (0, Some node) ∷ []) 1 (λ n. (n + 1) % 2 ^ 64) (λ r m'. (m' ≡ after t v node ns) × ¬ (contains_number v.numbers (t + 1) ≡ true))
   passes_at slots id v node t ext ns sub new holds grown adds whole run s r _ at _ = let x : ℕ = get_or s.words 1 0 in let is = serving_is s r in let F = r.each id v at in
       let turn : InTurn r.tickets r.serving r.log v.seen (Holds t) = subst (InTurn r.tickets r.serving r.log v.seen) holds F.turn in
       let own : HasTicket v.stage r.serving = subst (λ (st : Stage). HasTicket st r.serving) (sym holds) (sym turn.0) in
@@ -353,18 +353,18 @@ module _ {T C R : Type 0} (turns : T → C → R → T → Type 0) (start : T) w
               starts = F.starts;
               begins = seen_all ns log;
               turn = tt;
-              named = λ n h. ⊎_elim (λ (o : has v.numbers n ≡ true). let l = F.named n o in omega arith) (λ (o : n ≡ t + 1). omega arith) (new n h);
+              named = λ n h. ⊎_elim (λ (o : contains_number v.numbers n ≡ true). let l = F.named n o in omega arith) (λ (o : n ≡ t + 1). omega arith) (new n h);
               nothing = λ z. absurd (omega arith);
               told = F.told;
               passed = omega arith;
               theirs = empty_part _ log;
               ours = empty_part _ log;
             }
-            ((λ t' h. absurd h), (λ n h j u ne e g. ⊎_elim (λ (o : has v.numbers n ≡ true). (r.apart id j v u at e (λ q. ne (sym q))).1 n o g) (λ (o : n ≡ t + 1). let l = (r.each j u e).named n g in omega arith) (new n h)))
+            ((λ t' h. absurd h), (λ n h j u ne e g. ⊎_elim (λ (o : contains_number v.numbers n ≡ true). (r.apart id j v u at e (λ q. ne (sym q))).1 n o g) (λ (o : n ≡ t + 1). let l = (r.each j u e).named n g in omega arith) (new n h)))
             sub
             (λ n h. ⊎_elim (λ (e : ext ≡ []). inl (λ z. h (ap (calls_of (n ∷ [])) (sym longer ∙ ap (λ l. r.log ++ l) e ∙ append-nil r.log) ∙ z)))
-            (λ (y : (e : HistoryEntry C R) × (ext ≡ e ∷ []) × (has v.numbers e.caller ≡ true) × (e.ticket ≡ t)). dite (ℕ_discrete n y.0.caller)
-            (λ same. inr (sub n (subst (λ (m : ℕ). has v.numbers m ≡ true) (sym same) y.2)))
+            (λ (y : (e : HistoryEntry C R) × (ext ≡ e ∷ []) × (contains_number v.numbers e.caller ≡ true) × (e.ticket ≡ t)). dite (ℕ_discrete n y.0.caller)
+            (λ same. inr (sub n (subst (λ (m : ℕ). contains_number v.numbers m ≡ true) (sym same) y.2)))
             (λ other. inl (λ z. h (ap (calls_of (n ∷ [])) (sym longer) ∙ calls_of-append (n ∷ []) r.log ext ∙ (λ i. z i ++ (ap (calls_of (n ∷ [])) y.1 ∙ not_n n y.0 other) i)))))
             adds),
         (refl, λ h. let l = F.named (t + 1) h in omega arith),
@@ -380,7 +380,7 @@ module _ {T C R : Type 0} (turns : T → C → R → T → Type 0) (start : T) w
       → Allows Rule slots id me 1 (λ n. (n + 1) % 2 ^ 64) (passed_named (step slots 1 1 0 none) me)
   names slots id me node t ext taken holds grown adds whole run = subst (λ (c : List (ℕ × Option (Node T C R))). Allows Rule slots id (me.0, c) 1 (λ n. (n + 1) % 2 ^ 64) (passed_named (step slots 1 1 0 none) (me.0, c))) (sym taken)
       (λ s r l at small. let mine : t ≡ ticket_in me.0.stage = sym (ap ticket_in holds) in let p = passes_at slots id me.0 node t ext ((ticket_in me.0.stage + 1) ∷ me.0.numbers) (λ n h. has_later (ticket_in me.0.stage + 1) me.0.numbers n h) (λ n h. ⊎_elim (λ e. inr (omega arith)) (λ o. inl o) (has_cons (ticket_in me.0.stage + 1) me.0.numbers n h)) holds grown adds whole run s r l at small in
-      (p.0, p.1, p.2, p.3, (p.4.0 ∙ ap (λ (x : ℕ). after x me.0 node ((ticket_in me.0.stage + 1) ∷ me.0.numbers)) mine, subst (λ (x : ℕ). ¬ (has me.0.numbers (x + 1) ≡ true)) mine p.4.1)))
+      (p.0, p.1, p.2, p.3, (p.4.0 ∙ ap (λ (x : ℕ). after x me.0 node ((ticket_in me.0.stage + 1) ∷ me.0.numbers)) mine, subst (λ (x : ℕ). ¬ (contains_number me.0.numbers (x + 1) ≡ true)) mine p.4.1)))
 
   pub comes_as : (slots id : ℕ) (me : M) (t : ℕ) → me.1 ≡ [] → me.0.stage ≡ Waits t → 0 < me.0.parts → Allows Rule slots id me 1 (λ x. x) (came turns (step slots 1 0 0 none) me)
   comes_as slots id me t none_taken waits whole = subst (λ (c : List (ℕ × Option (Node T C R))). Allows Rule slots id (me.0, c) 1 (λ x. x) (came turns (step slots 1 0 0 none) (me.0, c))) (sym none_taken) (comes slots id me.0 t waits whole)
@@ -417,7 +417,7 @@ module _ {T C R : Type 0} (turns : T → C → R → T → Type 0) (start : T) w
       fits : Fits {T = T} {C = C} {R = R} start 0 0 [] (first_view start)
       fits = record { starts = λ _. refl; begins = ([], refl, refl); turn = tt; named = zero_only; nothing = λ z. absurd (omega arith); told = λ d. absurd (true≢false (sym d)); passed = omega arith; theirs = empty_part (0 ∷ []) []; ours = empty_part (0 ∷ []) [] }
         where
-          zero_only : (n : ℕ) → has (0 ∷ []) n ≡ true → n ≤ 0
+          zero_only : (n : ℕ) → contains_number (0 ∷ []) n ≡ true → n ≤ 0
           zero_only n h = dite (ℕ_discrete 0 n) (λ e. omega arith) (λ ne. absurd (true≢false (sym h ∙ ap (λ b. b || false) (ne_eqb 0 n ne))))
 
       one : (i : ℕ) (v : View T C R) → get_elem? (first_view {C = C} {R = R} start ∷ []) i ≡ some v → Fits start 0 0 [] v

@@ -10,7 +10,7 @@ use Rattle.dkg_turn.specs.declared.turn.HistoryEntry.{HistoryEntry}
 use Rattle.dkg_turn.specs.declared.view.Node.{Node}
 use Rattle.dkg_turn.specs.declared.view.View.{View}
 use Rattle.dkg_turn.specs.declared.view.Stage.TheVariants.{Idle, Holds}
-use Rattle.dkg_turn.specs.History.{has, put_if, calls_of, HasSeen, longer}
+use Rattle.dkg_turn.specs.History.{contains_number, put_if, calls_of, HasSeen, longer}
 use Rattle.dkg_turn.specs.Rules.{head_of, tail_of, IsNewlyNamed, kept_part, given_part, both_views, nobody, Fits, tickets_in, tickets_of, holders_of, parts_of, Apart, IsOut, Kept}
 use Rattle.dkg_turn.proofs.Histories.{not_true, calls_of-append, bool_is, fewer, none_of, empty_part}
 use Rattle.dkg_turn.proofs.Keeps.{set_at, has_later, has_cons, is_idle, tickets_of-set, holders_of-set, parts_of-set, Between, apart_set, still_out}
@@ -23,18 +23,18 @@ or_false : (b : Bool) → (b || false) ≡ true → b ≡ true
 or_false true h = refl
 or_false false h = h
 
-has_here : (m n : ℕ) (ns : List ℕ) → m ≡ n → has (m ∷ ns) n ≡ true
-has_here m n ns e = ap (λ b. b || has ns n) (eq-eqb m n e)
+has_here : (m n : ℕ) (ns : List ℕ) → m ≡ n → contains_number (m ∷ ns) n ≡ true
+has_here m n ns e = ap (λ b. b || contains_number ns n) (eq-eqb m n e)
 
-pub has_append : (a b : List ℕ) (n : ℕ) → has (a ++ b) n ≡ true → (has a n ≡ true) ⊎ (has b n ≡ true)
+pub has_append : (a b : List ℕ) (n : ℕ) → contains_number (a ++ b) n ≡ true → (contains_number a n ≡ true) ⊎ (contains_number b n ≡ true)
 has_append [] b n h = inr h
 has_append (m ∷ ms) b n h = ⊎_elim (λ e. inl (has_here m n ms e)) (λ o. ⊎_elim (λ p. inl (has_later m ms n p)) (λ q. inr q) (has_append ms b n o)) (has_cons m (ms ++ b) n h)
 
-pub has_left : (a b : List ℕ) (n : ℕ) → has a n ≡ true → has (a ++ b) n ≡ true
+pub has_left : (a b : List ℕ) (n : ℕ) → contains_number a n ≡ true → contains_number (a ++ b) n ≡ true
 has_left [] b n h = absurd (true≢false (sym h))
 has_left (m ∷ ms) b n h = ⊎_elim (λ e. has_here m n (ms ++ b) e) (λ o. has_later m (ms ++ b) n (has_left ms b n o)) (has_cons m ms n h)
 
-pub has_right : (a b : List ℕ) (n : ℕ) → has b n ≡ true → has (a ++ b) n ≡ true
+pub has_right : (a b : List ℕ) (n : ℕ) → contains_number b n ≡ true → contains_number (a ++ b) n ≡ true
 has_right [] b n h = h
 has_right (m ∷ ms) b n h = has_later m (ms ++ b) n (has_right ms b n h)
 
@@ -71,10 +71,10 @@ module _ {C R : Type 0} where
       (λ t. let h : x ∷ calls_of a xs ≡ [] = subst (λ z. put_if z x (calls_of a xs) ≡ []) t p in absurd (cc))
       (λ f. ⊎_elim
       (λ t. let h : x ∷ calls_of b xs ≡ [] = subst (λ z. put_if z x (calls_of b xs) ≡ []) t q in absurd (cc))
-      (λ g. ap (λ z. put_if z x (calls_of (a ++ b) xs)) (not_true (has (a ++ b) x.caller) (λ h. ⊎_elim (λ i. true≢false (sym i ∙ f)) (λ i. true≢false (sym i ∙ g)) (has_append a b x.caller h)))
+      (λ g. ap (λ z. put_if z x (calls_of (a ++ b) xs)) (not_true (contains_number (a ++ b) x.caller) (λ h. ⊎_elim (λ i. true≢false (sym i ∙ f)) (λ i. true≢false (sym i ∙ g)) (has_append a b x.caller h)))
       ∙ none_both a b xs (subst (λ z. put_if z x (calls_of a xs) ≡ []) f p) (subst (λ z. put_if z x (calls_of b xs) ≡ []) g q))
-      (bool_is (has b x.caller)))
-      (bool_is (has a x.caller))
+      (bool_is (contains_number b x.caller)))
+      (bool_is (contains_number a x.caller))
 
   later : (ns : List ℕ) (a b : List (HistoryEntry C R)) → calls_of ns (a ++ b) ≡ [] → calls_of ns b ≡ []
   later ns a b e = nil_right (calls_of ns a) (calls_of ns b) (sym (calls_of-append ns a b) ∙ e)
@@ -126,12 +126,12 @@ module _ {T C R : Type 0} (turns : T → C → R → T → Type 0) (start : T) w
   abbrev Rule : State (Option (Node T C R)) (View T C R) → Type 0
   Rule = Kept turns start
 
-  splits_at : (id : ℕ) (v : View T C R) (m : ℕ) (ns : List ℕ) → v.stage ≡ Idle → v.numbers ≡ m ∷ ns → ¬ (has ns m ≡ true) → 2 ≤ v.parts → Splits Rule id v (kept_part ns v) (given_part m v)
+  splits_at : (id : ℕ) (v : View T C R) (m : ℕ) (ns : List ℕ) → v.stage ≡ Idle → v.numbers ≡ m ∷ ns → ¬ (contains_number ns m ≡ true) → 2 ≤ v.parts → Splits Rule id v (kept_part ns v) (given_part m v)
   splits_at id v m ns idle is new two s r at =
       let F = r.each id v at in let L : View T C R = kept_part ns v in let G : View T C R = given_part m v in let vs : List (View T C R) = set s.views id L in
-      let old : (n : ℕ) → has ns n ≡ true → has v.numbers n ≡ true = λ n h. subst (λ (l : List ℕ). has l n ≡ true) (sym is) (has_later m ns n h) in
-      let one : (n : ℕ) → has (m ∷ []) n ≡ true → m ≡ n = λ n h. ⊎_elim (λ e. e) (λ (o : has [] n ≡ true). absurd (true≢false (sym o))) (has_cons m [] n h) in
-      let own : (n : ℕ) → has (m ∷ []) n ≡ true → has v.numbers n ≡ true = λ n h. subst (λ (l : List ℕ). has l n ≡ true) (sym is) (has_here m n ns (one n h)) in
+      let old : (n : ℕ) → contains_number ns n ≡ true → contains_number v.numbers n ≡ true = λ n h. subst (λ (l : List ℕ). contains_number l n ≡ true) (sym is) (has_later m ns n h) in
+      let one : (n : ℕ) → contains_number (m ∷ []) n ≡ true → m ≡ n = λ n h. ⊎_elim (λ e. e) (λ (o : contains_number [] n ≡ true). absurd (true≢false (sym o))) (has_cons m [] n h) in
+      let own : (n : ℕ) → contains_number (m ∷ []) n ≡ true → contains_number v.numbers n ≡ true = λ n h. subst (λ (l : List ℕ). contains_number l n ≡ true) (sym is) (has_here m n ns (one n h)) in
       let half : v.parts / 2 + v.parts / 2 ≤ v.parts = omega arith in
       let some_half : 0 < v.parts / 2 = omega arith in
       record {
@@ -156,14 +156,14 @@ module _ {T C R : Type 0} (turns : T → C → R → T → Type 0) (start : T) w
         apart = apart_snoc vs G
             (apart_set s.views id L r.apart ((λ t h. absurd h), (λ n h j u ne e. (r.apart id j v u at e (λ q. ne (sym q))).1 n (old n h))))
             (λ j u e. ⊎_elim
-            (λ (y : (j ≡ id) × (L ≡ u)). subst (λ (z : View T C R). Between G z) y.1 ((λ t h. absurd h), (λ n h g. new (subst (λ (k : ℕ). has ns k ≡ true) (sym (one n h)) g))))
+            (λ (y : (j ≡ id) × (L ≡ u)). subst (λ (z : View T C R). Between G z) y.1 ((λ t h. absurd h), (λ n h g. new (subst (λ (k : ℕ). contains_number ns k ≡ true) (sym (one n h)) g))))
             (λ (y : (j ≢ id) × (get_elem? s.views j ≡ some u)). ((λ t h. absurd h), (λ n h. (r.apart id j v u at y.1 (λ q. y.0 (sym q))).1 n (own n h))))
             (at_set s.views id j L u e));
         kept_by_one = λ n h. let k = r.kept_by_one n h in dite (ℕ_discrete k.0 id)
-            (λ same. let mine : has v.numbers n ≡ true = subst (λ (u : View T C R). has u.numbers n ≡ true) (some-injective k.1 v (sym (subst (λ (i : ℕ). get_elem? s.views i ≡ some k.1) same k.2) ∙ at)) k.3 in ⊎_elim
+            (λ same. let mine : contains_number v.numbers n ≡ true = subst (λ (u : View T C R). contains_number u.numbers n ≡ true) (some-injective k.1 v (sym (subst (λ (i : ℕ). get_elem? s.views i ≡ some k.1) same k.2) ∙ at)) k.3 in ⊎_elim
             (λ (e : m ≡ n). (length vs, G, at_last vs G (length vs) refl, has_here m n [] e))
-            (λ (o : has ns n ≡ true). (id, L, at_longer vs (G ∷ []) id L (set_at s.views id v L at), o))
-            (has_cons m ns n (subst (λ (l : List ℕ). has l n ≡ true) is mine)))
+            (λ (o : contains_number ns n ≡ true). (id, L, at_longer vs (G ∷ []) id L (set_at s.views id v L at), o))
+            (has_cons m ns n (subst (λ (l : List ℕ). contains_number l n ≡ true) is mine)))
             (λ other. (k.0, k.1, at_longer vs (G ∷ []) k.0 k.1 (set_else s.views id k.0 L other ∙ k.2), k.3));
       }
 
@@ -211,15 +211,15 @@ module _ {T C R : Type 0} (turns : T → C → R → T → Type 0) (start : T) w
             (apart_set s.views other N r.apart ((λ t h. absurd h), (λ n h. absurd (true≢false (sym h))))) (
               (λ t h. absurd h),
               (λ n h j u off e. ⊎_elim
-                  (λ (x : (j ≡ other) × (N ≡ u)). λ g. true≢false (sym (subst (λ (z : View T C R). has z.numbers n ≡ true) (sym x.1) g)))
+                  (λ (x : (j ≡ other) × (N ≡ u)). λ g. true≢false (sym (subst (λ (z : View T C R). contains_number z.numbers n ≡ true) (sym x.1) g)))
                   (λ (x : (j ≢ other) × (get_elem? s.views j ≡ some u)). λ g. ⊎_elim (λ p. (r.apart id j v u at x.1 (λ q. off (sym q))).1 n p g) (λ p. (r.apart other j w u at' x.1 (λ q. x.0 (sym q))).1 n p g) (has_append v.numbers w.numbers n h))
                   (at_set s.views other j N u e)),
             ));
         kept_by_one = λ n h. let k = r.kept_by_one n h in let here : get_elem? (set vs other N) id ≡ some B = set_else vs other id N (λ e. ne (sym e)) ∙ set_at s.views id v B at in
             dite (ℕ_discrete k.0 id)
-            (λ same. (id, B, here, has_left v.numbers w.numbers n (subst (λ (u : View T C R). has u.numbers n ≡ true) (some-injective k.1 v (sym (subst (λ (i : ℕ). get_elem? s.views i ≡ some k.1) same k.2) ∙ at)) k.3)))
+            (λ same. (id, B, here, has_left v.numbers w.numbers n (subst (λ (u : View T C R). contains_number u.numbers n ≡ true) (some-injective k.1 v (sym (subst (λ (i : ℕ). get_elem? s.views i ≡ some k.1) same k.2) ∙ at)) k.3)))
             (λ off. dite (ℕ_discrete k.0 other)
-            (λ same. (id, B, here, has_right v.numbers w.numbers n (subst (λ (u : View T C R). has u.numbers n ≡ true) (some-injective k.1 w (sym (subst (λ (i : ℕ). get_elem? s.views i ≡ some k.1) same k.2) ∙ at')) k.3)))
+            (λ same. (id, B, here, has_right v.numbers w.numbers n (subst (λ (u : View T C R). contains_number u.numbers n ≡ true) (some-injective k.1 w (sym (subst (λ (i : ℕ). get_elem? s.views i ≡ some k.1) same k.2) ∙ at')) k.3)))
             (λ off'. (k.0, k.1, set_else vs other k.0 N off' ∙ (set_else s.views id k.0 B off ∙ k.2), k.3)));
       }
 
@@ -231,7 +231,7 @@ module _ {T C R : Type 0} where
   joined_seen v w j a is same h = let h' = subst Told is h in
       subst (λ (u : View T C R). HasSeen v.numbers v.seen u.seen × HasSeen w.numbers w.seen u.seen) (sym (same ∙ is)) (h'.1 (longer_left v.seen w.seen), h'.0 (longer_long v.seen w.seen))
 
-  pub joined_own : (v w : View T C R) (m : Me (Option (Node T C R)) (View T C R)) (n : ℕ) → m ≡ (both_views v w, []) → has v.numbers n ≡ true → 0 < v.parts
-      → (m.0.stage ≡ Idle) × (m.1 ≡ []) × (has m.0.numbers n ≡ true) × (0 < m.0.parts)
-  joined_own v w m n is own some_part = subst (λ (m : Me (Option (Node T C R)) (View T C R)). (m.0.stage ≡ Idle) × (m.1 ≡ []) × (has m.0.numbers n ≡ true) × (0 < m.0.parts)) (sym is)
+  pub joined_own : (v w : View T C R) (m : Me (Option (Node T C R)) (View T C R)) (n : ℕ) → m ≡ (both_views v w, []) → contains_number v.numbers n ≡ true → 0 < v.parts
+      → (m.0.stage ≡ Idle) × (m.1 ≡ []) × (contains_number m.0.numbers n ≡ true) × (0 < m.0.parts)
+  joined_own v w m n is own some_part = subst (λ (m : Me (Option (Node T C R)) (View T C R)). (m.0.stage ≡ Idle) × (m.1 ≡ []) × (contains_number m.0.numbers n ≡ true) × (0 < m.0.parts)) (sym is)
       (refl, refl, has_left v.numbers w.numbers n own, omega arith)

@@ -8,7 +8,7 @@ use Rattle.atomic_table.specs.Table.{State}
 use Rattle.dkg_turn.specs.declared.turn.HistoryEntry.{HistoryEntry}
 use Rattle.dkg_turn.specs.declared.view.Node.{Node}
 use Rattle.dkg_turn.specs.declared.view.View.{View}
-use Rattle.dkg_turn.specs.History.{has, put_if, calls_of, HasNoneAbove}
+use Rattle.dkg_turn.specs.History.{contains_number, put_if, calls_of, HasNoneAbove}
 use Rattle.dkg_turn.specs.Known.{AreDrawn}
 use Rattle.dkg_turn.specs.Rules.{tickets_of, parts_of, Kept}
 
@@ -17,12 +17,12 @@ module _ {C R : Type 0} where
   no_longer true e l h = absurd (cc)
   no_longer false e l h = h
 
-  all_own : (ns : List ℕ) (l : List (HistoryEntry C R)) → ((n : ℕ) → calls_of (n ∷ []) l ≢ [] → has ns n ≡ true) → calls_of ns l ≡ l
+  all_own : (ns : List ℕ) (l : List (HistoryEntry C R)) → ((n : ℕ) → calls_of (n ∷ []) l ≢ [] → contains_number ns n ≡ true) → calls_of ns l ≡ l
   all_own ns [] own = refl
   all_own ns (x ∷ xs) own =
-      let there : has (x.caller ∷ []) x.caller ≡ true = ap (λ b. b || false) (eq-eqb x.caller x.caller refl) in
-      let mine : has ns x.caller ≡ true = own x.caller (λ z. let h : x ∷ calls_of (x.caller ∷ []) xs ≡ [] = subst (λ b. put_if b x (calls_of (x.caller ∷ []) xs) ≡ []) there z in absurd (cc)) in
-      ap (λ b. put_if b x (calls_of ns xs)) mine ∙ ap (λ l. x ∷ l) (all_own ns xs (λ n h. own n (λ z. h (no_longer (has (n ∷ []) x.caller) x (calls_of (n ∷ []) xs) z))))
+      let there : contains_number (x.caller ∷ []) x.caller ≡ true = ap (λ b. b || false) (eq-eqb x.caller x.caller refl) in
+      let mine : contains_number ns x.caller ≡ true = own x.caller (λ z. let h : x ∷ calls_of (x.caller ∷ []) xs ≡ [] = subst (λ b. put_if b x (calls_of (x.caller ∷ []) xs) ≡ []) there z in absurd (cc)) in
+      ap (λ b. put_if b x (calls_of ns xs)) mine ∙ ap (λ l. x ∷ l) (all_own ns xs (λ n h. own n (λ z. h (no_longer (contains_number (n ∷ []) x.caller) x (calls_of (n ∷ []) xs) z))))
 
 module _ {A : Type 0} where
   must_be_empty : (l : List A) → ¬ (l ≢ []) → l ≡ []
@@ -62,8 +62,8 @@ module _ {T C R : Type 0} (turns : T → C → R → T → Type 0) (start : T) w
       let others : (j : ℕ) (u : View T C R) → j ≢ id → get_elem? s.views j ≡ some u → u.parts ≡ 0 = λ j u ne e. let a = two_parts s.views id j v u (λ q. ne (sym q)) at e in let b = r.parts_of_all in omega arith in (
         sym r.drawn_by_all ∙ one_drew s.views id v at (λ j u ne e. ((r.each j u e).nothing (others j u ne e)).0),
         all_own v.numbers r.log (λ n h. let k = r.kept_by_one n h in dite (ℕ_discrete k.0 id)
-            (λ same. subst (λ (u : View T C R). has u.numbers n ≡ true) (some-injective k.1 v (sym (subst (λ (i : ℕ). get_elem? s.views i ≡ some k.1) same k.2) ∙ at)) k.3)
-            (λ other. absurd (true≢false (sym (subst (λ (l : List ℕ). has l n ≡ true) (((r.each k.0 k.1 k.2).nothing (others k.0 k.1 other k.2)).1) k.3))))),
+            (λ same. subst (λ (u : View T C R). contains_number u.numbers n ≡ true) (some-injective k.1 v (sym (subst (λ (i : ℕ). get_elem? s.views i ≡ some k.1) same k.2) ∙ at)) k.3)
+            (λ other. absurd (true≢false (sym (subst (λ (l : List ℕ). contains_number l n ≡ true) (((r.each k.0 k.1 k.2).nothing (others k.0 k.1 other k.2)).1) k.3))))),
       )
 
   -- of all tickets, a pass drew its own

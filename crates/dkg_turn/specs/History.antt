@@ -3,9 +3,9 @@ use Rattle.std.specs.Prelude.{◌≡◌, ℕ, ◌+◌, ◌==◌, ◌||◌, ◌<�
 use Rattle.dkg_turn.specs.declared.turn.HistoryEntry.{HistoryEntry}
 
 -- the number is among these
-abbrev pub has : List ℕ → ℕ → Bool
-has [] n = false
-has (m ∷ ms) n = (m == n) || has ms n
+abbrev pub contains_number : List ℕ → ℕ → Bool
+contains_number [] n = false
+contains_number (m ∷ ms) n = (m == n) || contains_number ms n
 
 module _ {C R : Type 0} where
   abbrev pub put_if : Bool → HistoryEntry C R → List (HistoryEntry C R) → List (HistoryEntry C R)
@@ -15,7 +15,7 @@ module _ {C R : Type 0} where
   -- the calls of these callers, in order
   abbrev pub calls_of : List ℕ → List (HistoryEntry C R) → List (HistoryEntry C R)
   calls_of ns [] = []
-  calls_of ns (e ∷ es) = put_if (has ns e.caller) e (calls_of ns es)
+  calls_of ns (e ∷ es) = put_if (contains_number ns e.caller) e (calls_of ns es)
 
   -- the log begins with what was seen, and after that has no call of these callers
   abbrev pub HasSeen : List ℕ → List (HistoryEntry C R) → List (HistoryEntry C R) → Type 0

@@ -1,7 +1,7 @@
 -- What the calls of a pass tell.
 use Rattle.std.specs.Prelude.{◌≡◌, ◌↔◌, IsNone, ℕ, ◌+◌, ◌-◌, ◌/◌, ◌<◌, ◌≤◌, ◌^◌, ◌||◌, max, true, false, List, [], ◌∷◌, ◌++◌, Option, Some, None}
 use Rattle.dkg_turn.specs.declared.turn.HistoryEntry.{HistoryEntry}
-use Rattle.dkg_turn.specs.History.{has, calls_of, HasSeen, HasNoneAbove, IsStamped, longer, IsRun}
+use Rattle.dkg_turn.specs.History.{contains_number, calls_of, HasSeen, HasNoneAbove, IsStamped, longer, IsRun}
 use Rattle.dkg_turn.specs.Known.{Lock, Known, AreDrawn}
 use Rattle.dkg_turn.specs.Stops.{HasStopped}
 
@@ -89,7 +89,7 @@ module _ {T C R : Type 0} where
       pub kept : w ≡ kept_by_split ticket log v
       pub given : p ≡ given_by_split ticket log v
       -- the number is new to the pass; the rule of the lock keeps that no other pass has it
-      pub fresh : ¬ (has v.numbers p.number ≡ true)
+      pub fresh : ¬ (contains_number v.numbers p.number ≡ true)
 
     -- the turn came, and the value there has this answer for the number
     pub record LooksAt (told : T → ℕ → Option R) (same : R → R → Type 0) (number : ℕ) (reply : R) (v w : Known T C R) : Type 0 where

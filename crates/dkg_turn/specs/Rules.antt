@@ -11,7 +11,7 @@ use Rattle.dkg_turn.specs.declared.view.Node.{Node}
 use Rattle.dkg_turn.specs.declared.view.View.{View}
 use Rattle.dkg_turn.specs.declared.view.Stage.{Stage}
 use Rattle.dkg_turn.specs.declared.view.Stage.TheVariants.{Idle, Waits, Holds}
-use Rattle.dkg_turn.specs.History.{has, calls_of, HasSeen, HasNoneAbove, IsStamped, longer, IsRun, RunOf}
+use Rattle.dkg_turn.specs.History.{contains_number, calls_of, HasSeen, HasNoneAbove, IsStamped, longer, IsRun, RunOf}
 use Rattle.dkg_turn.specs.Known.{Known, AreDrawn}
 
 -- the ticket is drawn, and its turn is not passed on
@@ -41,11 +41,11 @@ tail_of (n ∷ ns) = ns
 module _ {C R : Type 0} where
   -- one call of these callers at most, with this ticket
   abbrev pub AddsOne : ℕ → List ℕ → List (HistoryEntry C R) → Type 0
-  AddsOne ticket numbers ext = (ext ≡ []) ⊎ ((e : HistoryEntry C R) × (ext ≡ e ∷ []) × (has numbers e.caller ≡ true) × (e.ticket ≡ ticket))
+  AddsOne ticket numbers ext = (ext ≡ []) ⊎ ((e : HistoryEntry C R) × (ext ≡ e ∷ []) × (contains_number numbers e.caller ≡ true) × (e.ticket ≡ ticket))
 
   -- the same for some of the pass's numbers
   abbrev pub PartOf : List ℕ → List ℕ → List (HistoryEntry C R) → List (HistoryEntry C R) → Type 0
-  PartOf numbers few seen log = ((n : ℕ) → has few n ≡ true → has numbers n ≡ true) × HasSeen few seen log
+  PartOf numbers few seen log = ((n : ℕ) → contains_number few n ≡ true → contains_number numbers n ≡ true) × HasSeen few seen log
 
   abbrev pub InTurn : ℕ → ℕ → List (HistoryEntry C R) → List (HistoryEntry C R) → Stage → Type 0
   InTurn tickets serving log seen Idle = Unit {0}
@@ -80,7 +80,7 @@ module _ {T C R : Type 0} where
     pub starts : 0 < v.parts → v.start ≡ Some start
     pub begins : HasSeen v.numbers v.seen log
     pub turn : InTurn tickets serving log v.seen v.stage
-    pub named : (n : ℕ) → has v.numbers n ≡ true → n ≤ serving
+    pub named : (n : ℕ) → contains_number v.numbers n ≡ true → n ≤ serving
     pub nothing : v.parts ≡ 0 → (v.drew ≡ 0) × (v.numbers ≡ [])
     pub told : v.exhausted ≡ true → tickets + 1 ≡ 2 ^ 64
     pub passed : v.next ≤ serving
@@ -117,7 +117,7 @@ module _ {T C R : Type 0} where
   abbrev pub Apart : List (View T C R) → Type 0
   Apart views =
       (i j : ℕ) (v w : View T C R) → get_elem? views i ≡ some v → get_elem? views j ≡ some w → i ≢ j
-      → ((t : ℕ) → HasTicket v.stage t → ¬ (HasTicket w.stage t)) × ((n : ℕ) → has v.numbers n ≡ true → ¬ (has w.numbers n ≡ true))
+      → ((t : ℕ) → HasTicket v.stage t → ¬ (HasTicket w.stage t)) × ((n : ℕ) → contains_number v.numbers n ≡ true → ¬ (contains_number w.numbers n ≡ true))
 
   -- the pass whose turn it is has the slot
   abbrev pub IsOut : ℕ → List (maybe.Option (Option (Node T C R))) → List (View T C R) → Type 0
@@ -144,7 +144,7 @@ module _ {T C R : Type 0} where
       pub node : AtHome start log s.homes ⊎ IsOut serving s.homes s.views
       pub each : (i : ℕ) (v : View T C R) → get_elem? s.views i ≡ some v → Fits start tickets serving log v
       pub apart : Apart s.views
-      pub kept_by_one : (n : ℕ) → calls_of (n ∷ []) log ≢ [] → (i : ℕ) × (v : View T C R) × (get_elem? s.views i ≡ some v) × (has v.numbers n ≡ true)
+      pub kept_by_one : (n : ℕ) → calls_of (n ∷ []) log ≢ [] → (i : ℕ) × (v : View T C R) × (get_elem? s.views i ≡ some v) × (contains_number v.numbers n ≡ true)
 
   -- a look at the ticket word
   abbrev pub looked : Step (Option (Node T C R)) → Me (Option (Node T C R)) (View T C R) → ℕ → Me (Option (Node T C R)) (View T C R) → Type 0
@@ -189,7 +189,7 @@ module _ {T C R : Type 0} where
 
   -- the same, and the pass has one more number, which is new
   abbrev pub passed_named : Step (Option (Node T C R)) → Me (Option (Node T C R)) (View T C R) → ℕ → Me (Option (Node T C R)) (View T C R) → Type 0
-  passed_named st m r m' = let n = ticket_in m.0.stage + 1 in (m' ≡ (numbered (n ∷ m.0.numbers) (rested (ticket_in m.0.stage) (held_history m.1) m.0), [])) × ¬ (has m.0.numbers n ≡ true)
+  passed_named st m r m' = let n = ticket_in m.0.stage + 1 in (m' ≡ (numbered (n ∷ m.0.numbers) (rested (ticket_in m.0.stage) (held_history m.1) m.0), [])) × ¬ (contains_number m.0.numbers n ≡ true)
 
   -- the node may go back into the slot: its history is what was taken, with one call of the pass at most
   pub record MayGive (turns : T → C → R → T → Type 0) (v : View T C R) (node : Node T C R) : Type 0 where
@@ -203,7 +203,7 @@ module _ {T C R : Type 0} where
 
   -- the pass has one number more, which is new
   abbrev pub IsNewlyNamed : View T C R → Type 0
-  IsNewlyNamed v = (n : ℕ) × (ns : List ℕ) × (v.numbers ≡ n ∷ ns) × ¬ (has ns n ≡ true)
+  IsNewlyNamed v = (n : ℕ) × (ns : List ℕ) × (v.numbers ≡ n ∷ ns) × ¬ (contains_number ns n ≡ true)
 
   abbrev pub after_naming : View T C R → List (HistoryEntry C R) → View T C R
   after_naming v log = numbered ((ticket_in v.stage + 1) ∷ v.numbers) (rested (ticket_in v.stage) log v)

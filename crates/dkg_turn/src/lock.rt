@@ -5,7 +5,7 @@
 //! out of the slot, puts it back, and passes the turn on by one `fetch_add`. Whoever waits sleeps at its ticket's bell, and is woken
 //! by who passes the turn on to it (`bells`).
 ghost use Rattle.std.specs.Prelude.{◌≡◌, ◌+◌, ◌-◌, ◌^◌, ◌≤◌, ◌∷◌, ◌<◌, [], true, None, IfOk, IfErr, IfSome, IfNone};
-ghost use Rattle.dkg_turn.specs.History.{has, HasSeen};
+ghost use Rattle.dkg_turn.specs.History.{contains_number, HasSeen};
 ghost use Rattle.dkg_turn.specs.Known.{AreDrawn};
 ghost use Rattle.dkg_turn.specs.Passes.{first_pass};
 ghost use Rattle.dkg_turn.specs.Rules.{drawn, Took, rested, MayGive, after_naming, ticket_in, spent, IsNewlyNamed, head_of, tail_of, kept_part, given_part, both_views};
@@ -167,7 +167,7 @@ impl<T: Turn> TurnLock<T> {
         requires fit { MayGive T.turns seat.old.me.0 node }
         ensures own { (seat.new.table_id ≡ seat.old.table_id) × (seat.new.id ≡ seat.old.id) }
         ensures given { seat.new.me ≡ (after_naming seat.old.me.0 node.history.items, []) }
-        ensures fresh { ¬ (has seat.old.me.0.numbers (ticket_in seat.old.me.0.stage + 1) ≡ true) }
+        ensures fresh { ¬ (contains_number seat.old.me.0.numbers (ticket_in seat.old.me.0.stage + 1) ≡ true) }
     {
         let out = self.table.shared.exchange(seat, 0, Some(node));
         drop(out);

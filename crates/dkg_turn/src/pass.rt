@@ -44,13 +44,13 @@ impl<T: Turn> Model for Pass<T> {
 
     ghost Value = { Known T T.Call T.Reply };
 
-    ghost use Rattle.dkg_turn.specs.History.{has};
+    ghost use Rattle.dkg_turn.specs.History.{contains_number};
     ghost use Rattle.dkg_turn.specs.Rules.{known_of};
     ghost use Rattle.dkg_turn.specs.declared.view.Stage.TheVariants.{Idle};
 
     ghost view = { λ p. known_of p.seat.table_id p.number p.seat.me.0 };
 
-    ghost invariant = { λ p. (p.seat.me.0.stage ≡ Idle) × (p.seat.me.1 ≡ []) × (has p.seat.me.0.numbers p.number ≡ true) × (0 < p.seat.me.0.parts) };
+    ghost invariant = { λ p. (p.seat.me.0.stage ≡ Idle) × (p.seat.me.1 ≡ []) × (contains_number p.seat.me.0.numbers p.number ≡ true) × (0 < p.seat.me.0.parts) };
 }
 
 impl<T: Turn> Pass<T> {

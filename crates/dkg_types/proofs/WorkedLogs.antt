@@ -11,7 +11,7 @@ use Rattle.dkg_ceremony.specs.declared.round.RoundParts.{RoundParts as Round}
 use Rattle.dkg_ceremony.specs.declared.signed_log.SignedDealerLog.{SignedDealerLog}
 use Rattle.dkg_ceremony.specs.Acks.{ack_content, ack_of, check_ack_of}
 use Rattle.dkg_ceremony.specs.Marks.{mark_of}
-use Rattle.dkg_ceremony.specs.Outcomes.{LogMap, outcome_of, selected_of, sum_of, revealed_of, combined_of, output_with, summary_of}
+use Rattle.dkg_ceremony.specs.Outcomes.{LogMap, outcome_of, selected_of, sum_of, revealed_of, combined_of, output_with, round_summary}
 use Rattle.dkg_ceremony.specs.Polynomials.{value_at}
 use Rattle.dkg_ceremony.specs.Rounds.{round_bytes}
 use Rattle.dkg_ceremony.specs.ValidLogs.{check_log_of, is_valid, log_content, sign_log_of}
@@ -78,7 +78,7 @@ pub record Succeeds (i : EpochInfo directory.Unit) : Type 0 where
   pub next_players : i.next_players ≡ 3 ∷ []
 
 pub has_succeeded : (output : Output) → Succeeds (next_info outcome_of provided (info output) alone acknowledged)
-unfolding next_info outcome_of selected_of combined_of sum_of revealed_of output_with summary_of is_valid check_ack_of ack_content round_bytes mark_of value_at groups first_words schedule rounds compress hash_after digest_bytes sha256
+unfolding next_info outcome_of selected_of combined_of sum_of revealed_of output_with round_summary is_valid check_ack_of ack_content round_bytes mark_of value_at groups first_words schedule rounds compress hash_after digest_bytes sha256
 has_succeeded output = record { outcome = refl; epoch = refl; poly = refl; players = refl; next_players = refl }
 
 abbrev nothing : Option (EpochInfo directory.Unit)

@@ -69,19 +69,19 @@ abbrev pub asymmetric_of : Socket × Socket → Address
 asymmetric_of p = Asymmetric p.0 p.1
 
 -- a socket, to whoever reads an address
-unfoldable pub end_at : List ℕ → Reading Socket
-end_at = socket_at
+unfoldable pub address_socket_at : List ℕ → Reading Socket
+address_socket_at = socket_at
 
 unfoldable pub address_after : ℕ → List ℕ → Reading Address
-address_after zero = seen_at symmetric_of end_at
-address_after (suc zero) = seen_at asymmetric_of (beside_at end_at end_at)
+address_after zero = seen_at symmetric_of address_socket_at
+address_after (suc zero) = seen_at asymmetric_of (beside_at address_socket_at address_socket_at)
 address_after (suc (suc tag)) = λ _. Err (InvalidEnum (suc (suc tag)))
 
 abbrev pub address_at : List ℕ → Reading Address
 address_at = tagged_at address_after
 
-end_grammar : IsGrammar SocketFits socket_spelling end_at
-unfolding end_at
+end_grammar : IsGrammar SocketFits socket_spelling address_socket_at
+unfolding address_socket_at
 end_grammar = socket_grammar
 
 is_symmetric : (a : Address) → AddressFits a → address_tag a ≡ 0 → MadeOf SocketFits symmetric_of a
@@ -99,11 +99,11 @@ neither tag (Asymmetric ingress egress) e = cc
 after_grammar : (tag : ℕ) → IsGrammar (HasTag AddressFits address_tag tag) address_body (address_after tag)
 unfolding address_after
 after_grammar zero =
-    variant_grammar SocketFits socket_spelling end_at symmetric_of AddressFits address_tag address_body 0 end_grammar
+    variant_grammar SocketFits socket_spelling address_socket_at symmetric_of AddressFits address_tag address_body 0 end_grammar
     (record { there = λ a fit. fit; tag_is = λ a. refl; body_is = λ a. refl; back = is_symmetric })
 after_grammar (suc zero) =
-    let two = beside_grammar SocketFits socket_spelling end_at SocketFits socket_spelling end_at end_grammar end_grammar in
-    variant_grammar TwoFit two_spelled (beside_at end_at end_at) asymmetric_of AddressFits address_tag address_body 1 two
+    let two = beside_grammar SocketFits socket_spelling address_socket_at SocketFits socket_spelling address_socket_at end_grammar end_grammar in
+    variant_grammar TwoFit two_spelled (beside_at address_socket_at address_socket_at) asymmetric_of AddressFits address_tag address_body 1 two
     (record { there = λ a fit. fit; tag_is = λ a. refl; body_is = λ a. refl; back = is_asymmetric })
 after_grammar (suc (suc tag)) = none_grammar AddressFits address_tag address_body (suc (suc tag)) (InvalidEnum (suc (suc tag))) (neither tag)
 
@@ -116,49 +116,49 @@ address_short (Asymmetric ingress egress) = omega arith
 
 -- ---- directories of addresses
 
-abbrev pub Pairs : Type 0
-Pairs = List (ℕ × Address)
+abbrev pub AddressPairs : Type 0
+AddressPairs = List (ℕ × Address)
 
-abbrev pub addresses_spelling : Pairs → List ℕ
+abbrev pub addresses_spelling : AddressPairs → List ℕ
 addresses_spelling = map_spelling address_spelling
 
-abbrev pub AddressesFit : ℕ → Pairs → Type 0
+abbrev pub AddressesFit : ℕ → AddressPairs → Type 0
 AddressesFit count = MapFits AddressFits count count
 
-abbrev pub addresses_at : ℕ → List ℕ → Reading Pairs
+abbrev pub addresses_at : ℕ → List ℕ → Reading AddressPairs
 addresses_at count = map_at address_at count count
 
 pub addresses_grammar : (count : ℕ) → IsGrammar (AddressesFit count) addresses_spelling (addresses_at count)
 addresses_grammar count = map_grammar AddressFits address_spelling address_at address_grammar count count
 
 -- a directory of so many peers is a map of at most as many as any more
-widened : (count most : ℕ) (pairs : Pairs) → AddressesFit count pairs → count ≤ most → MapFits AddressFits 0 most pairs
+widened : (count most : ℕ) (pairs : AddressPairs) → AddressesFit count pairs → count ≤ most → MapFits AddressFits 0 most pairs
 widened count most pairs fit le = record { many = omega arith; in_bound = omega (arith, fit.in_bound, le); small = fit.small; rising = fit.rising; values = fit.values }
 
 -- No directory's spelling begins another's, of however many peers each is.
-pub addresses_no_prefix : (m n : ℕ) (a b : Pairs) (x y : List ℕ) → AddressesFit m a → AddressesFit n b → addresses_spelling a ++ x ≡ addresses_spelling b ++ y → (a ≡ b) × (x ≡ y)
+pub addresses_no_prefix : (m n : ℕ) (a b : AddressPairs) (x y : List ℕ) → AddressesFit m a → AddressesFit n b → addresses_spelling a ++ x ≡ addresses_spelling b ++ y → (a ≡ b) × (x ≡ y)
 addresses_no_prefix m n a b x y fit_a fit_b e =
     let law = map_grammar AddressFits address_spelling address_at address_grammar 0 (m + n) in
     let one = law.again a x (widened m (m + n) a fit_a (omega arith)) in
     let two = law.again b y (widened n (m + n) b fit_b (omega arith)) in
     let same = ok_is (a, x) (b, y) (sym one ∙ ap (map_at address_at 0 (m + n)) e ∙ two) in
-    (ap (λ (p : Pairs × List ℕ). p.0) same, ap (λ (p : Pairs × List ℕ). p.1) same)
+    (ap (λ (p : AddressPairs × List ℕ). p.0) same, ap (λ (p : AddressPairs × List ℕ). p.1) same)
 
-values_short : (pairs : Pairs) → values_size address_spelling pairs ≤ 13 * length pairs
+values_short : (pairs : AddressPairs) → values_size address_spelling pairs ≤ 13 * length pairs
 values_short [] = omega arith
 values_short (p ∷ ps) = omega (arith, address_short p.1, values_short ps)
 
-pub addresses_short : (pairs : Pairs) → length pairs < 2 ^ 32 → length (addresses_spelling pairs) ≤ 10 + 17 * length pairs
+pub addresses_short : (pairs : AddressPairs) → length pairs < 2 ^ 32 → length (addresses_spelling pairs) ≤ 10 + 17 * length pairs
 addresses_short pairs few = omega (arith, map_size address_spelling pairs, uint_narrow (length pairs) few, values_short pairs)
 
-each_has_size : (pairs : Pairs) → AllByRecursion (Always {A = Address}) (values_of pairs)
+each_has_size : (pairs : AddressPairs) → AllByRecursion (Always {A = Address}) (values_of pairs)
 each_has_size [] = tt
 each_has_size (p ∷ ps) = (tt, each_has_size ps)
 
-pub addresses_size : (pairs : Pairs) → IsMap pairs → MapSizes address_spelling (Always {A = Address}) pairs
+pub addresses_size : (pairs : AddressPairs) → IsMap pairs → MapSizes address_spelling (Always {A = Address}) pairs
 addresses_size pairs kept = record { total = omega (arith, addresses_short pairs kept.in_bound, kept.in_bound); each = each_has_size pairs }
 
-pub addresses_within : (peers : List ℕ) (pairs : Pairs) → AddressesFit (length peers) pairs → length (addresses_spelling pairs) ≤ 10 + 17 * length peers
+pub addresses_within : (peers : List ℕ) (pairs : AddressPairs) → AddressesFit (length peers) pairs → length (addresses_spelling pairs) ≤ 10 + 17 * length peers
 addresses_within peers pairs fit = omega (arith, addresses_short pairs fit.small, fit.in_bound)
 
 pub addresses_rising : (few many : ℕ) → few ≤ many → 10 + 17 * few ≤ 10 + 17 * many

@@ -85,12 +85,12 @@ context_grammar =
 -- ---- a flag and what may follow it
 
 -- a payload, to whoever reads a block
-unfoldable pub held_at : {Dir : Type 0} → (List ℕ → List ℕ → Reading Dir) → (Dir → List ℕ → Bool) → (most version : ℕ) → List ℕ → Reading (Payload Dir)
-held_at read matches most version = payload_at read matches most version
+unfoldable pub block_payload_at : {Dir : Type 0} → (List ℕ → List ℕ → Reading Dir) → (Dir → List ℕ → Bool) → (most version : ℕ) → List ℕ → Reading (Payload Dir)
+block_payload_at read matches most version = payload_at read matches most version
 
 pub held_grammar : {Dir : Type 0} (fits : List ℕ → Dir → Type 0) (spelling : Dir → List ℕ) (read : List ℕ → List ℕ → Reading Dir) (matches : Dir → List ℕ → Bool) → ((peers : List ℕ) → IsGrammar (fits peers) spelling (read peers)) → (most version : ℕ)
-    → IsGrammar (PayloadFits fits matches most version) (payload_spelling spelling) (held_at read matches most version)
-unfolding held_at
+    → IsGrammar (PayloadFits fits matches most version) (payload_spelling spelling) (block_payload_at read matches most version)
+unfolding block_payload_at
 held_grammar fits spelling read matches law most version = payload_grammar fits spelling read matches law most version
 
 abbrev pub some_of : {A : Type 0} → A → Option A

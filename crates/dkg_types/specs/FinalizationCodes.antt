@@ -25,13 +25,13 @@ is_certified identity f = bytes_eq f.certificate (certificate_of identity f.epoc
 abbrev pub finalization_spelling : Finalization → List ℕ
 finalization_spelling f = uint f.epoch ++ uint f.view ++ uint f.parent_view ++ f.payload ++ f.certificate
 
-abbrev pub Parts : Type 0
-Parts = ℕ × (ℕ × (ℕ × (List ℕ × List ℕ)))
+abbrev pub FinalizationParts : Type 0
+FinalizationParts = ℕ × (ℕ × (ℕ × (List ℕ × List ℕ)))
 
-abbrev pub finalization_from : Parts → Finalization
+abbrev pub finalization_from : FinalizationParts → Finalization
 finalization_from p = record { epoch = p.0; view = p.1.0; parent_view = p.1.1.0; payload = p.1.1.1.0; certificate = p.1.1.1.1 }
 
-abbrev pub finalization_parts : Finalization → Parts
+abbrev pub finalization_parts : Finalization → FinalizationParts
 finalization_parts f = (f.epoch, (f.view, (f.parent_view, (f.payload, f.certificate))))
 
 abbrev pub finalization_at : List ℕ → Reading Finalization

@@ -31,21 +31,21 @@ abbrev pub MessageFits : ℕ → Message → Type 0
 MessageFits most (Dealer public private) = HalvesFit most (public, private)
 MessageFits most (Ack ack) = IsMark ack
 
-abbrev pub dealer_of : List ℕ × ℕ → Message
-dealer_of p = Dealer p.0 p.1
+abbrev pub dealer_message : List ℕ × ℕ → Message
+dealer_message p = Dealer p.0 p.1
 
 abbrev pub ack_message : List ℕ → Message
 ack_message ack = Ack ack
 
 unfoldable pub message_after : ℕ → ℕ → List ℕ → Reading Message
-message_after most zero = seen_at dealer_of (beside_at (public_at most) element_at)
+message_after most zero = seen_at dealer_message (beside_at (public_at most) element_at)
 message_after most (suc zero) = seen_at ack_message (bytes_at 8)
 message_after most (suc (suc tag)) = λ _. Err (InvalidEnum (suc (suc tag)))
 
 abbrev pub message_at : ℕ → List ℕ → Reading Message
 message_at most = tagged_at (message_after most)
 
-is_dealer : (most : ℕ) (m : Message) → MessageFits most m → message_tag m ≡ 0 → MadeOf (HalvesFit most) dealer_of m
+is_dealer : (most : ℕ) (m : Message) → MessageFits most m → message_tag m ≡ 0 → MadeOf (HalvesFit most) dealer_message m
 is_dealer most (Dealer public private) fit e = record { of = (public, private); fit = fit; is = refl }
 is_dealer most (Ack ack) fit e = absurd cc
 
@@ -61,7 +61,7 @@ after_grammar : (most tag : ℕ) → IsGrammar (HasTag (MessageFits most) messag
 unfolding message_after
 after_grammar most zero =
     let halves = beside_grammar (PublicFits most) public_spelling (public_at most) (λ n. n < 65521) (to_be_bytes w16) element_at (public_grammar most) element_grammar in
-    variant_grammar (HalvesFit most) (both_spelled public_spelling (to_be_bytes w16)) (beside_at (public_at most) element_at) dealer_of (MessageFits most) message_tag message_body 0 halves
+    variant_grammar (HalvesFit most) (both_spelled public_spelling (to_be_bytes w16)) (beside_at (public_at most) element_at) dealer_message (MessageFits most) message_tag message_body 0 halves
     (record { there = λ a fit. fit; tag_is = λ a. refl; body_is = λ a. refl; back = is_dealer most })
 after_grammar most (suc zero) =
     variant_grammar IsMark (λ (bytes : List ℕ). bytes) (bytes_at 8) ack_message (MessageFits most) message_tag message_body 1 (bytes_grammar 8)

@@ -46,12 +46,12 @@ info_payload i = EpochInfo i
 unfoldable pub logged_at : (most : ℕ) → List ℕ → Reading SignedDealerLog
 logged_at most = signed_at most
 
-unfoldable pub carried_at : {Dir : Type 0} → (List ℕ → List ℕ → Reading Dir) → (Dir → List ℕ → Bool) → (most version : ℕ) → List ℕ → Reading (info.EpochInfo Dir)
-carried_at read matches most version = info_at read matches most version
+unfoldable pub payload_info_at : {Dir : Type 0} → (List ℕ → List ℕ → Reading Dir) → (Dir → List ℕ → Bool) → (most version : ℕ) → List ℕ → Reading (info.EpochInfo Dir)
+payload_info_at read matches most version = info_at read matches most version
 
 unfoldable pub payload_after : {Dir : Type 0} → (List ℕ → List ℕ → Reading Dir) → (Dir → List ℕ → Bool) → (most version : ℕ) → ℕ → List ℕ → Reading (Payload Dir)
 payload_after read matches most version zero = seen_at log_payload (logged_at most)
-payload_after read matches most version (suc zero) = seen_at info_payload (carried_at read matches most version)
+payload_after read matches most version (suc zero) = seen_at info_payload (payload_info_at read matches most version)
 payload_after read matches most version (suc (suc tag)) = λ _. Err (InvalidEnum (suc (suc tag)))
 
 abbrev pub payload_at : {Dir : Type 0} → (List ℕ → List ℕ → Reading Dir) → (Dir → List ℕ → Bool) → (most version : ℕ) → List ℕ → Reading (Payload Dir)
@@ -74,8 +74,8 @@ unfolding logged_at
 logged_grammar most = signed_grammar most
 
 carried_grammar : {Dir : Type 0} (fits : List ℕ → Dir → Type 0) (spelling : Dir → List ℕ) (read : List ℕ → List ℕ → Reading Dir) (matches : Dir → List ℕ → Bool) → ((peers : List ℕ) → IsGrammar (fits peers) spelling (read peers)) → (most version : ℕ)
-    → IsGrammar (InfoFits fits matches most version) (info_spelling spelling) (carried_at read matches most version)
-unfolding carried_at
+    → IsGrammar (InfoFits fits matches most version) (info_spelling spelling) (payload_info_at read matches most version)
+unfolding payload_info_at
 carried_grammar fits spelling read matches law most version = info_grammar fits spelling read matches law most version
 
 after_grammar : {Dir : Type 0} (fits : List ℕ → Dir → Type 0) (spelling : Dir → List ℕ) (read : List ℕ → List ℕ → Reading Dir) (matches : Dir → List ℕ → Bool) → ((peers : List ℕ) → IsGrammar (fits peers) spelling (read peers)) → (most version tag : ℕ)
@@ -86,7 +86,7 @@ after_grammar {Dir} fits spelling read matches law most version zero =
     (logged_grammar most)
     (record { there = λ a fit. fit; tag_is = λ a. refl; body_is = λ a. refl; back = is_log fits matches most version })
 after_grammar {Dir} fits spelling read matches law most version (suc zero) =
-    variant_grammar (InfoFits fits matches most version) (info_spelling spelling) (carried_at read matches most version) (info_payload {Dir = Dir}) (PayloadFits fits matches most version) (payload_tag {Dir = Dir}) (payload_body spelling) 1
+    variant_grammar (InfoFits fits matches most version) (info_spelling spelling) (payload_info_at read matches most version) (info_payload {Dir = Dir}) (PayloadFits fits matches most version) (payload_tag {Dir = Dir}) (payload_body spelling) 1
     (carried_grammar fits spelling read matches law most version)
     (record { there = λ a fit. fit; tag_is = λ a. refl; body_is = λ a. refl; back = is_info fits matches most version })
 after_grammar {Dir} fits spelling read matches law most version (suc (suc tag)) =

@@ -24,7 +24,7 @@ use Rattle.dkg_types.specs.declared.message.Message.TheVariants.{Dealer, Ack}
 use Rattle.dkg_infos.specs.declared.outcome.EpochOutcome.TheVariants.{Success}
 use Rattle.dkg_types.specs.declared.payload.Payload.{Payload}
 use Rattle.dkg_types.specs.declared.payload.Payload.TheVariants as payload
-use Rattle.dkg_types.specs.AddressCodes.{AddressFits, Pairs}
+use Rattle.dkg_types.specs.AddressCodes.{AddressFits, AddressPairs}
 use Rattle.dkg_types.specs.BlockCodes.{BlockFits, ContextFits, FlaggedFits, block_bytes}
 use Rattle.dkg_types.specs.FinalizationCodes.{FinalizationFits}
 use Rattle.dkg_infos.specs.InfoCodes.{peers_of}
@@ -36,21 +36,21 @@ abbrev pub MessageWithin : (most : ℕ) → Message → Type 0
 MessageWithin most (Dealer public private) = length public ≤ most
 MessageWithin most (Ack ack) = Unit {0}
 
-more_step : (pairs : Pairs) (i : ℕ) (d : ℕ × Address) → i < length pairs → AllByRecursion AddressFits (values_of (take i pairs)) → AddressFits (get_or pairs i d).1 → AllByRecursion AddressFits (values_of (take (suc i) pairs))
+more_step : (pairs : AddressPairs) (i : ℕ) (d : ℕ × Address) → i < length pairs → AllByRecursion AddressFits (values_of (take i pairs)) → AddressFits (get_or pairs i d).1 → AllByRecursion AddressFits (values_of (take (suc i) pairs))
 more_step [] i d lt all one = absurd (omega arith)
 more_step (p ∷ ps) zero d lt all one = (one, tt)
 more_step (p ∷ ps) (suc i) d lt all one = (all.0, more_step ps i d (omega arith) all.1 one)
 
 -- one address more
-pub more_fit : (pairs : Pairs) (i : ℕ) (d : ℕ × Address) → i < length pairs → AllByRecursion AddressFits (values_of (take i pairs)) → AddressFits (get_or pairs i d).1 → AllByRecursion AddressFits (values_of (take (i + 1) pairs))
+pub more_fit : (pairs : AddressPairs) (i : ℕ) (d : ℕ × Address) → i < length pairs → AllByRecursion AddressFits (values_of (take i pairs)) → AddressFits (get_or pairs i d).1 → AllByRecursion AddressFits (values_of (take (i + 1) pairs))
 more_fit pairs i d lt all one = rw add-one (more_step pairs i d lt all one)
 
 -- all of them
-pub all_fit : (pairs : Pairs) (i : ℕ) → length pairs ≤ i → AllByRecursion AddressFits (values_of (take i pairs)) → AllByRecursion AddressFits (values_of pairs)
-all_fit pairs i le all = subst (λ (xs : Pairs). AllByRecursion AddressFits (values_of xs)) (take_all i pairs le) all
+pub all_fit : (pairs : AddressPairs) (i : ℕ) → length pairs ≤ i → AllByRecursion AddressFits (values_of (take i pairs)) → AllByRecursion AddressFits (values_of pairs)
+all_fit pairs i le all = subst (λ (xs : AddressPairs). AllByRecursion AddressFits (values_of xs)) (take_all i pairs le) all
 
 -- a directory of just some peers has as many addresses
-pub as_many : (pairs : Pairs) (peers : List ℕ) → bytes_eq (keys_of pairs) peers ≡ true → length pairs ≡ length peers
+pub as_many : (pairs : AddressPairs) (peers : List ℕ) → bytes_eq (keys_of pairs) peers ≡ true → length pairs ≡ length peers
 as_many pairs peers e =
     let same : keys_of pairs ≡ peers = (bytes_eq-Decides (keys_of pairs) peers).0 e in
     omega (arith, length-map pairs (λ (p : ℕ × Address). p.0), ap (λ (xs : List ℕ). length xs) same)

@@ -7,7 +7,7 @@ ghost use Rattle.std.specs.Option.{option_copied};
 ghost use Rattle.dkg_values.specs.Codec.{Reads, StandsInFront};
 ghost use Rattle.dkg_values.specs.Rising.{keys_of, lookup, map_of};
 ghost use Rattle.dkg_values.specs.Lists.{values_of};
-ghost use Rattle.dkg_types.specs.AddressCodes.{AddressFits, AddressesFit, SocketFits, address_at, addresses_spelling, end_at, socket_at, two_spelled};
+ghost use Rattle.dkg_types.specs.AddressCodes.{AddressFits, AddressesFit, SocketFits, address_at, addresses_spelling, address_socket_at, socket_at, two_spelled};
 
 use bytes::{BufMut, BytesMut};
 use dkg_ceremony::{
@@ -152,9 +152,9 @@ impl Write for Address {
     }
 }
 
-#[tactic(auto, unfolding(crate::specs::AddressCodes::end_at))]
+#[tactic(auto, unfolding(crate::specs::AddressCodes::address_socket_at))]
 fn read_end(alloc: Global, input: &mut Reader<'_>) -> Result<Socket, CodecError>
-    ensures exact { Reads (end_at input.old) result input.new }
+    ensures exact { Reads (address_socket_at input.old) result input.new }
     ensures sure { IsErrOf result CodecError.NoMemory → ⊥ }
 {
     Socket::read_cfg(alloc, input, &())

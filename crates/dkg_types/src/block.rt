@@ -7,7 +7,7 @@ ghost use Rattle.dkg_values.specs.Codec.{Reads, StandsInFront};
 ghost use Rattle.dkg_infos.specs.InfoBounds.{IsBound};
 ghost use Rattle.dkg_types.specs.Within.{BlockWithin, PayloadWithin};
 ghost use Rattle.dkg_types.specs.PayloadCodes.{PayloadFits};
-ghost use Rattle.dkg_types.specs.BlockCodes.{BlockFits, ContextFits, FlaggedFits, IsBlock, context_at as context_from, block_bytes, block_spelling, flagged_at, flagged_bytes, genesis_context, head_at, held_at, info_of, zero_digest};
+ghost use Rattle.dkg_types.specs.BlockCodes.{BlockFits, ContextFits, FlaggedFits, IsBlock, context_at as context_from, block_bytes, block_spelling, flagged_at, flagged_bytes, genesis_context, head_at, block_payload_at, info_of, zero_digest};
 
 use crate::apart::Apart;
 use crate::payload::Payload;
@@ -496,7 +496,7 @@ fn read_head(alloc: Global, input: &mut Reader<'_>) -> Result<Head, CodecError>
     Ok((context, (parent, height)))
 }
 
-#[tactic(auto, unfolding(crate::specs::BlockCodes::held_at))]
+#[tactic(auto, unfolding(crate::specs::BlockCodes::block_payload_at))]
 fn read_payload<Dir: Directory + Drop>(
     alloc: Global,
     input: &mut Reader<'_>,
@@ -504,7 +504,7 @@ fn read_payload<Dir: Directory + Drop>(
 ) -> Result<Payload<Dir>, CodecError>
 where
     Dir::Cfg: Drop,
-    ensures { Reads (held_at (λ peers. Dir.read_of (Dir.config_of peers)) Dir.matches_of (non_zero_u32_get cfg.now.0) cfg.now.1.0 input.old) result input.new }
+    ensures { Reads (block_payload_at (λ peers. Dir.read_of (Dir.config_of peers)) Dir.matches_of (non_zero_u32_get cfg.now.0) cfg.now.1.0 input.old) result input.new }
 {
     Payload::read_cfg(alloc, input, cfg)
 }
@@ -517,7 +517,7 @@ fn read_flagged<Dir: Directory + Drop>(
 ) -> Result<Option<Payload<Dir>>, CodecError>
 where
     Dir::Cfg: Drop,
-    ensures { Reads (flagged_at (held_at (λ peers. Dir.read_of (Dir.config_of peers)) Dir.matches_of (non_zero_u32_get cfg.now.0) cfg.now.1.0) input.old) result input.new }
+    ensures { Reads (flagged_at (block_payload_at (λ peers. Dir.read_of (Dir.config_of peers)) Dir.matches_of (non_zero_u32_get cfg.now.0) cfg.now.1.0) input.old) result input.new }
 {
     match read_byte(input)? {
         0 => Ok(None),
@@ -537,14 +537,14 @@ where
     type Cfg = (NonZeroU32, ModeVersion);
 
     ghost use Rattle.std.specs.Int.NonZero.{non_zero_u32_get};
-    ghost use Rattle.dkg_types.specs.BlockCodes.{BlockFits, block_at, block_grammar, held_at, held_grammar};
+    ghost use Rattle.dkg_types.specs.BlockCodes.{BlockFits, block_at, block_grammar, block_payload_at, held_grammar};
     ghost use Rattle.dkg_types.specs.PayloadCodes.{PayloadFits};
 
     ghost fits = { λ cfg. BlockFits (PayloadFits (λ peers. Dir.fits (Dir.config_of peers)) Dir.matches_of (non_zero_u32_get cfg.0) cfg.1.0) Dir.spelling };
 
-    ghost read_of = { λ cfg. block_at Dir.spelling (held_at (λ peers. Dir.read_of (Dir.config_of peers)) Dir.matches_of (non_zero_u32_get cfg.0) cfg.1.0) };
+    ghost read_of = { λ cfg. block_at Dir.spelling (block_payload_at (λ peers. Dir.read_of (Dir.config_of peers)) Dir.matches_of (non_zero_u32_get cfg.0) cfg.1.0) };
 
-    ghost grammar = { λ cfg. block_grammar (PayloadFits (λ peers. Dir.fits (Dir.config_of peers)) Dir.matches_of (non_zero_u32_get cfg.0) cfg.1.0) Dir.spelling (held_at (λ peers. Dir.read_of (Dir.config_of peers)) Dir.matches_of (non_zero_u32_get cfg.0) cfg.1.0) (held_grammar (λ peers. Dir.fits (Dir.config_of peers)) Dir.spelling (λ peers. Dir.read_of (Dir.config_of peers)) Dir.matches_of (λ peers. Dir.grammar (Dir.config_of peers)) (non_zero_u32_get cfg.0) cfg.1.0) };
+    ghost grammar = { λ cfg. block_grammar (PayloadFits (λ peers. Dir.fits (Dir.config_of peers)) Dir.matches_of (non_zero_u32_get cfg.0) cfg.1.0) Dir.spelling (block_payload_at (λ peers. Dir.read_of (Dir.config_of peers)) Dir.matches_of (non_zero_u32_get cfg.0) cfg.1.0) (held_grammar (λ peers. Dir.fits (Dir.config_of peers)) Dir.spelling (λ peers. Dir.read_of (Dir.config_of peers)) Dir.matches_of (λ peers. Dir.grammar (Dir.config_of peers)) (non_zero_u32_get cfg.0) cfg.1.0) };
 
     fn read_cfg(
         alloc: Global,

@@ -3,7 +3,7 @@
 //! The orchestrator and the probe hand a manager the peers of an epoch and the directory of its info. A manager of peers
 //! that is reached by keys stands behind a `KeyOnlyManager`, one that dials behind an `AddressableManager`.
 ghost use Rattle.std.specs.Prelude.{◌≡◌, ℕ, [], ◌∷◌, ◌++◌, None, OnOk, OnErr, IfOk, IsTrue};
-ghost use Rattle.dkg_types.specs.Tracking.{IsOf, AnswersTracking, addresses_of as addresses_from, first_lacking, first_without, with_set};
+ghost use Rattle.dkg_types.specs.Tracking.{AreAddressesOf, AnswersTracking, addresses_of as addresses_from, first_lacking, first_without, with_set};
 ghost use Rattle.dkg_types.specs.declared.manager.TrackError.TheVariants.{NoMemory as OutOfMemory};
 
 use crate::addresses::{Address, Addresses};
@@ -197,7 +197,7 @@ fn pairs_of(
     directory: &Addresses,
     peers: &[Key],
 ) -> Result<Vec<(Key, Address)>, TrackError>
-    ensures found { IfOk result (λ pairs. IsOf directory.now peers.now pairs.items) }
+    ensures found { IfOk result (λ pairs. AreAddressesOf directory.now peers.now pairs.items) }
     ensures missing { AnswersTracking (first_without directory.now peers.now) result }
 {
     let mut pairs = Vec::new(alloc);
@@ -216,7 +216,7 @@ fn addresses_of(
     directory: &Addresses,
     peers: &Set,
 ) -> Result<Map<Address>, TrackError>
-    ensures found { IfOk result (IsOf directory.now peers.now) }
+    ensures found { IfOk result (AreAddressesOf directory.now peers.now) }
     ensures missing { AnswersTracking (first_without directory.now peers.now) result }
 {
     let pairs = pairs_of(alloc, directory, peers.as_slice())?;

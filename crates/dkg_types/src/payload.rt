@@ -5,7 +5,7 @@ ghost use Rattle.std.specs.Int.NonZero.{non_zero_u32_get};
 ghost use Rattle.dkg_values.specs.Codec.{Reads};
 ghost use Rattle.dkg_infos.specs.InfoBounds.{IsBound};
 ghost use Rattle.dkg_types.specs.Within.{PayloadWithin};
-ghost use Rattle.dkg_types.specs.PayloadCodes.{PayloadFits, carried_at, logged_at, payload_spelling};
+ghost use Rattle.dkg_types.specs.PayloadCodes.{PayloadFits, payload_info_at, logged_at, payload_spelling};
 
 use bytes::{BufMut, BytesMut};
 use dkg_ceremony::{
@@ -53,7 +53,7 @@ fn read_log(
     SignedDealerLog::read_cfg(alloc, input, &cfg.0.get())
 }
 
-#[tactic(auto, unfolding(crate::specs::PayloadCodes::carried_at))]
+#[tactic(auto, unfolding(crate::specs::PayloadCodes::payload_info_at))]
 fn read_info<Dir: Directory + Drop>(
     alloc: Global,
     input: &mut Reader<'_>,
@@ -61,7 +61,7 @@ fn read_info<Dir: Directory + Drop>(
 ) -> Result<EpochInfo<Dir>, CodecError>
 where
     Dir::Cfg: Drop,
-    ensures { Reads (carried_at (λ peers. Dir.read_of (Dir.config_of peers)) Dir.matches_of (non_zero_u32_get cfg.now.0) cfg.now.1.0 input.old) result input.new }
+    ensures { Reads (payload_info_at (λ peers. Dir.read_of (Dir.config_of peers)) Dir.matches_of (non_zero_u32_get cfg.now.0) cfg.now.1.0 input.old) result input.new }
 {
     EpochInfo::read_cfg(alloc, input, cfg)
 }

@@ -6,7 +6,7 @@ use Rattle.std.specs.Result.{MatchResult}
 use Rattle.std.proofs.lemmas.Bool.{cases_lt}
 use Rattle.std.proofs.lemmas.List.Sorted.{searched}
 use Rattle.dkg_values.specs.Rising.{place_of}
-use Rattle.dkg_values.specs.RisingLaws.{rises_far, place_at, no_place}
+use Rattle.dkg_values.specs.RisingLaws.{rises_far, place_of_key_at, no_place}
 
 -- what `searched` says of the two answers
 abbrev Told : List ℕ → ℕ → Result ℕ ℕ → Type 0
@@ -18,7 +18,7 @@ told xs keys x r is up h = searched keys x r (subst (λ (l : List ℕ). IsBinary
 pub found_place : (xs keys : List ℕ) (x i : ℕ) (r : Result ℕ ℕ) → xs ≡ keys → IsStrictlyIncreasing keys → r ≡ Ok i → IsBinarySearchResult (λ y. nat_cmp y x) xs r → Some i ≡ place_of x keys
 found_place xs keys x i r is up ok h =
     let t = subst (λ (q : Result ℕ ℕ). Told keys x q) ok (told xs keys x r is up h) in
-    sym (place_at keys i x up t.0 t.1)
+    sym (place_of_key_at keys i x up t.0 t.1)
 
 pub found_none : (xs keys : List ℕ) (x i : ℕ) (r : Result ℕ ℕ) → xs ≡ keys → IsStrictlyIncreasing keys → r ≡ Err i → IsBinarySearchResult (λ y. nat_cmp y x) xs r → None ≡ place_of x keys
 found_none xs keys x i r is up err h =

@@ -14,7 +14,7 @@ abbrev pub checked_at : {A : Type 0} → (List ℕ → Reading A) → (A → Boo
 checked_at read test fault bytes = read bytes >>= λ a. cond (test a.0) (Ok a) (Err fault)
 
 -- how a whole is made of its parts
-pub record IsMade {A B C : Type 0} (make : A → B → C) (first : C → A) (second : C → B) : Type 0 where
+pub record IsMadeOfParts {A B C : Type 0} (make : A → B → C) (first : C → A) (second : C → B) : Type 0 where
   pub first_is : (a : A) (b : B) → first (make a b) ≡ a
   pub second_is : (a : A) (b : B) → second (make a b) ≡ b
   pub whole_is : (c : C) → make (first c) (second c) ≡ c
@@ -29,7 +29,7 @@ joined bytes one mid other rest is then =
     let whole : bytes ≡ one ++ (other ++ rest) = rw (is, then) refl in
     rw append_assoc whole
 
-made_fit : {A B C : Type 0} (fits : A → Type 0) (spelling : A → List ℕ) (next_fits : A → B → Type 0) (next_spelling : B → List ℕ) (make : A → B → C) (first : C → A) (second : C → B) → IsMade make first second → (a : A) (b : B) (bytes rest : List ℕ)
+made_fit : {A B C : Type 0} (fits : A → Type 0) (spelling : A → List ℕ) (next_fits : A → B → Type 0) (next_spelling : B → List ℕ) (make : A → B → C) (first : C → A) (second : C → B) → IsMadeOfParts make first second → (a : A) (b : B) (bytes rest : List ℕ)
     → fits a → next_fits a b → bytes ≡ (spelling a ++ next_spelling b) ++ rest → Both fits next_fits first second (make a b) × (bytes ≡ (spelling (first (make a b)) ++ next_spelling (second (make a b))) ++ rest)
 made_fit {A} {B} {C} fits spelling next_fits next_spelling make first second made a b bytes rest fit next_fit parts =
     let fit_is : fits (first (make a b)) = rw (made.first_is a b) fit in
@@ -38,7 +38,7 @@ made_fit {A} {B} {C} fits spelling next_fits next_spelling make first second mad
     (record { one = fit_is; other = next_is }, parts_are)
 
 pub then_grammar : {A B C : Type 0} (fits : A → Type 0) (spelling : A → List ℕ) (read : List ℕ → Reading A) (next_fits : A → B → Type 0) (next_spelling : B → List ℕ) (next : A → List ℕ → Reading B) (make : A → B → C) (first : C → A) (second : C → B)
-    → IsGrammar fits spelling read → ((a : A) → IsGrammar (next_fits a) next_spelling (next a)) → IsMade make first second
+    → IsGrammar fits spelling read → ((a : A) → IsGrammar (next_fits a) next_spelling (next a)) → IsMadeOfParts make first second
     → IsGrammar (Both fits next_fits first second) (λ c. spelling (first c) ++ next_spelling (second c)) (then_at read next make)
 then_grammar {A} {B} {C} fits spelling read next_fits next_spelling next make first second law next_law made = record {
   found = λ bytes c rest are e.

@@ -200,8 +200,8 @@ place_from-at least j (y ∷ ys) (suc i) x r lt e =
     rw other (place_from-at (y + 1) (j + 1) ys i x r.1 (omega arith) e ∙ ap (λ (k : ℕ). Some k) (omega arith))
 
 -- the key at a place is found there
-pub place_at : (xs : List ℕ) (i x : ℕ) → IsStrictlyIncreasing xs → i < length xs → get_or xs i 0 ≡ x → place_of x xs ≡ Some i
-place_at xs i x up lt e = place_from-at 0 0 xs i x (rises_from xs up) lt e ∙ ap (λ (k : ℕ). Some k) (omega arith)
+pub place_of_key_at : (xs : List ℕ) (i x : ℕ) → IsStrictlyIncreasing xs → i < length xs → get_or xs i 0 ≡ x → place_of x xs ≡ Some i
+place_of_key_at xs i x up lt e = place_from-at 0 0 xs i x (rises_from xs up) lt e ∙ ap (λ (k : ℕ). Some k) (omega arith)
 
 no_place-at : (j : ℕ) (xs : List ℕ) (x : ℕ) → ((k : ℕ) → k < length xs → get_or xs k 0 ≡ x → ⊥) → position_from (λ y. eqb y x) j xs ≡ None
 no_place-at j [] x h = refl

@@ -6,7 +6,7 @@ use Rattle.std.proofs.lemmas.Bool.{le-ltb}
 use Rattle.dkg_values.specs.Uint.{IsMost, groups}
 
 -- what a number of ones is above 128
-pub record Steps (most : ℕ) : Type 0 where
+pub record GroupSteps (most : ℕ) : Type 0 where
   pub next : IsMost (most / 128)
   pub last : most ≡ 128 * (most / 128) + 127
 
@@ -20,7 +20,7 @@ long (suc (suc (suc (suc (suc zero))))) h = absurd (omega arith)
 long (suc (suc (suc (suc (suc (suc zero)))))) h = absurd (omega arith)
 long (suc (suc (suc (suc (suc (suc (suc j))))))) h = (j, omega (arith, pow-add 2 7 j))
 
-pub most_step : (most : ℕ) → IsMost most → 128 ≤ most → Steps most
+pub most_step : (most : ℕ) → IsMost most → 128 ≤ most → GroupSteps most
 most_step most m h =
     let p = long m.bits (omega (arith, m.is)) in
     let e : most + 1 ≡ 128 * 2 ^ p.0 = m.is ∙ p.1 in
@@ -44,7 +44,7 @@ more_groups old mid new n le is h (suc more) lt =
     rw (le-ltb n 128 le) (e ∙ ap (λ (x : List ℕ). x ++ groups more (n / 128)) is ∙ append_assoc old ((n % 128 + 128) ∷ []) (groups more (n / 128)))
 
 -- the groups after the first
-pub wrote : {T E : Type 0} (r : Result T E) (old mid new : List ℕ) (n : ℕ) → 128 ≤ n → mid ≡ old ++ (n % 128 + 128) ∷ []
+pub wrote_groups : {T E : Type 0} (r : Result T E) (old mid new : List ℕ) (n : ℕ) → 128 ≤ n → mid ≡ old ++ (n % 128 + 128) ∷ []
     → OnOk r ((more : ℕ) → n / 128 < 128 * 128 ^ more → new ≡ mid ++ groups more (n / 128)) → OnOk r ((more : ℕ) → n < 128 * 128 ^ more → new ≡ old ++ groups more n)
-wrote (Err e) old mid new n le is h = tt
-wrote (Ok u) old mid new n le is h = λ more lt. more_groups old mid new n le is h more lt
+wrote_groups (Err e) old mid new n le is h = tt
+wrote_groups (Ok u) old mid new n le is h = λ more lt. more_groups old mid new n le is h more lt

@@ -16,7 +16,7 @@ use Rattle.dkg_artifact.specs.declared.verified.Verified as verified
 use Rattle.dkg_core.specs.Courses.{Course, Stops, bind}
 use Rattle.dkg_core.specs.Fixed.{Fixed, OneShot}
 use Rattle.dkg_core.specs.Including as including
-use Rattle.dkg_core.specs.Including.{Next}
+use Rattle.dkg_core.specs.Including.{Continuation}
 use Rattle.dkg_core.specs.Live.{Live, Artifact, VerifiedLogs}
 use Rattle.dkg_life.specs.declared.stop.Stop.{Stop}
 use Rattle.dkg_life.specs.Ends.{by_stop, cause_in}
@@ -30,18 +30,18 @@ use Rattle.dkg_life.proofs.Speaking.{gives_speaks, wants_speaks}
 
 module _ {Dir : Type 0} (c : Fixed Dir) where
   -- what is cached is not derived again
-  pub artifact_cached : (r : VerifiedLogs) (st : Live Dir) (next : Next Dir) (made : Artifact Dir) → including.cached_for st.inclusion.cached r.logs ≡ Some made → including.artifact c r st next ≡ next made st
+  pub artifact_cached : (r : VerifiedLogs) (st : Live Dir) (next : Continuation Dir) (made : Artifact Dir) → including.cached_for st.inclusion.cached r.logs ≡ Some made → including.artifact c r st next ≡ next made st
   artifact_cached r st next made is = ap (λ (o : Option (Artifact Dir)). including.artifact_by c r o st next) is
 
   -- .. and what isn't, is derived and then cached
-  pub artifact_derived : (info : EpochInfo Dir) (r : VerifiedLogs) (st : Live Dir) (next : Next Dir) → c.oneshot ≡ None → st.participation.current ≡ Some info
+  pub artifact_derived : (info : EpochInfo Dir) (r : VerifiedLogs) (st : Live Dir) (next : Continuation Dir) → c.oneshot ≡ None → st.participation.current ≡ Some info
       → including.cached_for st.inclusion.cached r.logs ≡ None
       → including.artifact c r st next ≡ bind (derives_in c info r) (λ made. next made (including.with_cached r.logs made st))
   artifact_derived info r st next reshare current is =
       ap (λ (o : Option (Artifact Dir)). including.artifact_by c r o st next) is
       ∙ ap (λ (o : Option (OneShot Dir)). including.derives c o r st next) reshare
-      ∙ ap (λ (o : Option (EpochInfo Dir)). option_map_or (λ info. including.derives_next c info r st (including.keeping r.logs next)) o (Stops HeightRange)) current
-      ∙ derived c info r st (including.keeping r.logs next)
+      ∙ ap (λ (o : Option (EpochInfo Dir)). option_map_or (λ info. including.derives_next c info r st (including.keeping_artifact r.logs next)) o (Stops HeightRange)) current
+      ∙ derived c info r st (including.keeping_artifact r.logs next)
 
 -- WHAT IS DERIVED, from what the provider says
 

@@ -32,14 +32,14 @@ module _ {C Dir Signer Cfg : Type 0} (c : Fixed Dir) (reshare : c.oneshot ≡ No
 
     module _ {D X : Type 0} (files : D → Files) (image : D → Files → Type 0) (held : X → Secrets) (old new : Devices D X) (out now : List Line) where
       pub ended_makes : KeptAt now_life
-          → Makes files image held (including.artifact c r (live_of beside fence life) (including.answers c request)) (went (telling request (caching cache (live_of beside fence life)))) old new out now
+          → Makes files image held (including.artifact c r (live_of beside fence life) (including.answers_request c request)) (went (telling request (caching cache (live_of beside fence life)))) old new out now
           → EndsWith beside (λ i. IsSeen new_its i) NoMore (λ b. Makes files image held (including.completes c r (live_of beside fence life)) (went (live_of b fence now_life)) old new out now)
       ended_makes kept made =
           subst (λ (l : Life Dir). KeptAt l → EndsWith beside (λ i. IsSeen new_its i) NoMore (λ b. Makes files image held (including.completes c r (live_of beside fence life)) (went (live_of b fence l)) old new out now))
           (sym same) (λ is. completed_makes c reshare r beside fence life request waits cache files image held old new out now is made) kept
 
     pub ended_told : (out now : List Line) → KeptAt now_life
-        → Tells (including.artifact c r (live_of beside fence life) (including.answers c request)) (went (telling request (caching cache (live_of beside fence life)))) out now
+        → Tells (including.artifact c r (live_of beside fence life) (including.answers_request c request)) (went (telling request (caching cache (live_of beside fence life)))) out now
         → EndsWith beside (λ i. IsSeen new_its i) NoMore (λ b. Tells (including.completes c r (live_of beside fence life)) (went (live_of b fence now_life)) out now)
     ended_told out now kept told =
         subst (λ (l : Life Dir). KeptAt l → EndsWith beside (λ i. IsSeen new_its i) NoMore (λ b. Tells (including.completes c r (live_of beside fence life)) (went (live_of b fence l)) out now))

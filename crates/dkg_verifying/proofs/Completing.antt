@@ -42,7 +42,7 @@ use Rattle.dkg_verifying.specs.declared.told.Told.{Told}
 use Rattle.dkg_verifying.specs.declared.told.Told.TheVariants as told
 use Rattle.dkg_life.specs.Ends.{by_stop, ends_in}
 use Rattle.dkg_verifying.specs.Including.{caching, telling}
-use Rattle.dkg_verifying.specs.InclusionOf.{IsReadyInclusion, IsRunnable, IsSeen, artifact_of, cached_of, job_of, result_of}
+use Rattle.dkg_verifying.specs.InclusionOf.{IsReadyInclusion, IsRunnable, IsSeen, artifact_of, cached_of, job_of, checked_result_of}
 use Rattle.dkg_life.specs.LiveOf.{Beside, EndsWith, IsPlaced, live_of}
 use Rattle.dkg_life.specs.Made.{Makes, Speaks, Tells}
 use Rattle.dkg_verifying.specs.Refusing.{refusal_for}
@@ -77,7 +77,7 @@ module _ {Dir : Type 0} (c : Fixed Dir) (round : Round) (logs : LogMap) (request
       queue = seen.queue;
       running = ap (λ (x : Option job.Job). option_map job_of x) (sym runs);
       waiter = refl;
-      retained = seen.retained ∙ ap (λ (x : Option Checked). option_map result_of x) (sym kept);
+      retained = seen.retained ∙ ap (λ (x : Option Checked). option_map checked_result_of x) (sym kept);
       cached = seen.cached;
       told = seen.told;
       used = seen.used;
@@ -102,16 +102,16 @@ module _ {Dir : Type 0} (c : Fixed Dir) (round : Round) (logs : LogMap) (request
 
 module _ {Dir : Type 0} (c : Fixed Dir) (reshare : c.oneshot ≡ None) (r : core.VerifiedLogs) (request : ℕ) (st : Live Dir) where
   abbrev answering : Course Dir Fault (Live Dir)
-  answering = including.artifact c r st (including.answers c request)
+  answering = including.artifact c r st (including.answers_request c request)
 
   abbrev keeping : Course Dir Fault (Live Dir)
   keeping = including.artifact c r st (λ made s. Goes s)
 
   abbrev behind : Live Dir → Course Dir Fault (Live Dir)
-  behind s = by_cached c reshare r.logs (including.answers c request) s
+  behind s = by_cached c reshare r.logs (including.answers_request c request) s
 
   answers_kept : answering ≡ bind keeping behind
-  answers_kept = artifact_kept c reshare r st (including.answers c request)
+  answers_kept = artifact_kept c reshare r st (including.answers_request c request)
 
   module _ {D X : Type 0} (files : D → Files) (image : D → Files → Type 0) (held : X → Secrets) (old new : Devices D X) where
     pub unkept_makes : (stop : Stop) (out now : List Line) → Makes files image held keeping (by_stop stop) old new out now → Makes files image held answering (by_stop stop) old new out now
@@ -129,15 +129,15 @@ module _ {Dir : Type 0} (c : Fixed Dir) (reshare : c.oneshot ≡ None) (r : core
         ap (λ (q : Option (LogMap × artifact.Artifact Dir)). including.cached_for (option_map cached_of q) r.logs) is
         ∙ ap (λ (b : Bool). if b then Some (artifact_of k.1) else None) ((logs_decide k.0 r.logs).1 of)
 
-    behind_is : behind kept_st ≡ including.answers c request (artifact_of k.1) kept_st
-    behind_is = ap (λ (q : Option (core.Artifact Dir)). option_map_or (λ made. including.answers c request made kept_st) q (Goes kept_st)) cached_here
+    behind_is : behind kept_st ≡ including.answers_request c request (artifact_of k.1) kept_st
+    behind_is = ap (λ (q : Option (core.Artifact Dir)). option_map_or (λ made. including.answers_request c request made kept_st) q (Goes kept_st)) cached_here
 
     telling_is : telling request kept_st ≡ with_told request (GaveInfo (option_map info_payload k.1.info)) kept_st
     telling_is =
         ap (λ (q : Option (LogMap × artifact.Artifact Dir)). with_told request (GaveInfo (option_and_then (λ d. option_map info_payload d.artifact.info) (option_map cached_of q))) kept_st) is
 
     abbrev said_of : Live Dir → Result (Unit {0}) Stop → List Line → List Line → Type 0
-    said_of end result out now = Speaks (including.answers c request (artifact_of k.1) kept_st) (ends_in end result) out now
+    said_of end result out now = Speaks (including.answers_request c request (artifact_of k.1) kept_st) (ends_in end result) out now
 
     says_behind : (result : Result (Unit {0}) Stop) (out now : List Line) → said_of (with_told request (GaveInfo (option_map info_payload k.1.info)) kept_st) result out now
         → Speaks (behind kept_st) (ends_in (telling request kept_st) result) out now
@@ -147,14 +147,14 @@ module _ {Dir : Type 0} (c : Fixed Dir) (reshare : c.oneshot ≡ None) (r : core
 
     module _ {D X : Type 0} (files : D → Files) (image : D → Files → Type 0) (held : X → Secrets) (old new : Devices D X) where
       pub answered_makes : (result : Result (Unit {0}) Stop) (out mid now : List Line) → Makes files image held keeping (went kept_st) old new out mid
-          → Speaks (including.answers c request (artifact_of k.1) kept_st) (ends_in (with_told request (GaveInfo (option_map info_payload k.1.info)) kept_st) result) mid now
+          → Speaks (including.answers_request c request (artifact_of k.1) kept_st) (ends_in (with_told request (GaveInfo (option_map info_payload k.1.info)) kept_st) result) mid now
           → Makes files image held answering (ends_in (telling request kept_st) result) old new out now
       answered_makes result out mid now made says =
           let how = ends_in (telling request kept_st) result in
           same_made answers_kept (then_makes keeping behind kept_st how made (speaks_makes (behind kept_st) how (files new.disk.now) (image new.disk.now) (says_behind result mid now says)))
 
     pub answered_told : (result : Result (Unit {0}) Stop) (out mid now : List Line) → Tells keeping (went kept_st) out mid
-        → Speaks (including.answers c request (artifact_of k.1) kept_st) (ends_in (with_told request (GaveInfo (option_map info_payload k.1.info)) kept_st) result) mid now
+        → Speaks (including.answers_request c request (artifact_of k.1) kept_st) (ends_in (with_told request (GaveInfo (option_map info_payload k.1.info)) kept_st) result) mid now
         → Tells answering (ends_in (telling request kept_st) result) out now
     answered_told result out mid now told says =
         let how = ends_in (telling request kept_st) result in
@@ -212,7 +212,7 @@ module _ (kept now : Option Checked) (logs : LogMap) (its : Checked) where
   Fits = IsSomeAnd kept (λ r. r.logs ≡ logs)
 
   abbrev fits : Option Checked → Bool
-  fits q = is_some (including.retained_for (option_map result_of q) logs)
+  fits q = is_some (including.retained_for (option_map checked_result_of q) logs)
 
   some_if : (r : core.VerifiedLogs) (b : Bool) → is_some (if b then Some r else None) ≡ b
   some_if r true = refl
@@ -220,31 +220,31 @@ module _ (kept now : Option Checked) (logs : LogMap) (its : Checked) where
 
   fitting : (q : Option Checked) → fits q ≡ true → IsSomeAnd q (λ r. r.logs ≡ logs)
   fitting None is = absurd (let h : false ≡ true = is in cc)
-  fitting (Some k) is = one_logs k.logs logs (sym (some_if (result_of k) (same_logs k.logs logs)) ∙ is)
+  fitting (Some k) is = one_logs k.logs logs (sym (some_if (checked_result_of k) (same_logs k.logs logs)) ∙ is)
 
   fitted : (q : Option Checked) → IsSomeAnd q (λ r. r.logs ≡ logs) → fits q ≡ true
   fitted None is = absurd is
-  fitted (Some k) is = some_if (result_of k) (same_logs k.logs logs) ∙ (logs_decide k.logs logs).1 is
+  fitted (Some k) is = some_if (checked_result_of k) (same_logs k.logs logs) ∙ (logs_decide k.logs logs).1 is
 
   abbrev retained_by : core.VerifiedLogs → Option core.VerifiedLogs → LogMap → Option core.VerifiedLogs
   retained_by r retained canon = if is_some (including.retained_for retained canon) && not (same_logs r.logs canon) then retained else Some r
 
   module _ (same : its.logs ≡ logs → now ≡ Some its) (stays : Fits → its.logs ≢ logs → now ≡ kept) (replaces : (Fits → ⊥) → now ≡ Some its) where
     abbrev is_kept : Type 0
-    is_kept = retained_by (result_of its) (option_map result_of kept) logs ≡ option_map result_of now
+    is_kept = retained_by (checked_result_of its) (option_map checked_result_of kept) logs ≡ option_map checked_result_of now
 
     by_fit : (b : Bool) → fits kept ≡ b → same_logs its.logs logs ≡ false → is_kept
     by_fit true is other =
-        both_bools (option_map result_of kept) (fits kept) (same_logs its.logs logs) (Some (result_of its)) is other
-        ∙ ap (λ (q : Option Checked). option_map result_of q) (sym (stays (fitting kept is) (λ e. absurd (let h : false ≡ true = sym other ∙ (logs_decide its.logs logs).1 e in cc))))
+        both_bools (option_map checked_result_of kept) (fits kept) (same_logs its.logs logs) (Some (checked_result_of its)) is other
+        ∙ ap (λ (q : Option Checked). option_map checked_result_of q) (sym (stays (fitting kept is) (λ e. absurd (let h : false ≡ true = sym other ∙ (logs_decide its.logs logs).1 e in cc))))
     by_fit false is other =
-        first_bool (option_map result_of kept) (fits kept) (same_logs its.logs logs) (Some (result_of its)) is
-        ∙ ap (λ (q : Option Checked). option_map result_of q) (sym (replaces (λ has. absurd (let h : false ≡ true = sym is ∙ fitted kept has in cc))))
+        first_bool (option_map checked_result_of kept) (fits kept) (same_logs its.logs logs) (Some (checked_result_of its)) is
+        ∙ ap (λ (q : Option Checked). option_map checked_result_of q) (sym (replaces (λ has. absurd (let h : false ≡ true = sym is ∙ fitted kept has in cc))))
 
     by_same : (b : Bool) → same_logs its.logs logs ≡ b → is_kept
     by_same true is =
-        second_bool (option_map result_of kept) (fits kept) (same_logs its.logs logs) (Some (result_of its)) is
-        ∙ ap (λ (q : Option Checked). option_map result_of q) (sym (same (one_logs its.logs logs is)))
+        second_bool (option_map checked_result_of kept) (fits kept) (same_logs its.logs logs) (Some (checked_result_of its)) is
+        ∙ ap (λ (q : Option Checked). option_map checked_result_of q) (sym (same (one_logs its.logs logs is)))
     by_same false is = by_fit (fits kept) refl is
 
     pub retained_is : is_kept
@@ -255,14 +255,14 @@ module _ {C Dir Signer Cfg : Type 0} (c : Fixed Dir) (beside : Beside Dir) (fenc
   where
     pub seen_retained : (its.logs ≡ logs → v.kept ≡ Some its) → (IsSomeAnd old.verification.kept (λ r. r.logs ≡ logs) → its.logs ≢ logs → v.kept ≡ old.verification.kept)
         → ((IsSomeAnd old.verification.kept (λ r. r.logs ≡ logs) → ⊥) → v.kept ≡ Some its)
-        → IsSeen (record old { verification = v; waiter = None }) (including.retains c (result_of its) (live_of beside fence life)).inclusion
+        → IsSeen (record old { verification = v; waiter = None }) (including.retains c (checked_result_of its) (live_of beside fence life)).inclusion
     seen_retained same stays replaces = record {
       served = seen.served;
       queue = seen.queue;
       running = ap (λ (x : Option job.Job). option_map job_of x) (sym idle);
       waiter = refl;
       retained =
-          (λ i. retained_by old.verification.kept v.kept logs its (result_of its) (seen.retained i) (sym canon i))
+          (λ i. retained_by old.verification.kept v.kept logs its (checked_result_of its) (seen.retained i) (sym canon i))
           ∙ retained_is old.verification.kept v.kept logs its same stays replaces;
       cached = seen.cached;
       told = seen.told;
@@ -294,10 +294,10 @@ module _ {Dir : Type 0} (c : Fixed Dir) (reshare : c.oneshot ≡ None) (r : core
   -- for a request
   module _ (request : ℕ) (waits : beside.inclusion.waiter ≡ Some request) where
     abbrev answers : Course Dir Fault (Live Dir)
-    answers = including.artifact c r st (including.answers c request)
+    answers = including.artifact c r st (including.answers_request c request)
 
     for_request : completing ≡ bind answers keeps
-    for_request = ap (λ (w : Option ℕ). including.completes_in c r st w) waits ∙ artifact_then c reshare r st (including.answers c request) keeps
+    for_request = ap (λ (w : Option ℕ). including.completes_in c r st w) waits ∙ artifact_then c reshare r st (including.answers_request c request) keeps
 
     module _ (cache : Option (LogMap × artifact.Artifact Dir)) where
       abbrev answered : Live Dir
@@ -348,7 +348,7 @@ module _ {Dir : Type 0} (c : Fixed Dir) (handed : Option core.VerifiedLogs) (bes
   pub none_ends : beside.inclusion.running ≡ None → ending ≡ Goes (live_of beside fence life)
   none_ends is = ending_as None is
 
-  pub one_ends : (j : core.Job) (r : core.VerifiedLogs) → beside.inclusion.running ≡ Some j → r ≡ including.result_of c handed j → ending ≡ including.completes c r (live_of beside fence life)
+  pub one_ends : (j : core.Job) (r : core.VerifiedLogs) → beside.inclusion.running ≡ Some j → r ≡ including.job_result_of c handed j → ending ≡ including.completes c r (live_of beside fence life)
   one_ends j r runs is = ending_as (Some j) runs ∙ ap (λ (x : core.VerifiedLogs). including.completes c x (live_of beside fence life)) (sym is)
 
 -- WHAT HOLDS WHILE ONE RUNS, AND BEHIND IT

@@ -52,7 +52,7 @@ module _ {Dir : Type 0} (c : Fixed Dir) where
   shared info (Some found) next = refl
   shared info None next = shared_if (has info.output.players c.me) info.epoch next
 
-  pub derived : (info : EpochInfo Dir) (r : VerifiedLogs) (st : Live Dir) (next : including.Next Dir) → including.derives_next c info r st next ≡ bind (derives_in c info r) (λ made. next made st)
+  pub derived : (info : EpochInfo Dir) (r : VerifiedLogs) (st : Live Dir) (next : including.Continuation Dir) → including.derives_next c info r st next ≡ bind (derives_in c info r) (λ made. next made st)
   derived info r st next =
       let made = info_by c.provided info (option_map (λ found. found.output) r.result) in
       let why = unprovided c.provided.participants c.limit info.epoch in
@@ -73,12 +73,12 @@ module _ {Dir : Type 0} (c : Fixed Dir) where
   -- THE CACHED ONE, OR A NEW ONE
 
   module _ (reshare : c.oneshot ≡ None) where
-    module _ (r : VerifiedLogs) (st : Live Dir) (next : including.Next Dir) where
-      over_current : (current : Option (EpochInfo Dir)) → option_map_or (λ info. including.derives_next c info r st (including.keeping r.logs next)) current (Stops HeightRange)
+    module _ (r : VerifiedLogs) (st : Live Dir) (next : including.Continuation Dir) where
+      over_current : (current : Option (EpochInfo Dir)) → option_map_or (λ info. including.derives_next c info r st (including.keeping_artifact r.logs next)) current (Stops HeightRange)
           ≡ bind (artifact_over c r st None current) (λ it. next it.0 it.1)
       over_current None = refl
       over_current (Some info) =
-          derived info r st (including.keeping r.logs next) ∙ sym (bind_again (derives_in c info r) (with_cached_in r.logs st) (λ it. next it.0 it.1))
+          derived info r st (including.keeping_artifact r.logs next) ∙ sym (bind_again (derives_in c info r) (with_cached_in r.logs st) (λ it. next it.0 it.1))
 
       uncached : (oneshot : Option (OneShot Dir)) → oneshot ≡ None → including.derives c oneshot r st next ≡ bind (artifact_over c r st None st.participation.current) (λ it. next it.0 it.1)
       uncached None is = over_current st.participation.current
@@ -92,7 +92,7 @@ module _ {Dir : Type 0} (c : Fixed Dir) where
       artifact_is = over_cache (including.cached_for st.inclusion.cached r.logs)
 
     -- What is behind a course that goes on by an artifact, is behind what goes on by it.
-    pub artifact_then : (r : VerifiedLogs) (st : Live Dir) (next : including.Next Dir) (more : Live Dir → Course Dir Fault (Live Dir))
+    pub artifact_then : (r : VerifiedLogs) (st : Live Dir) (next : including.Continuation Dir) (more : Live Dir → Course Dir Fault (Live Dir))
         → including.artifact c r st (λ made s. bind (next made s) more) ≡ bind (including.artifact c r st next) more
     artifact_then r st next more =
         artifact_is r st (λ made s. bind (next made s) more)
@@ -102,10 +102,10 @@ module _ {Dir : Type 0} (c : Fixed Dir) where
     -- THE ARTIFACT IS CACHED THEN
 
     -- how the artifact that is cached of some logs goes on
-    abbrev pub by_cached : LogMap → including.Next Dir → Live Dir → Course Dir Fault (Live Dir)
+    abbrev pub by_cached : LogMap → including.Continuation Dir → Live Dir → Course Dir Fault (Live Dir)
     by_cached logs next st = option_map_or (λ made. next made st) (including.cached_for st.inclusion.cached logs) (Goes st)
 
-    module _ (r : VerifiedLogs) (st : Live Dir) (next : including.Next Dir) where
+    module _ (r : VerifiedLogs) (st : Live Dir) (next : including.Continuation Dir) where
       cached_now : (made : Artifact Dir) → including.cached_for (including.with_cached r.logs made st).inclusion.cached r.logs ≡ Some made
       cached_now made = ap (λ (b : Bool). if b then Some made else None) (logs_again r.logs)
 
@@ -144,7 +144,7 @@ module _ {Dir : Type 0} (c : Fixed Dir) where
           ∙ sym (bind_again starts (λ s. artifact_in c found (including.retains c found s)) (λ it. blocks.concludes c b it.0 it.1))
 
       pub derived_now : (logs : LogMap) (retained : Option VerifiedLogs) (st : Live Dir)
-          → blocks.derives_now c round b logs retained st ≡ bind (derives_now_by c round logs retained st) (λ it. blocks.concludes c b it.0 it.1)
+          → blocks.derives_at_block c round b logs retained st ≡ bind (derives_now_by c round logs retained st) (λ it. blocks.concludes c b it.0 it.1)
       derived_now logs (Some r) st = artifact_is r st (blocks.concludes c b)
       derived_now logs None st = verified_now logs st
 

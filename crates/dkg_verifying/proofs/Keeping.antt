@@ -5,7 +5,7 @@ use Rattle.dkg_ceremony.specs.Outcomes.{LogMap}
 use Rattle.dkg_ceremony.specs.declared.finish.FinishError.{FinishError}
 use Rattle.dkg_ceremony.specs.declared.output.Output.{Output}
 use Rattle.dkg_ceremony.specs.declared.round.RoundParts.{RoundParts as Round}
-use Rattle.dkg_artifact.specs.Results.{Checked, checked, finished_by, observed}
+use Rattle.dkg_artifact.specs.Results.{Checked, checked, finished_by, observed_output}
 use Rattle.dkg_artifact.specs.Results as results
 use Rattle.dkg_artifact.specs.declared.artifact.Artifact as artifact
 use Rattle.dkg_artifact.specs.declared.job.Dealings as dealt
@@ -16,7 +16,7 @@ use Rattle.dkg_core.specs.Including as including
 use Rattle.dkg_core.specs.Live as core
 use Rattle.dkg_core.specs.Same.{same_logs}
 use Rattle.dkg_core.proofs.Same.{logs_again, one_logs}
-use Rattle.dkg_verifying.specs.InclusionOf.{artifact_of, cached_of, job_of, result_of, verified_of}
+use Rattle.dkg_verifying.specs.InclusionOf.{artifact_of, cached_of, job_of, checked_result_of, verified_of}
 use Rattle.dkg_life.specs.Rules.{FinishOf, OutcomeOf}
 
 -- OF THESE LOGS, OR OF OTHERS
@@ -48,13 +48,13 @@ module _ {Dir : Type 0} (logs : LogMap) where
 
 -- A result that is kept.
 module _ (logs : LogMap) where
-  pub kept_some : (kept : Option Checked) → IsSomeAnd kept (λ r. r.logs ≡ logs) → including.retained_for (option_map result_of kept) logs ≡ option_map result_of kept
+  pub kept_some : (kept : Option Checked) → IsSomeAnd kept (λ r. r.logs ≡ logs) → including.retained_for (option_map checked_result_of kept) logs ≡ option_map checked_result_of kept
   kept_some None is = absurd is
-  kept_some (Some r) is = ap (λ (b : Bool). if b then Some (result_of r) else None) (subst (λ (l : LogMap). same_logs r.logs l ≡ true) is (logs_again r.logs))
+  kept_some (Some r) is = ap (λ (b : Bool). if b then Some (checked_result_of r) else None) (subst (λ (l : LogMap). same_logs r.logs l ≡ true) is (logs_again r.logs))
 
-  pub kept_none : (kept : Option Checked) → (IsSomeAnd kept (λ r. r.logs ≡ logs) → ⊥) → including.retained_for (option_map result_of kept) logs ≡ None
+  pub kept_none : (kept : Option Checked) → (IsSomeAnd kept (λ r. r.logs ≡ logs) → ⊥) → including.retained_for (option_map checked_result_of kept) logs ≡ None
   kept_none None apart = refl
-  kept_none (Some r) apart = ap (λ (b : Bool). if b then Some (result_of r) else None) (same_or r.logs logs apart)
+  kept_none (Some r) apart = ap (λ (b : Bool). if b then Some (checked_result_of r) else None) (same_or r.logs logs apart)
 
 -- WHAT A NODE FINDS ITSELF
 
@@ -64,7 +64,7 @@ module _ {Dir : Type 0} (c : Fixed Dir) (outcome_of : OutcomeOf) (finish_of : Fi
   by_player (Ok (Some found)) = refl
   by_player (Err e) = refl
 
-  by_all : (o : Option Output) → option_map verified_of (option_map observed o) ≡ including.of_output o
+  by_all : (o : Option Output) → option_map verified_of (option_map observed_output o) ≡ including.of_output o
   by_all None = refl
   by_all (Some output) = refl
 
@@ -78,7 +78,7 @@ module _ {Dir : Type 0} (c : Fixed Dir) (outcome_of : OutcomeOf) (finish_of : Fi
   its_me (Some player) = refl
 
   -- of a job
-  pub verified_is : (j : job.Job) → result_of (checked outcome_of finish_of j.round j.player j.logs) ≡ including.verified c (job_of j)
+  pub verified_is : (j : job.Job) → checked_result_of (checked outcome_of finish_of j.round j.player j.logs) ≡ including.verified c (job_of j)
   verified_is j = λ i. record { round = j.round; me = its_me j.player i; logs = j.logs; result = found_is j.round j.player j.logs i }
 
 -- A RESULT FOR THE CANONICAL LOGS is kept, whatever was kept before.

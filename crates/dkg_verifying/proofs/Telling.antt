@@ -56,11 +56,11 @@ apart a b is same = grind (arith, nat_tests)
 
 -- A REQUEST IS TOLD
 
-module _ {C Dir Signer Cfg : Type 0} (its : Inclusion C Dir Signer Cfg) (i : core.Inclusion Dir) (request : ℕ) (what : Told Dir) (answer : core.Told Dir) (kept : kept_of what ≡ Some answer) (seen : IsSeen its i) where
+module _ {C Dir Signer Cfg : Type 0} (its : Inclusion C Dir Signer Cfg) (i : core.Inclusion Dir) (request : ℕ) (what : Told Dir) (answer : core.RequestAnswer Dir) (kept : kept_of what ≡ Some answer) (seen : IsSeen its i) where
   told_alike : (q : ℕ) → lookup q ((request, answer) ∷ i.told) ≡ option_and_then kept_of (get (insert its.told request what) q)
   told_alike q = alike (request == q) ∙ ap (λ (o : Option (Told Dir)). option_and_then kept_of o) (sym (got_then its.told request what q))
     where
-      alike : (b : Bool) → ◌≡◌ {A = Option (core.Told Dir)} (if b then Some answer else lookup q i.told) (option_and_then kept_of (if b then Some what else get its.told q))
+      alike : (b : Bool) → ◌≡◌ {A = Option (core.RequestAnswer Dir)} (if b then Some answer else lookup q i.told) (option_and_then kept_of (if b then Some what else get its.told q))
       alike true = sym kept
       alike false = seen.told q
 

@@ -10,7 +10,7 @@ use Rattle.dkg_ceremony.specs.declared.output.Output.{Output}
 use Rattle.dkg_ceremony.specs.declared.round.RoundParts.{RoundParts as Round}
 use Rattle.dkg_ceremony.specs.Finishes.{DealingMap, IsMissing}
 use Rattle.dkg_ceremony.specs.Outcomes.{LogMap}
-use Rattle.dkg_artifact.specs.Results.{Checked, IsResultOfJob, checked, finished_by, observed}
+use Rattle.dkg_artifact.specs.Results.{Checked, IsResultOfJob, checked, finished_by, observed_output}
 use Rattle.dkg_artifact.specs.Results as results
 use Rattle.dkg_artifact.specs.declared.job.Dealings as dealt
 use Rattle.dkg_artifact.specs.declared.job.Job as job
@@ -23,11 +23,11 @@ use Rattle.dkg_store.proofs.Passing.{passes_at}
 use Rattle.dkg_core.specs.Fixed.{Fixed, has}
 use Rattle.dkg_core.specs.Including as including
 use Rattle.dkg_core.specs.Live as core
-use Rattle.dkg_core.specs.Live.{Live, of_epoch}
+use Rattle.dkg_core.specs.Live.{Live, records_of_epoch}
 use Rattle.dkg_core.specs.Setup as setup
 use Rattle.dkg_core.specs.Same.{same_logs, same_round}
 use Rattle.dkg_core.proofs.Same.{logs_again, one_logs, one_round, round_again}
-use Rattle.dkg_verifying.specs.InclusionOf.{IsRunnable, dealings_of, job_of, result_of, verified_of}
+use Rattle.dkg_verifying.specs.InclusionOf.{IsRunnable, job_dealings_of, job_of, checked_result_of, verified_of}
 use Rattle.dkg_life.specs.LiveOf.{records_of}
 use Rattle.dkg_life.specs.Rules.{BearsAckOf, DealingOf, FinishOf, OutcomeOf}
 use Rattle.dkg_verifying.specs.Refusing.{refusal_for}
@@ -64,13 +64,13 @@ module _ {Dir : Type 0} (c : Fixed Dir) (round : Round) (logs : LogMap) (st : Li
 
     -- are the relation's
     finishes_is : including.can_finish c round logs st ≡ (has round.players me && not orphan)
-    finishes_is = λ i. has round.players (mine i) && not (has_orphan (λ dealer log. bears i round dealer log (mine i)) (of_epoch round.number (records i).dealings) logs)
+    finishes_is = λ i. has round.players (mine i) && not (has_orphan (λ dealer log. bears i round dealer log (mine i)) (records_of_epoch round.number (records i).dealings) logs)
 
     refused_is : setup.refused_in c round st ≡ refusal
     refused_is = λ i. first_refused (λ d. checks i round (mine i) d) (setup.pairs_of (record st { records = records i }) round.number)
 
     abbrev seat : Bool → Option core.Dealings
-    seat plays = if plays then Some (record { me = c.me; dealings = of_epoch round.number st.records.dealings }) else None
+    seat plays = if plays then Some (record { me = c.me; dealings = records_of_epoch round.number st.records.dealings }) else None
 
     abbrev refused_where : Bool → Option ℕ
     refused_where plays = if plays then setup.refused_in c round st else None
@@ -90,10 +90,10 @@ module _ {Dir : Type 0} (c : Fixed Dir) (round : Round) (logs : LogMap) (st : Li
 
     -- it plays
     pub seated : has round.players me ≡ true → true ≡ not orphan → (dealings : DealingMap) → dealings ≡ at_epoch round.number store.dealings
-        → Some (dealings_of (record { me = me; dealings = dealings })) ≡ (including.job_for c round logs st).player
+        → Some (job_dealings_of (record { me = me; dealings = dealings })) ≡ (including.job_for c round logs st).player
     seated plays some dealings is =
-        let parts : ◌≡◌ {A = core.Dealings} (record { me = me; dealings = dealings }) (record { me = c.me; dealings = of_epoch round.number st.records.dealings }) =
-        (λ i. record { me = sym mine i; dealings = (is ∙ (λ j. of_epoch round.number (sym records j).dealings)) i }) in
+        let parts : ◌≡◌ {A = core.Dealings} (record { me = me; dealings = dealings }) (record { me = c.me; dealings = records_of_epoch round.number st.records.dealings }) =
+        (λ i. record { me = sym mine i; dealings = (is ∙ (λ j. records_of_epoch round.number (sym records j).dealings)) i }) in
         ap (λ (p : core.Dealings). Some p) parts ∙ ap seat (sym (finishes_by true false plays (at_one orphan some)))
 
     pub seated_passes : has round.players me ≡ true → true ≡ not orphan → refusal ≡ None → refusal_for c round logs st ≡ None
@@ -141,7 +141,7 @@ module _ (dealing_of : DealingOf) (finish_of : FinishOf) (round : Round) (logs :
 -- WHAT IT FINDS
 
 module _ {Dir : Type 0} (c : Fixed Dir) (outcome_of : OutcomeOf) (finish_of : FinishOf) (outcomes : c.rules.outcome_of ≡ outcome_of) (finishes : c.rules.finish_of ≡ finish_of) where
-  found_alone : (output : Option Output) → option_map verified_of (option_map observed output) ≡ including.of_output output
+  found_alone : (output : Option Output) → option_map verified_of (option_map observed_output output) ≡ including.of_output output
   found_alone None = refl
   found_alone (Some output) = refl
 
@@ -151,17 +151,17 @@ module _ {Dir : Type 0} (c : Fixed Dir) (outcome_of : OutcomeOf) (finish_of : Fi
   found_seated (Err e) = refl
 
   found_by : (round : Round) (player : Option dealt.Dealings) (logs : LogMap)
-      → option_map verified_of (results.result_of outcome_of finish_of round player logs) ≡ including.result_by c round (option_map dealings_of player) logs
+      → option_map verified_of (results.result_of outcome_of finish_of round player logs) ≡ including.result_by c round (option_map job_dealings_of player) logs
   found_by round None logs = found_alone (outcome_of round logs) ∙ ap (λ (f : OutcomeOf). including.of_output (f round logs)) (sym outcomes)
   found_by round (Some player) logs =
       found_seated (finish_of round player.me player.dealings logs) ∙ ap (λ (f : FinishOf). including.of_player (f round player.me player.dealings logs)) (sym finishes)
 
-  key_is : (player : Option dealt.Dealings) → option_map (λ p. p.me) player ≡ option_map (λ p. p.me) (option_map dealings_of player)
+  key_is : (player : Option dealt.Dealings) → option_map (λ p. p.me) player ≡ option_map (λ p. p.me) (option_map job_dealings_of player)
   key_is None = refl
   key_is (Some player) = refl
 
   -- what this node itself finds
-  pub verified_is : (j : job.Job) → result_of (checked outcome_of finish_of j.round j.player j.logs) ≡ including.verified c (job_of j)
+  pub verified_is : (j : job.Job) → checked_result_of (checked outcome_of finish_of j.round j.player j.logs) ≡ including.verified c (job_of j)
   verified_is j =
       let found = found_by j.round j.player j.logs in
       let key = key_is j.player in
@@ -198,18 +198,18 @@ module _ (j : job.Job) (its : Checked) where
   key_of_job : including.its_key (job_of j) ≡ option_map (λ p. p.me) j.player
   key_of_job = by_player j.player
     where
-      by_player : (player : Option dealt.Dealings) → option_map (λ p. p.me) (option_map dealings_of player) ≡ option_map (λ p. p.me) player
+      by_player : (player : Option dealt.Dealings) → option_map (λ p. p.me) (option_map job_dealings_of player) ≡ option_map (λ p. p.me) player
       by_player None = refl
       by_player (Some player) = refl
 
-  pub answered_tests : IsResultOfJob j its → including.is_of_job (result_of its) (job_of j) ≡ true
+  pub answered_tests : IsResultOfJob j its → including.is_of_job (checked_result_of its) (job_of j) ≡ true
   answered_tests answers =
       three_true (same_round its.round j.round) (including.same_key its.me (including.its_key (job_of j))) (same_logs its.logs j.logs)
       (subst (λ (r : Round). same_round its.round r ≡ true) answers.0 (round_again its.round))
       (subst (λ (k : Option ℕ). including.same_key its.me k ≡ true) (answers.1 ∙ sym key_of_job) (key_again its.me))
       (subst (λ (l : LogMap). same_logs its.logs l ≡ true) answers.2 (logs_again its.logs))
 
-  pub tests_answered : including.is_of_job (result_of its) (job_of j) ≡ true → IsResultOfJob j its
+  pub tests_answered : including.is_of_job (checked_result_of its) (job_of j) ≡ true → IsResultOfJob j its
   tests_answered is =
       let parts = all_true (same_round its.round j.round) (including.same_key its.me (including.its_key (job_of j))) (same_logs its.logs j.logs) is in
       (one_round its.round j.round parts.0, same_keys its.me (including.its_key (job_of j)) parts.1 ∙ key_of_job, one_logs its.logs j.logs parts.2)
@@ -218,18 +218,18 @@ module _ {Dir : Type 0} (c : Fixed Dir) (outcome_of : OutcomeOf) (finish_of : Fi
   abbrev its_own : Checked
   its_own = checked outcome_of finish_of j.round j.player j.logs
 
-  chosen : (its : Checked) (b : Bool) → including.is_of_job (result_of its) (job_of j) ≡ b
-      → including.result_of c (Some (result_of its)) (job_of j) ≡ (if b then result_of its else including.verified c (job_of j))
-  chosen its b is = ap (λ (t : Bool). if t then result_of its else including.verified c (job_of j)) is
+  chosen : (its : Checked) (b : Bool) → including.is_of_job (checked_result_of its) (job_of j) ≡ b
+      → including.job_result_of c (Some (checked_result_of its)) (job_of j) ≡ (if b then checked_result_of its else including.verified c (job_of j))
+  chosen its b is = ap (λ (t : Bool). if t then checked_result_of its else including.verified c (job_of j)) is
 
   -- The result of a job: the one that is handed in, where it is of that job, else what this node finds.
   pub result_is : (done : Option Checked) (made : Checked) → IfSome done (λ its. IsResultOfJob j its → made ≡ its) → ((IsSomeAnd done (IsResultOfJob j) → ⊥) → made ≡ its_own)
-      → result_of made ≡ including.result_of c (option_map result_of done) (job_of j)
-  result_is None made handed own = ap result_of (own (λ none. none)) ∙ verified_is c outcome_of finish_of outcomes finishes j
-  result_is (Some its) made handed own = by_test (including.is_of_job (result_of its) (job_of j)) refl
+      → checked_result_of made ≡ including.job_result_of c (option_map checked_result_of done) (job_of j)
+  result_is None made handed own = ap checked_result_of (own (λ none. none)) ∙ verified_is c outcome_of finish_of outcomes finishes j
+  result_is (Some its) made handed own = by_test (including.is_of_job (checked_result_of its) (job_of j)) refl
     where
-      by_test : (b : Bool) → including.is_of_job (result_of its) (job_of j) ≡ b → result_of made ≡ including.result_of c (Some (result_of its)) (job_of j)
-      by_test true is = ap result_of (handed (tests_answered j its is)) ∙ sym (chosen its true is)
+      by_test : (b : Bool) → including.is_of_job (checked_result_of its) (job_of j) ≡ b → checked_result_of made ≡ including.job_result_of c (Some (checked_result_of its)) (job_of j)
+      by_test true is = ap checked_result_of (handed (tests_answered j its is)) ∙ sym (chosen its true is)
       by_test false is =
-          ap result_of (own (λ answers. absurd (let h : true ≡ false = sym (answered_tests j its answers) ∙ is in cc)))
+          ap checked_result_of (own (λ answers. absurd (let h : true ≡ false = sym (answered_tests j its answers) ∙ is in cc)))
           ∙ verified_is c outcome_of finish_of outcomes finishes j ∙ sym (chosen its false is)

@@ -37,7 +37,7 @@ abbrev pub posted_in : {Dir : Type 0} → (request : ℕ) → FinMap nat_cmp (To
 posted_in request answers = maps.insert answers request (answer_or (maps.get answers request))
 
 -- what the relation keeps of an answer; it keeps none of a request that waits
-abbrev pub kept_of : {Dir : Type 0} → Told Dir → Option (core.Told Dir)
+abbrev pub kept_of : {Dir : Type 0} → Told Dir → Option (core.RequestAnswer Dir)
 kept_of told.Posted = None
 kept_of (told.Log payload) = Some (core.GaveLog payload)
 kept_of (told.Info (response.Available payload)) = Some (core.GaveInfo payload)
@@ -45,20 +45,20 @@ kept_of (told.Info (response.Unavailable why)) = Some (core.GaveNone why)
 
 -- THE RELATION'S WORDS FOR WHAT IS KEPT
 
-abbrev pub request_of : {Dir : Type 0} → requested.Request Dir → core.Request Dir
-request_of r = record { number = r.number; blocks = r.blocks; ended = r.ended }
+abbrev pub waiting_request_of : {Dir : Type 0} → requested.WaitingRequest Dir → core.Request Dir
+waiting_request_of r = record { number = r.number; blocks = r.blocks; ended = r.ended }
 
 abbrev pub verified_of : verified.Verified → core.Verified
 verified_of v = record { output = v.output; share = v.share }
 
-abbrev pub result_of : Checked → core.VerifiedLogs
-result_of c = record { round = c.round; me = c.me; logs = c.logs; result = option_map verified_of c.result }
+abbrev pub checked_result_of : Checked → core.VerifiedLogs
+checked_result_of c = record { round = c.round; me = c.me; logs = c.logs; result = option_map verified_of c.result }
 
-abbrev pub dealings_of : dealt.Dealings → core.Dealings
-dealings_of d = record { me = d.me; dealings = d.dealings }
+abbrev pub job_dealings_of : dealt.Dealings → core.Dealings
+job_dealings_of d = record { me = d.me; dealings = d.dealings }
 
 abbrev pub job_of : job.Job → core.Job
-job_of j = record { round = j.round; player = option_map dealings_of j.player; logs = j.logs }
+job_of j = record { round = j.round; player = option_map job_dealings_of j.player; logs = j.logs }
 
 abbrev pub artifact_of : {Dir : Type 0} → artifact.Artifact Dir → core.Artifact Dir
 artifact_of a = record { info = a.info; share = a.share }
@@ -72,17 +72,17 @@ tip_of t = record { height = t.height; digest = t.digest }
 -- INCLUSION
 
 -- the requests in their order: the one in hand is the first
-abbrev pub in_front : {Dir Cfg : Type 0} → Option (Hand Dir Cfg) → List (requested.Request Dir) → List (requested.Request Dir)
+abbrev pub in_front : {Dir Cfg : Type 0} → Option (Hand Dir Cfg) → List (requested.WaitingRequest Dir) → List (requested.WaitingRequest Dir)
 in_front None waiting = waiting
 in_front (Some hand) waiting = hand.request ∷ waiting
 
 -- This is what inclusion has, as the relation has it. The answers are in the order of their numbers here, and there in that of their coming.
 pub record IsSeen {C Dir Signer Cfg : Type 0} (its : Inclusion C Dir Signer Cfg) (i : core.Inclusion Dir) : Type 0 where
   pub served : i.served ≡ its.served
-  pub queue : i.queue ≡ map request_of (in_front its.hand its.requests)
+  pub queue : i.queue ≡ map waiting_request_of (in_front its.hand its.requests)
   pub running : i.running ≡ option_map job_of its.verification.running
   pub waiter : i.waiter ≡ its.waiter
-  pub retained : i.retained ≡ option_map result_of its.verification.kept
+  pub retained : i.retained ≡ option_map checked_result_of its.verification.kept
   pub cached : i.cached ≡ option_map cached_of its.cache
   pub told : (request : ℕ) → lookup request i.told ≡ option_and_then kept_of (maps.get its.told request)
   pub used : (request : ℕ) → (Contains i.used request ⊎ IsSome (lookup request i.told)) ↔ IsSome (maps.get its.told request)

@@ -126,7 +126,7 @@ pub fn answer<Dir: Directory + Drop>(
     ensures told { OnOk result (told.new ≡ maps.insert told.old request (ToldInfo (Available (option_map info_payload artifact.now.info)))) }
     ensures same { OnErr result (told.new ≡ told.old) }
     ensures speaks { (c : Fixed Dir) (st : Live Dir) → c.directories.spelling ≡ Dir.spelling
-        → Speaks (including.answers c request (artifact_of artifact.now) st)
+        → Speaks (including.answers_request c request (artifact_of artifact.now) st)
         (ends_in (with_told request (GaveInfo (option_map info_payload artifact.now.info)) st) result) out.old.entries out.new.entries }
     ensures memory { IfErr result (λ stop. stop ≡ Faulted OutOfMemory) }
 {

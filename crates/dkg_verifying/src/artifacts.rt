@@ -20,7 +20,7 @@ ghost use Rattle.dkg_life.specs.Steps.{IsFaultOrWant};
 ghost use Rattle.dkg_life.specs.declared.stop.Stop.TheVariants.{Fault as Faulted};
 ghost use Rattle.dkg_verifying.specs.Derived.{follows_with};
 ghost use Rattle.dkg_verifying.specs.Including.{EndsCaching, derives_in, ended_by, reads_share, unprovided};
-ghost use Rattle.dkg_verifying.specs.InclusionOf.{artifact_of, cached_of, result_of, verified_of};
+ghost use Rattle.dkg_verifying.specs.InclusionOf.{artifact_of, cached_of, checked_result_of, verified_of};
 
 use dkg_artifact::{Artifact, ArtifactCache, Verified, VerifiedLogs};
 use dkg_ceremony::{Ceremony, Output, Share};
@@ -198,11 +198,11 @@ fn derive<
         → IsOf terms.now c
         → ReadsPlanless c
         → IncludesBy C.check_log_of C.outcome_of C.finish_of (P.participants_of provider.old) (P.directory_of provider.old) Dir.spelling Dir.matches_of c
-        → (out : List Line) → Makes D.files D.image X.held (derives_in c info (result_of verified.now)) (ends artifact_of result)
+        → (out : List Line) → Makes D.files D.image X.held (derives_in c info (checked_result_of verified.now)) (ends artifact_of result)
         devices.old devices.new out out }
     ensures tells { IsTrue P.tells → (info : EpochInfo Dir) (c : Fixed Dir) → store.old.current ≡ Some info → IsOf terms.now c → ReadsPlanless c
         → IncludesBy C.check_log_of C.outcome_of C.finish_of (P.participants_of provider.old) (P.directory_of provider.old) Dir.spelling Dir.matches_of c
-        → (out : List Line) → Tells (derives_in c info (result_of verified.now)) (ends artifact_of result) out out }
+        → (out : List Line) → Tells (derives_in c info (checked_result_of verified.now)) (ends artifact_of result) out out }
     ensures moved { Moved D.tells D.made X.made D.faults X.faults devices.old devices.new }
     ensures causes { StopsOver D.faults X.faults devices.old devices.new result }
 {
@@ -243,12 +243,12 @@ pub fn keep_artifact<
         → IncludesBy C.check_log_of C.outcome_of C.finish_of (P.participants_of provider.old) (P.directory_of provider.old) Dir.spelling Dir.matches_of c
         → st.participation.current ≡ store.old.current → st.inclusion.cached ≡ option_map cached_of cache.old
         → (out : List Line) → EndsCaching cache.new st (λ now. Makes D.files D.image X.held
-        (including.artifact c (result_of verified.now) st (λ made st. Goes st)) (ends_in now result) devices.old devices.new out out) }
+        (including.artifact c (checked_result_of verified.now) st (λ made st. Goes st)) (ends_in now result) devices.old devices.new out out) }
     ensures tells { IsTrue P.tells → (c : Fixed Dir) (st : Live Dir) → IsOf terms.now c → ReadsPlanless c
         → IncludesBy C.check_log_of C.outcome_of C.finish_of (P.participants_of provider.old) (P.directory_of provider.old) Dir.spelling Dir.matches_of c
         → st.participation.current ≡ store.old.current → st.inclusion.cached ≡ option_map cached_of cache.old
         → (out : List Line) → EndsCaching cache.new st (λ now. Tells
-        (including.artifact c (result_of verified.now) st (λ made st. Goes st)) (ends_in now result) out out) }
+        (including.artifact c (checked_result_of verified.now) st (λ made st. Goes st)) (ends_in now result) out out) }
     ensures moved { Moved D.tells D.made X.made D.faults X.faults devices.old devices.new }
     ensures causes { StopsOver D.faults X.faults devices.old devices.new result }
 {

@@ -29,7 +29,7 @@ ghost use Rattle.dkg_life.specs.declared.stop.Stop.TheVariants.{Fault as Faulted
 ghost use Rattle.dkg_verifying.specs.Concluded.{canonical_in};
 ghost use Rattle.dkg_verifying.specs.Refusing.{refusal_for};
 ghost use Rattle.dkg_verifying.specs.Including.{EndsCaching, telling};
-ghost use Rattle.dkg_verifying.specs.InclusionOf.{IsReadyInclusion, IsRunnable, IsSeen, cached_of, dealings_of, job_of, result_of};
+ghost use Rattle.dkg_verifying.specs.InclusionOf.{IsReadyInclusion, IsRunnable, IsSeen, cached_of, job_dealings_of, job_of, checked_result_of};
 ghost use Rattle.dkg_verifying.specs.Looks.{OnlyLooks};
 ghost use Rattle.dkg_verifying.specs.declared.told.EpochInfoResponse.TheVariants.{Available};
 
@@ -81,7 +81,7 @@ fn player_for<C: Ceremony, Dir: Directory + Drop>(
 ) -> Result<Option<Dealings>, Stop>
     ensures made { IfOk result (λ made. (c : Fixed Dir) (st : Live Dir) → c.me ≡ me → c.rules.bears_ack_of ≡ C.bears_ack_of → c.rules.dealing_of
         ≡ C.dealing_of → st.records ≡ records_of store.now
-        → option_map dealings_of made ≡ (including.job_for c round.now logs.now st).player) }
+        → option_map job_dealings_of made ≡ (including.job_for c round.now logs.now st).player) }
     ensures runs { IfOk result (λ made. IsRunnable C.dealing_of C.finish_of (record { round = round.now; player = made; logs = logs.now })) }
     ensures passes { IfOk result (λ made. (c : Fixed Dir) (st : Live Dir) → c.me ≡ me → c.rules.bears_ack_of ≡ C.bears_ack_of → c.rules.dealing_of
         ≡ C.dealing_of → st.records ≡ records_of store.now → refusal_for c round.now logs.now st ≡ None) }
@@ -172,7 +172,7 @@ pub fn verify<C: Ceremony>(alloc: Global, ceremony: &C, job: Job) -> Mem<Verifie
     verify_logs(alloc, ceremony, &round, player, logs)
 }
 
-/// The result of a job: the one that is handed in, where it is of that job, else what this node finds (`result_of`).
+/// The result of a job: the one that is handed in, where it is of that job, else what this node finds (`checked_result_of`).
 fn result_of<C: Ceremony + Drop>(
     alloc: Global,
     ceremony: &C,
@@ -220,12 +220,12 @@ pub fn answer_by<
     ensures acts { IsTrue D.tells → IsTrue X.tells → IsTrue P.tells → (c : Fixed Dir) (st : Live Dir) → IsOf terms.now c → ReadsPlanless c
         → IncludesBy C.check_log_of C.outcome_of C.finish_of (P.participants_of provider.old) (P.directory_of provider.old) Dir.spelling Dir.matches_of c
         → st.participation.current ≡ store.old.current → st.inclusion.cached ≡ option_map cached_of cache.old
-        → EndsCaching cache.new st (λ now. Makes D.files D.image X.held (including.artifact c (result_of verified.now) st (including.answers c request))
+        → EndsCaching cache.new st (λ now. Makes D.files D.image X.held (including.artifact c (checked_result_of verified.now) st (including.answers_request c request))
         (ends_in (telling request now) result) devices.old devices.new out.old.entries out.new.entries) }
     ensures tells { IsTrue P.tells → (c : Fixed Dir) (st : Live Dir) → IsOf terms.now c → ReadsPlanless c
         → IncludesBy C.check_log_of C.outcome_of C.finish_of (P.participants_of provider.old) (P.directory_of provider.old) Dir.spelling Dir.matches_of c
         → st.participation.current ≡ store.old.current → st.inclusion.cached ≡ option_map cached_of cache.old
-        → EndsCaching cache.new st (λ now. Tells (including.artifact c (result_of verified.now) st (including.answers c request))
+        → EndsCaching cache.new st (λ now. Tells (including.artifact c (checked_result_of verified.now) st (including.answers_request c request))
         (ends_in (telling request now) result) out.old.entries out.new.entries) }
     ensures moved { Moved D.tells D.made X.made D.faults X.faults devices.old devices.new }
     ensures causes { StopsOver D.faults X.faults devices.old devices.new result }
@@ -246,7 +246,7 @@ pub fn retain<C: Ceremony + Drop, Dir: Directory + Drop>(
 ) -> Mem<()>
     ensures kept { OnOk result ((c : Fixed Dir) (beside : Beside Dir) (fence : Readiness) → midpoint c.blocks_per_epoch life.now.epoch ≡ life.now.midpoint
         → IsSeen inclusion.old beside.inclusion
-        → IsSeen inclusion.new (including.retains c (result_of verified) (live_of beside fence life.now)).inclusion) }
+        → IsSeen inclusion.new (including.retains c (checked_result_of verified) (live_of beside fence life.now)).inclusion) }
     ensures rest { inclusion.new ≡ record inclusion.old { verification = inclusion.new.verification; waiter = inclusion.new.waiter } }
     ensures free { OnOk result (inclusion.new.verification.running ≡ None) }
     ensures alone { OnOk result (inclusion.new.waiter ≡ None) }
@@ -295,14 +295,14 @@ fn complete<
         → IsRuledBy C.round_of C.deal_of C.dealing_of C.ack_of C.check_ack_of C.sign_log_of C.bears_ack_of C.share_public_of C.partial_public_of c.rules
         → IncludesBy C.check_log_of C.outcome_of C.finish_of (P.participants_of provider.old) (P.directory_of provider.old) Dir.spelling Dir.matches_of c
         → IsSeen inclusion.old beside.inclusion → EndsWith beside (λ i. OnOk result (IsSeen inclusion.new i)) (λ more. more ≡ [])
-        (λ now. Makes D.files D.image X.held (including.completes c (result_of verified) (live_of beside fence life.old)) (ends_in
+        (λ now. Makes D.files D.image X.held (including.completes c (checked_result_of verified) (live_of beside fence life.old)) (ends_in
         (live_of now fence life.new) result)
         devices.old devices.new out.old.entries out.new.entries) }
     ensures tells { IsTrue P.tells → (c : Fixed Dir) (beside : Beside Dir) (fence : Readiness) → IsOf terms.now c → ReadsPlanless c
         → IsRuledBy C.round_of C.deal_of C.dealing_of C.ack_of C.check_ack_of C.sign_log_of C.bears_ack_of C.share_public_of C.partial_public_of c.rules
         → IncludesBy C.check_log_of C.outcome_of C.finish_of (P.participants_of provider.old) (P.directory_of provider.old) Dir.spelling Dir.matches_of c
         → IsSeen inclusion.old beside.inclusion → EndsWith beside (λ i. OnOk result (IsSeen inclusion.new i)) (λ more. more ≡ [])
-        (λ now. Tells (including.completes c (result_of verified) (live_of beside fence life.old)) (ends_in
+        (λ now. Tells (including.completes c (checked_result_of verified) (live_of beside fence life.old)) (ends_in
         (live_of now fence life.new) result) out.old.entries out.new.entries) }
     ensures moved { Moved D.tells D.made X.made D.faults X.faults devices.old devices.new }
     ensures causes { StopsOver D.faults X.faults devices.old devices.new result }
@@ -362,14 +362,14 @@ pub fn end_verifying<
         → IsRuledBy C.round_of C.deal_of C.dealing_of C.ack_of C.check_ack_of C.sign_log_of C.bears_ack_of C.share_public_of C.partial_public_of c.rules
         → IncludesBy C.check_log_of C.outcome_of C.finish_of (P.participants_of provider.old) (P.directory_of provider.old) Dir.spelling Dir.matches_of c
         → IsSeen inclusion.old beside.inclusion → EndsWith beside (λ i. OnOk result (IsSeen inclusion.new i)) (λ more. more ≡ [])
-        (λ now. Makes D.files D.image X.held (including.ends_verifying c (option_map result_of done) (live_of beside fence life.old)) (ends_in
+        (λ now. Makes D.files D.image X.held (including.ends_verifying c (option_map checked_result_of done) (live_of beside fence life.old)) (ends_in
         (live_of now fence life.new) result)
         devices.old devices.new out.old.entries out.new.entries) }
     ensures tells { IsTrue P.tells → (c : Fixed Dir) (beside : Beside Dir) (fence : Readiness) → IsOf terms.now c → ReadsPlanless c
         → IsRuledBy C.round_of C.deal_of C.dealing_of C.ack_of C.check_ack_of C.sign_log_of C.bears_ack_of C.share_public_of C.partial_public_of c.rules
         → IncludesBy C.check_log_of C.outcome_of C.finish_of (P.participants_of provider.old) (P.directory_of provider.old) Dir.spelling Dir.matches_of c
         → IsSeen inclusion.old beside.inclusion → EndsWith beside (λ i. OnOk result (IsSeen inclusion.new i)) (λ more. more ≡ [])
-        (λ now. Tells (including.ends_verifying c (option_map result_of done) (live_of beside fence life.old)) (ends_in
+        (λ now. Tells (including.ends_verifying c (option_map checked_result_of done) (live_of beside fence life.old)) (ends_in
         (live_of now fence life.new) result) out.old.entries out.new.entries) }
     ensures moved { Moved D.tells D.made X.made D.faults X.faults devices.old devices.new }
     ensures causes { StopsOver D.faults X.faults devices.old devices.new result }

@@ -8,7 +8,7 @@ use Rattle.dkg_words.specs.declared.names.Name.{Name}
 use Rattle.dkg_words.specs.declared.names.Name.TheVariants.{Block}
 use Rattle.dkg_words.specs.Before.{before}
 use Rattle.dkg_words.specs.Forms.{form, payload_form}
-use Rattle.dkg_words.specs.Lines.{behind, name_in, until}
+use Rattle.dkg_words.specs.Lines.{behind_byte, name_in, until}
 use Rattle.dkg_words.specs.Names.{is_probing, name_by}
 use Rattle.dkg_words.specs.Notes.{note}
 use Rattle.dkg_words.specs.Stages.{allows, stage_after, stage_words}
@@ -20,32 +20,32 @@ abbrev pub is_number : List ℕ → Bool
 is_number field = is_some (decimal_of field)
 
 -- whether a field names one of so many blocks, or none
-abbrev pub is_parent : (blocks : ℕ) → List ℕ → Bool
-is_parent blocks field = bytes_eq field (codes "-") || option_map_or (λ n. nat_lt n blocks) (decimal_of field) false
+abbrev pub is_parent_field : (blocks : ℕ) → List ℕ → Bool
+is_parent_field blocks field = bytes_eq field (codes "-") || option_map_or (λ n. nat_lt n blocks) (decimal_of field) false
 
 abbrev pub payload_alone : (blocks : ℕ) (height parent view payload : List ℕ) → Bool
 payload_alone blocks height parent view payload =
-    is_number (until 32 height) && is_parent blocks (until 32 parent) && is_number (until 32 view) && not (is_some (behind 32 payload))
+    is_number (until 32 height) && is_parent_field blocks (until 32 parent) && is_number (until 32 view) && not (is_some (behind_byte 32 payload))
 
 abbrev pub with_payload : (blocks : ℕ) (height parent view : List ℕ) → Option (List ℕ) → Bool
 with_payload blocks height parent view (Some payload) = payload_alone blocks height parent view payload
 with_payload blocks height parent view None = false
 
 abbrev pub with_view : (blocks : ℕ) (height parent : List ℕ) → Option (List ℕ) → Bool
-with_view blocks height parent (Some view) = with_payload blocks height parent view (behind 32 view)
+with_view blocks height parent (Some view) = with_payload blocks height parent view (behind_byte 32 view)
 with_view blocks height parent None = false
 
 abbrev pub with_parent : (blocks : ℕ) (height : List ℕ) → Option (List ℕ) → Bool
-with_parent blocks height (Some parent) = with_view blocks height parent (behind 32 parent)
+with_parent blocks height (Some parent) = with_view blocks height parent (behind_byte 32 parent)
 with_parent blocks height None = false
 
 abbrev pub with_height : (blocks : ℕ) → Option (List ℕ) → Bool
-with_height blocks (Some height) = with_parent blocks height (behind 32 height)
+with_height blocks (Some height) = with_parent blocks height (behind_byte 32 height)
 with_height blocks None = false
 
 -- whether the fields before a block's payload are right, and one stands there
 abbrev pub is_bad_payload : (blocks : ℕ) → (line : List ℕ) → Bool
-is_bad_payload blocks line = with_height blocks (behind 32 line)
+is_bad_payload blocks line = with_height blocks (behind_byte 32 line)
 
 -- WHAT IS WANTED
 
@@ -80,7 +80,7 @@ line_wanted so_far line = wanted_of so_far (name_by (name_in line)) line ++ note
 
 -- a line that is ended, or one that isn't
 abbrev pub some_wanted : Before → (rest : List ℕ) → List ℕ
-some_wanted so_far rest = if is_some (behind 10 rest) then line_wanted so_far (until 10 rest) else codes "a line feed at its end"
+some_wanted so_far rest = if is_some (behind_byte 10 rest) then line_wanted so_far (until 10 rest) else codes "a line feed at its end"
 
 -- of a text's rest, which may be nothing
 abbrev pub wanted : Before → (rest : List ℕ) → List ℕ

@@ -60,13 +60,13 @@ form_back Cut = codes ", the number of events"
 form_back _ = []
 
 -- the number behind the last line's name, where that line has this name
-abbrev pub above_last : Option Name → (above : ℕ) → Name → Option ℕ
-above_last (Some Players) above Players = Some above
-above_last (Some Address) above Address = Some above
-above_last _ above _ = None
+abbrev pub above_last : Option Name → (least_above : ℕ) → Name → Option ℕ
+above_last (Some Players) least_above Players = Some least_above
+above_last (Some Address) least_above Address = Some least_above
+above_last _ least_above _ = None
 
-abbrev pub above : Before → Name → Option ℕ
-above before name = above_last before.last before.above name
+abbrev pub least_above : Before → Name → Option ℕ
+least_above before name = above_last before.last before.above name
 
 -- the number of a line's range, where it has one
 abbrev pub range : Before → Name → Option ℕ
@@ -81,7 +81,7 @@ range before Prepare = Some before.blocks
 range before Propose = Some before.blocks
 range before Verify = Some before.blocks
 range before Cut = Some before.events
-range before name = above before name
+range before name = least_above before name
 
 abbrev pub range_text : Name → Option ℕ → List ℕ
 range_text name (Some number) = form_link name ++ decimal number

@@ -56,13 +56,13 @@ event_by word =
     else (if bytes_eq word (codes "retry") then Some Retry
     else None)))))))))))))))))
 
-abbrev pub or_else : Option Name → Option Name → Option Name
-or_else (Some name) other = Some name
-or_else None other = other
+abbrev pub either_name : Option Name → Option Name → Option Name
+either_name (Some name) other = Some name
+either_name None other = other
 
 -- the name that a word is
 abbrev pub name_by : (word : List ℕ) → Option Name
-name_by word = or_else (head_by word) (or_else (life_by word) (event_by word))
+name_by word = either_name (head_by word) (either_name (life_by word) (event_by word))
 
 -- whether a name is an event's that needs a `probe` line
 abbrev pub is_probing : Name → Bool
@@ -74,18 +74,18 @@ is_probing Retry = true
 is_probing _ = false
 
 -- whether a name is an event's
-abbrev pub is_event : Name → Bool
-is_event Peer = true
-is_event Final = true
-is_event Next = true
-is_event Release = true
-is_event Info = true
-is_event Feed = true
-is_event Over = true
-is_event Cancel = true
-is_event Work = true
-is_event Prepare = true
-is_event Propose = true
-is_event Verify = true
-is_event Later = true
-is_event name = is_probing name
+abbrev pub is_event_name : Name → Bool
+is_event_name Peer = true
+is_event_name Final = true
+is_event_name Next = true
+is_event_name Release = true
+is_event_name Info = true
+is_event_name Feed = true
+is_event_name Over = true
+is_event_name Cancel = true
+is_event_name Work = true
+is_event_name Prepare = true
+is_event_name Propose = true
+is_event_name Verify = true
+is_event_name Later = true
+is_event_name name = is_probing name

@@ -5,7 +5,7 @@ use Rattle.dkg_words.specs.declared.names.Name.{Name}
 use Rattle.dkg_words.specs.declared.names.Name.TheVariants as name
 use Rattle.dkg_words.specs.declared.stages.Stage.{Stage}
 use Rattle.dkg_words.specs.declared.stages.Stage.TheVariants as stage
-use Rattle.dkg_words.specs.Names.{is_event, is_probing}
+use Rattle.dkg_words.specs.Names.{is_event_name, is_probing}
 
 -- what may follow a line of a name, and what a script begins with
 abbrev pub stage_after : Option Name → Stage
@@ -48,13 +48,13 @@ from_players name.Players = true
 from_players its = from_address its
 
 -- an event, which may need a `probe` line
-abbrev pub is_ready : (probe : Bool) → Name → Bool
-is_ready probe its = is_event its && (probe || not (is_probing its))
+abbrev pub is_ready_event : (probe : Bool) → Name → Bool
+is_ready_event probe its = is_event_name its && (probe || not (is_probing its))
 
 abbrev pub from_events : (probe : Bool) → Name → Bool
 from_events probe name.Cut = true
 from_events probe name.Stop = true
-from_events probe its = is_ready probe its
+from_events probe its = is_ready_event probe its
 
 -- a `sync` line stands in reshare mode alone
 abbrev pub from_sync : Before → Name → Bool
@@ -66,31 +66,31 @@ from_held before name.Held = true
 from_held before its = from_sync before its
 
 -- what stands first at a stage
-abbrev pub begins : Stage → Name → Bool
-begins stage.Dkg name.Dkg = true
-begins stage.Me name.Me = true
-begins stage.Blocks name.Blocks = true
-begins stage.Limit name.Limit = true
-begins stage.Mode name.Mode = true
-begins stage.Space name.Space = true
-begins stage.Oneshot name.Oneshot = true
-begins stage.Life name.Life = true
-begins stage.Life name.End = true
-begins stage.Anchor name.Processed = true
-begins stage.Anchor name.Absent = true
-begins stage.Stop name.Stop = true
-begins _ _ = false
+abbrev pub begins_stage : Stage → Name → Bool
+begins_stage stage.Dkg name.Dkg = true
+begins_stage stage.Me name.Me = true
+begins_stage stage.Blocks name.Blocks = true
+begins_stage stage.Limit name.Limit = true
+begins_stage stage.Mode name.Mode = true
+begins_stage stage.Space name.Space = true
+begins_stage stage.Oneshot name.Oneshot = true
+begins_stage stage.Life name.Life = true
+begins_stage stage.Life name.End = true
+begins_stage stage.Anchor name.Processed = true
+begins_stage stage.Anchor name.Absent = true
+begins_stage stage.Stop name.Stop = true
+begins_stage _ _ = false
 
 abbrev pub allows_at : Stage → Before → Name → Bool
-allows_at stage.Oneshot before its = begins stage.Oneshot its || from_players its
+allows_at stage.Oneshot before its = begins_stage stage.Oneshot its || from_players its
 allows_at stage.Players before its = from_players its
 allows_at stage.Address before its = from_address its
 allows_at stage.Block before its = from_block its
-allows_at stage.Anchor before its = begins stage.Anchor its || from_held before its
+allows_at stage.Anchor before its = begins_stage stage.Anchor its || from_held before its
 allows_at stage.Held before its = from_held before its
 allows_at stage.Sync before its = from_sync before its
 allows_at stage.Events before its = from_events before.probe its
-allows_at its_stage before its = begins its_stage its
+allows_at its_stage before its = begins_stage its_stage its
 
 -- whether a line of a name may follow the lines before it
 abbrev pub allows : Before → Name → Bool

@@ -6,9 +6,9 @@ use Rattle.dkg_words.specs.declared.names.Name.TheVariants as name
 use Rattle.dkg_words.specs.declared.unbuilt.Named.{Named}
 use Rattle.dkg_words.specs.declared.unbuilt.Why.{Why}
 use Rattle.dkg_words.specs.declared.unbuilt.Why.TheVariants.{Oneshot, Addresses, Probe, Sync, Event}
-use Rattle.dkg_words.specs.Before.{counted}
+use Rattle.dkg_words.specs.Before.{counted_up}
 use Rattle.dkg_words.specs.Lines.{name_in, over_lines}
-use Rattle.dkg_words.specs.Names.{is_event, name_by}
+use Rattle.dkg_words.specs.Names.{is_event_name, name_by}
 use Rattle.dkg_words.specs.Told.{line_told}
 
 -- what isn't run yet
@@ -36,7 +36,7 @@ why_named name.Feed = None
 why_named name.Over = None
 why_named name.Cancel = None
 why_named name.Work = None
-why_named its = if is_event its then Some Event else None
+why_named its = if is_event_name its then Some Event else None
 
 abbrev pub why_line : (line : List ℕ) → Option Why
 why_line line = option_and_then why_named (name_by (name_in line))
@@ -48,7 +48,7 @@ found_after None at (Some why) = Some (at, why)
 found_after None at None = None
 
 abbrev pub named_after : Named → (line : List ℕ) → Named
-named_after named line = record { at = counted (min (named.at + length line) (2 ^ 64 - 1)); found = found_after named.found named.at (why_line line) }
+named_after named line = record { at = counted_up (min (named.at + length line) (2 ^ 64 - 1)); found = found_after named.found named.at (why_line line) }
 
 -- where the first such line of a text begins, and why it isn't run
 abbrev pub named_place : (text : List ℕ) → Option (ℕ × Why)

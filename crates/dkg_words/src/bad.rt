@@ -1,6 +1,6 @@
 //! The line that is said of a text that is no script.
 ghost use Rattle.std.specs.Prelude.{◌≡◌, ◌++◌, ◌<◌, IfOk, OnOk};
-ghost use Rattle.dkg_words.specs.Bad.{bad_text, is_bad_payload as is_bad_payload_of, is_number as is_number_of, is_parent as is_parent_of, line_wanted, name_wanted, needs_probe, next_wanted, probe_note, some_wanted, wanted};
+ghost use Rattle.dkg_words.specs.Bad.{bad_text, is_bad_payload as is_bad_payload_of, is_number as is_number_of, is_parent_field as is_parent_of, line_wanted, name_wanted, needs_probe, next_wanted, probe_note, some_wanted, wanted};
 ghost use Rattle.dkg_words.specs.Told.{line_told, quoted, subject};
 
 use crate::before::Before;

@@ -1,6 +1,6 @@
 //! What the lines before a place say of what may follow.
 ghost use Rattle.std.specs.Prelude.{◌≡◌, max};
-ghost use Rattle.dkg_words.specs.Before.{before as before_of, blocks_after, counted as counted_of, events_after, limit_after, nothing, spaces as spaces_of, version_after};
+ghost use Rattle.dkg_words.specs.Before.{before as before_of, blocks_after, counted_up as counted_of, events_after, limit_after, nothing, spaces as spaces_of, version_after};
 
 use crate::lines::{Walk, first_number, go_over, second_number, until};
 use crate::names::{Name, is_event, name_of};

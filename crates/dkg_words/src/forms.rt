@@ -1,6 +1,6 @@
 //! The form of a line, with its ranges as they hold after the lines before it.
 ghost use Rattle.std.specs.Prelude.{◌≡◌, ◌++◌, OnOk};
-ghost use Rattle.dkg_words.specs.Forms.{above as above_of, form, form_back, form_front, form_link, payload_form, range as range_of};
+ghost use Rattle.dkg_words.specs.Forms.{least_above as above_of, form, form_back, form_front, form_link, payload_form, range as range_of};
 
 use crate::before::Before;
 use crate::names::Name;

@@ -1,7 +1,7 @@
 //! The parts of a text: its lines, and a line's fields.
 ghost use Rattle.std.specs.Prelude.{◌≡◌, ◌≢◌, ◌<◌, ◌+◌, All, IfSome, List, MatchOption, None, Some, ℕ, [], length, take, drop};
 ghost use Rattle.dkg_text.specs.Fields.{IsCutAt};
-ghost use Rattle.dkg_words.specs.Lines.{IsParted, IsWhole, behind as behind_of, first_number as first_number_of, line_number as line_number_of, number_or_zero as number_or_zero_of, over_lines, second_number as second_number_of, until as until_of};
+ghost use Rattle.dkg_words.specs.Lines.{IsParted, IsWholeLine, behind_byte as behind_of, first_number as first_number_of, line_number as line_number_of, number_or_zero as number_or_zero_of, over_lines, second_number as second_number_of, until as until_of};
 
 use dkg_reading::number;
 use memchr::memchr;
@@ -15,7 +15,7 @@ fn parted(text: &[u8], at: u8) -> Option<(&[u8], &[u8])>
 
 /// What stands before and behind the first such byte.
 pub(crate) fn cut(text: &[u8], at: u8) -> Option<(&[u8], &[u8])>
-    ensures value { MatchOption result (IsWhole at text.now) (λ parts. IsParted at text.now parts.0.now parts.1.now) }
+    ensures value { MatchOption result (IsWholeLine at text.now) (λ parts. IsParted at text.now parts.0.now parts.1.now) }
     ensures shorter { IfSome result (λ parts. length parts.1.now < length text.now) }
 {
     parted(text, at)

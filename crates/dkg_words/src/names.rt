@@ -1,6 +1,6 @@
 //! The names of lines.
 ghost use Rattle.std.specs.Prelude.{◌≡◌};
-ghost use Rattle.dkg_words.specs.Names.{event_by, head_by, is_event as is_event_of, is_probing as is_probing_of, life_by, name_by};
+ghost use Rattle.dkg_words.specs.Names.{event_by, head_by, is_event_name as is_event_of, is_probing as is_probing_of, life_by, name_by};
 
 /// A line's name.
 #[derive(Clone, Copy, Debug, PartialEq, Eq)]

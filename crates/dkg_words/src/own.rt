@@ -1,6 +1,6 @@
 //! The warning of a message that has this node's own key.
 ghost use Rattle.std.specs.Prelude.{◌≡◌, ◌++◌, IfOk, OnOk, None, Some};
-ghost use Rattle.dkg_words.specs.Own.{behind_first, own_key, own_message, own_place, own_text, own_told};
+ghost use Rattle.dkg_words.specs.Own.{place_behind_first, own_key, own_message, own_place, own_text, own_told};
 
 use crate::bad::put_line;
 use crate::before::counted;
@@ -33,7 +33,7 @@ fn message_of(alloc: Global, key: u64) -> Mem<Vec<u8>>
 
 /// The place behind the first line feed at which some words stand.
 pub(crate) fn find(text: &[u8], words: &[u8]) -> Option<u64>
-    ensures { result ≡ behind_first text.now words.now }
+    ensures { result ≡ place_behind_first text.now words.now }
 {
     match memmem::find(text, words) {
         Some(feed) => Some(counted(feed as u64)),

@@ -1,7 +1,7 @@
 //! The writing of words: a text, a number, and a line of a script as it is shown.
 ghost use Rattle.std.specs.Prelude.{◌≡◌, ◌++◌, ◌∷◌, [], ◌<◌, OnOk, IfOk, decimal};
 ghost use Rattle.std.specs.List.{flat_map};
-ghost use Rattle.dkg_words.specs.Shown.{escaped as escaped_of, nibble as nibble_of, shown, is_plain as is_plain_of};
+ghost use Rattle.dkg_words.specs.Shown.{escaped as escaped_of, nibble as nibble_of, shown, is_printable as is_plain_of};
 
 use crate::lines::up_to;
 use dkg_values::Mem;

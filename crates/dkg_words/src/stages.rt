@@ -1,6 +1,6 @@
 //! What may follow a line, by its name.
 ghost use Rattle.std.specs.Prelude.{◌≡◌};
-ghost use Rattle.dkg_words.specs.Stages.{allows as allows_of, begins as begins_of, from_address as from_address_of, from_block as from_block_of, from_events as from_events_of, from_held as from_held_of, from_players as from_players_of, from_sync as from_sync_of, is_ready as is_ready_of, stage_after, stage_words};
+ghost use Rattle.dkg_words.specs.Stages.{allows as allows_of, begins_stage as begins_of, from_address as from_address_of, from_block as from_block_of, from_events as from_events_of, from_held as from_held_of, from_players as from_players_of, from_sync as from_sync_of, is_ready_event as is_ready_of, stage_after, stage_words};
 
 use crate::before::Before;
 use crate::names::{Name, is_event, is_probing};

@@ -7,7 +7,7 @@ use Rattle.dkg_ceremony.specs.Outcomes.{LogMap}
 use Rattle.dkg_core.specs.Including as including
 use Rattle.dkg_infos.specs.declared.fault.Fault.TheVariants.{NoMemory}
 use Rattle.dkg_verifying.specs.Including.{caching}
-use Rattle.dkg_verifying.specs.InclusionOf.{artifact_of, cached_of, result_of}
+use Rattle.dkg_verifying.specs.InclusionOf.{artifact_of, cached_of, checked_result_of}
 use Rattle.dkg_life.specs.LiveOf.{live_of}
 use Rattle.dkg_life.specs.declared.stop.Stop.TheVariants.{Fault as Faulted}
 use Rattle.dkg_life.proofs.Beside.{with_then}
@@ -79,8 +79,8 @@ returns-in_err-keep_artifact-clause-acts g c = λ disk secrets provided fixed ro
     let middle = middle_in (non_zero_u64_get c.args.terms.now.blocks_per_epoch) c.args.life.now c.requires.includes c.requires.ready.placed fixed of.blocks in
     let same = c.requires.canonical ∙ canonical_is fixed beside fence c.args.life.now middle in
     let kept = sym (c.ready.ensures.kept (ap (λ o. is_some o) c.in-Some.is)) ∙ ap option_copied c.in-Some.is in
-    rw (p.1, p.2) (within_as (λ i known. tt) (λ now known speaks. unkept_makes fixed round c.args.logs.now (live_of beside fence c.args.life.now) same of.reshare (live_of now fence c.args.life.now) (result_of c.in-Some.ready.now)
-    (known.retained ∙ ap (option_map result_of) kept) (speaks out) c.in_err-keep_artifact.field-0.0
+    rw (p.1, p.2) (within_as (λ i known. tt) (λ now known speaks. unkept_makes fixed round c.args.logs.now (live_of beside fence c.args.life.now) same of.reshare (live_of now fence c.args.life.now) (checked_result_of c.in-Some.ready.now)
+    (known.retained ∙ ap (option_map checked_result_of) kept) (speaks out) c.in_err-keep_artifact.field-0.0
     (c.in_err-keep_artifact.ensures.acts disk secrets provided fixed (live_of now fence c.args.life.now) of reads provides refl known.cached out))
     (c.in_ok-see_verified.ensures.speaks fixed round beside fence of.me (finds_by fixed by provides) middle has seen))
 
@@ -90,8 +90,8 @@ returns-in_err-keep_artifact-clause-tells g c = λ provided fixed round beside f
     let middle = middle_in (non_zero_u64_get c.args.terms.now.blocks_per_epoch) c.args.life.now c.requires.includes c.requires.ready.placed fixed of.blocks in
     let same = c.requires.canonical ∙ canonical_is fixed beside fence c.args.life.now middle in
     let kept = sym (c.ready.ensures.kept (ap (λ o. is_some o) c.in-Some.is)) ∙ ap option_copied c.in-Some.is in
-    rw (p.1, p.2) (within_as (λ i known. tt) (λ now known speaks. unkept_told fixed round c.args.logs.now (live_of beside fence c.args.life.now) same of.reshare (live_of now fence c.args.life.now) (result_of c.in-Some.ready.now)
-    (known.retained ∙ ap (option_map result_of) kept) (speaks out) c.in_err-keep_artifact.field-0.0
+    rw (p.1, p.2) (within_as (λ i known. tt) (λ now known speaks. unkept_told fixed round c.args.logs.now (live_of beside fence c.args.life.now) same of.reshare (live_of now fence c.args.life.now) (checked_result_of c.in-Some.ready.now)
+    (known.retained ∙ ap (option_map checked_result_of) kept) (speaks out) c.in_err-keep_artifact.field-0.0
     (c.in_err-keep_artifact.ensures.tells provided fixed (live_of now fence c.args.life.now) of reads provides refl known.cached out))
     (c.in_ok-see_verified.ensures.speaks fixed round beside fence of.me (finds_by fixed by provides) middle has seen))
 
@@ -119,8 +119,8 @@ returns-in_err-kept-clause-acts g c = λ disk secrets provided fixed round besid
     let middle = middle_in (non_zero_u64_get c.args.terms.now.blocks_per_epoch) c.args.life.now c.requires.includes c.requires.ready.placed fixed of.blocks in
     let same = c.requires.canonical ∙ canonical_is fixed beside fence c.args.life.now middle in
     let kept = sym (c.ready.ensures.kept (ap (λ o. is_some o) c.in-Some.is)) ∙ ap option_copied c.in-Some.is in
-    rw (p.1, p.2) (within_as (λ i known. tt) (λ now known speaks. uncopied_makes fixed round c.args.logs.now (live_of beside fence c.args.life.now) same of.reshare (live_of now fence c.args.life.now) (result_of c.in-Some.ready.now)
-    (known.retained ∙ ap (option_map result_of) kept) (speaks out) (caching c.keep_artifact.new.cache (live_of now fence c.args.life.now)) (Faulted NoMemory) refl
+    rw (p.1, p.2) (within_as (λ i known. tt) (λ now known speaks. uncopied_makes fixed round c.args.logs.now (live_of beside fence c.args.life.now) same of.reshare (live_of now fence c.args.life.now) (checked_result_of c.in-Some.ready.now)
+    (known.retained ∙ ap (option_map checked_result_of) kept) (speaks out) (caching c.keep_artifact.new.cache (live_of now fence c.args.life.now)) (Faulted NoMemory) refl
     (c.in_ok-keep_artifact.ensures.acts disk secrets provided fixed (live_of now fence c.args.life.now) of reads provides refl known.cached out))
     (c.in_ok-see_verified.ensures.speaks fixed round beside fence of.me (finds_by fixed by provides) middle has seen))
 
@@ -130,8 +130,8 @@ returns-in_err-kept-clause-tells g c = λ provided fixed round beside fence out 
     let middle = middle_in (non_zero_u64_get c.args.terms.now.blocks_per_epoch) c.args.life.now c.requires.includes c.requires.ready.placed fixed of.blocks in
     let same = c.requires.canonical ∙ canonical_is fixed beside fence c.args.life.now middle in
     let kept = sym (c.ready.ensures.kept (ap (λ o. is_some o) c.in-Some.is)) ∙ ap option_copied c.in-Some.is in
-    rw (p.1, p.2) (within_as (λ i known. tt) (λ now known speaks. uncopied_told fixed round c.args.logs.now (live_of beside fence c.args.life.now) same of.reshare (live_of now fence c.args.life.now) (result_of c.in-Some.ready.now)
-    (known.retained ∙ ap (option_map result_of) kept) (speaks out) (caching c.keep_artifact.new.cache (live_of now fence c.args.life.now)) (Faulted NoMemory) refl
+    rw (p.1, p.2) (within_as (λ i known. tt) (λ now known speaks. uncopied_told fixed round c.args.logs.now (live_of beside fence c.args.life.now) same of.reshare (live_of now fence c.args.life.now) (checked_result_of c.in-Some.ready.now)
+    (known.retained ∙ ap (option_map checked_result_of) kept) (speaks out) (caching c.keep_artifact.new.cache (live_of now fence c.args.life.now)) (Faulted NoMemory) refl
     (c.in_ok-keep_artifact.ensures.tells provided fixed (live_of now fence c.args.life.now) of reads provides refl known.cached out))
     (c.in_ok-see_verified.ensures.speaks fixed round beside fence of.me (finds_by fixed by provides) middle has seen))
 
@@ -156,8 +156,8 @@ returns-clause-acts g c = λ disk secrets provided fixed round beside fence out 
     let logs = and_some c.see_verified.new.inclusion.verification.kept c.in-Some.ready.now (λ r. r.logs ≡ c.args.logs.now) kept c.in_ok-see_verified.ensures.ready in
     with_then beside (c.in_ok-see_verified.ensures.speaks fixed round beside fence of.me (finds_by fixed by provides) middle has seen)
     (λ now known speaks. ends_with now (record now.inclusion { cached = option_map cached_of c.keep_artifact.new.cache }) (seen_cached c.see_verified.new.inclusion now.inclusion c.keep_artifact.new.cache known) refl
-    (kept_makes fixed round c.args.logs.now (live_of beside fence c.args.life.now) same of.reshare (live_of now fence c.args.life.now) (result_of c.in-Some.ready.now)
-    (known.retained ∙ ap (option_map result_of) kept) (speaks out) (caching c.keep_artifact.new.cache (live_of now fence c.args.life.now)) _
+    (kept_makes fixed round c.args.logs.now (live_of beside fence c.args.life.now) same of.reshare (live_of now fence c.args.life.now) (checked_result_of c.in-Some.ready.now)
+    (known.retained ∙ ap (option_map checked_result_of) kept) (speaks out) (caching c.keep_artifact.new.cache (live_of now fence c.args.life.now)) _
     (λ i. caching c.keep_artifact.new.cache (live_of now fence (record c.args.life.now { store = c.keep_artifact.ensures.store i })))
     (artifact_of c.in-Some-kept.artifact)
     (subst (λ (l : LogMap). Some (artifact_of c.in-Some-kept.artifact) ≡ including.cached_for (option_map cached_of c.keep_artifact.new.cache) l) (sym logs) (sym (ap (option_map artifact_of) c.in-Some-kept.is) ∙ c.in_ok-kept.ensures))
@@ -171,8 +171,8 @@ returns-clause-tells g c = λ provided fixed round beside fence out of reads by 
     let logs = and_some c.see_verified.new.inclusion.verification.kept c.in-Some.ready.now (λ r. r.logs ≡ c.args.logs.now) kept c.in_ok-see_verified.ensures.ready in
     with_then beside (c.in_ok-see_verified.ensures.speaks fixed round beside fence of.me (finds_by fixed by provides) middle has seen)
     (λ now known speaks. ends_with now (record now.inclusion { cached = option_map cached_of c.keep_artifact.new.cache }) (seen_cached c.see_verified.new.inclusion now.inclusion c.keep_artifact.new.cache known) refl
-    (kept_told fixed round c.args.logs.now (live_of beside fence c.args.life.now) same of.reshare (live_of now fence c.args.life.now) (result_of c.in-Some.ready.now)
-    (known.retained ∙ ap (option_map result_of) kept) (speaks out) (caching c.keep_artifact.new.cache (live_of now fence c.args.life.now)) _
+    (kept_told fixed round c.args.logs.now (live_of beside fence c.args.life.now) same of.reshare (live_of now fence c.args.life.now) (checked_result_of c.in-Some.ready.now)
+    (known.retained ∙ ap (option_map checked_result_of) kept) (speaks out) (caching c.keep_artifact.new.cache (live_of now fence c.args.life.now)) _
     (λ i. caching c.keep_artifact.new.cache (live_of now fence (record c.args.life.now { store = c.keep_artifact.ensures.store i })))
     (artifact_of c.in-Some-kept.artifact)
     (subst (λ (l : LogMap). Some (artifact_of c.in-Some-kept.artifact) ≡ including.cached_for (option_map cached_of c.keep_artifact.new.cache) l) (sym logs) (sym (ap (option_map artifact_of) c.in-Some-kept.is) ∙ c.in_ok-kept.ensures))

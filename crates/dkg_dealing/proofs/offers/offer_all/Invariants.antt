@@ -16,7 +16,7 @@ use Rattle.dkg_life.specs.LiveOf.{Beside, live_of}
 use Rattle.dkg_life.specs.Made.{Makes, Tells}
 use Rattle.dkg_life.specs.Moved.{Moved}
 use Rattle.dkg_life.specs.Rules.{AnswersBy}
-use Rattle.dkg_life.specs.Steps.{SameHalves, halves_of}
+use Rattle.dkg_life.specs.Steps.{SameHalves, private_halves_of}
 use Rattle.dkg_life.proofs.Offered.{IsHalf}
 use Rattle.dkg_dealing.proofs.offers.offer_all.Given as goal
 
@@ -31,11 +31,11 @@ invariant-loop-player g l = record {
   count : into_iter_len l.player-iterator ≡ length (into_iter_items l.player-iterator);
   acts : IsTrue g.D.Disk.tells → IsTrue g.X.SecretStore.tells → (c : Fixed g.row.Dir.Denot) (round : Round) (dealer : Dealer) (beside : Beside g.row.Dir.Denot) (fence : Readiness)
       → IsOf l.terms c → AnswersBy g.C.Ceremony.dealing_of g.C.Ceremony.ack_of g.C.Ceremony.check_ack_of c.rules → l.initial.life.round ≡ Some round → l.initial.life.dealer ≡ Some dealer
-      → Makes g.D.Disk.files g.D.Disk.image g.X.SecretStore.held (dealing.offers c round dealer.public (halves_of l.yielded) (live_of beside fence l.initial.life))
+      → Makes g.D.Disk.files g.D.Disk.image g.X.SecretStore.held (dealing.offers c round dealer.public (private_halves_of l.yielded) (live_of beside fence l.initial.life))
       (went (live_of beside fence l.life)) l.initial.devices l.devices l.initial.out.entries l.out.entries;
   tells : (c : Fixed g.row.Dir.Denot) (round : Round) (dealer : Dealer) (beside : Beside g.row.Dir.Denot) (fence : Readiness)
       → IsOf l.terms c → AnswersBy g.C.Ceremony.dealing_of g.C.Ceremony.ack_of g.C.Ceremony.check_ack_of c.rules → l.initial.life.round ≡ Some round → l.initial.life.dealer ≡ Some dealer
-      → Tells (dealing.offers c round dealer.public (halves_of l.yielded) (live_of beside fence l.initial.life)) (went (live_of beside fence l.life)) l.initial.out.entries l.out.entries;
+      → Tells (dealing.offers c round dealer.public (private_halves_of l.yielded) (live_of beside fence l.initial.life)) (went (live_of beside fence l.life)) l.initial.out.entries l.out.entries;
   moved : Moved g.D.Disk.tells g.D.Disk.made g.X.SecretStore.made g.D.Disk.faults g.X.SecretStore.faults l.initial.devices l.devices;
   fit : IsTrue g.D.Disk.tells → AreFit (non_zero_u32_get l.terms.limit) (g.D.Disk.image l.initial.devices.disk.now) → AreFit (non_zero_u32_get l.terms.limit) (g.D.Disk.image l.devices.disk.now);
 }

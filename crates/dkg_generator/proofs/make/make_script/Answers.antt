@@ -1,10 +1,10 @@
 use Rattle.std.proofs.Common.{◌≡◌, ◌∙◌, arith}
-use Rattle.dkg_generator.specs.Chain.{info_at}
+use Rattle.dkg_generator.specs.Chain.{made_info_at}
 use Rattle.dkg_generator.proofs.Epochs.{script_is}
 use Rattle.dkg_generator.proofs.make.make_script.Goals as goal
 
 pub loop-epoch-init : goal.loop-epoch-init
-unfolding info_at
+unfolding made_info_at
 loop-epoch-init c = record { info = c.in_ok-genesis.ensures; blocks = c.new.ensures.items; lives = c.new-2.ensures.items; events = c.new-3.ensures }
 
 pub returns : goal.returns

@@ -3,17 +3,17 @@ use Rattle.dkg_ceremony.specs.declared.round.RoundParts.{RoundParts as Round}
 use Rattle.dkg_ceremony.specs.declared.signed_log.SignedDealerLog.{SignedDealerLog}
 use Rattle.dkg_ceremony.specs.Outcomes.{outcome_of}
 use Rattle.dkg_infos.specs.NextInfos.{next_info}
-use Rattle.dkg_generator.specs.Chain.{by_dealer, included, info_after, provided, round_after}
+use Rattle.dkg_generator.specs.Chain.{by_dealer, logs_included, info_made_after, provided, round_after}
 use Rattle.dkg_generator.specs.Made.{Shown, info_bytes, log_bytes, log_payloads, next_of}
 use Rattle.dkg_generator.proofs.Plans.{first_logs}
 use Rattle.dkg_generator.proofs.plan.plan_of.Goals as goal
 
 pub returns : goal.returns
-unfolding info_after log_payloads next_of
+unfolding info_made_after log_payloads next_of
 returns c =
     let info = c.args.info.now in
     let all = c.deref.result.now in
-    let count = c.included.ensures ∙ ap (λ (shown : Shown). included c.args.number shown.epoch) c.info.view_is in
+    let count = c.included.ensures ∙ ap (λ (shown : Shown). logs_included c.args.number shown.epoch) c.info.view_is in
     let logs = ap (λ (n : ℕ). take n all) count ∙ first_logs c.args.number info all (c.deref.ensures.value ∙ c.in_ok-dealt.ensures.logs) in
     let next =
     c.in_ok-next.ensures

@@ -182,7 +182,7 @@ pub returns-in-Following-clause-acts : goal.returns-in-Following-clause-acts
 returns-in-Following-clause-acts g c = λ disk secrets provider fixed beside fence of reads by includes seen.
     within_behind beside (used_beside c.args.request beside).inclusion
     (told_ends (MakesOver g.D.Disk.files g.D.Disk.image g.X.SecretStore.held) (used_beside c.args.request beside) fence c.args.life.now (record c.args.inclusion.now { told = c.post.new.told })
-    (seen_used c.args.request beside c.args.inclusion.now seen c.post.new.told c.in_ok-post.ensures.done) c.args.request c.answer_none.result (including.asks fixed c.args.request (live_of beside fence c.args.life.now)) (c.args.devices.now, c.args.out.now.entries) (c.args.devices.now, c.answer_none.new.out.entries)
+    (seen_used c.args.request beside c.args.inclusion.now seen c.post.new.told c.in_ok-post.ensures.done) c.args.request c.answer_none.result (including.asks_request fixed c.args.request (live_of beside fence c.args.life.now)) (c.args.devices.now, c.args.out.now.entries) (c.args.devices.now, c.answer_none.new.out.entries)
     (Info (Unavailable Follows)) (GaveNone Follows) refl c.answer_none.new.told c.answer_none.ensures.told
     (joined_as (MakesOver g.D.Disk.files g.D.Disk.image g.X.SecretStore.held) {x = (c.args.devices.now, c.args.out.now.entries)} {y = (c.args.devices.now, c.answer_none.new.out.entries)} (asks_following c.args.request beside fixed fence c.args.life.now c.in-Following.is)
     (speaks_makes (including.answers_none c.args.request Follows (live_of (used_beside c.args.request beside) fence c.args.life.now)) _ (g.D.Disk.files c.args.devices.now.disk.now) (g.D.Disk.image c.args.devices.now.disk.now)
@@ -192,7 +192,7 @@ pub returns-in-Following-clause-tells : goal.returns-in-Following-clause-tells
 returns-in-Following-clause-tells g c = λ provider fixed beside fence of reads by includes seen.
     within_behind beside (used_beside c.args.request beside).inclusion
     (told_ends TellsOver (used_beside c.args.request beside) fence c.args.life.now (record c.args.inclusion.now { told = c.post.new.told })
-    (seen_used c.args.request beside c.args.inclusion.now seen c.post.new.told c.in_ok-post.ensures.done) c.args.request c.answer_none.result (including.asks fixed c.args.request (live_of beside fence c.args.life.now)) c.args.out.now.entries c.answer_none.new.out.entries
+    (seen_used c.args.request beside c.args.inclusion.now seen c.post.new.told c.in_ok-post.ensures.done) c.args.request c.answer_none.result (including.asks_request fixed c.args.request (live_of beside fence c.args.life.now)) c.args.out.now.entries c.answer_none.new.out.entries
     (Info (Unavailable Follows)) (GaveNone Follows) refl c.answer_none.new.told c.answer_none.ensures.told
     (joined_as TellsOver {x = c.args.out.now.entries} {y = c.answer_none.new.out.entries} (asks_following c.args.request beside fixed fence c.args.life.now c.in-Following.is)
     (speaks_tells (including.answers_none c.args.request Follows (live_of (used_beside c.args.request beside) fence c.args.life.now)) _ (c.answer_none.ensures.speaks (live_of (used_beside c.args.request beside) fence c.args.life.now)))))

@@ -4,7 +4,7 @@ use Rattle.std.specs.Prelude.{option_map}
 use Rattle.dkg_artifact.specs.declared.job.Job.{Job}
 use Rattle.dkg_core.specs.Including as including
 use Rattle.dkg_core.specs.Live as core
-use Rattle.dkg_verifying.specs.InclusionOf.{job_of, result_of}
+use Rattle.dkg_verifying.specs.InclusionOf.{job_of, checked_result_of}
 use Rattle.dkg_life.specs.LiveOf.{live_of}
 use Rattle.dkg_inclusion.proofs.Asking.{MakesOver, TellsOver, joined_as, makes_joins, tells_joins, works_by}
 use Rattle.dkg_life.proofs.Blamed.{blamed_behind}
@@ -22,12 +22,12 @@ use Rattle.dkg_inclusion.proofs.requests.work.Goals as goal
 pub returns-then-is_none-clause-acts : goal.returns-then-is_none-clause-acts
 returns-then-is_none-clause-acts g c = λ disk secrets provider fixed beside fence of reads by includes seen.
     let none : c.args.inclusion.now.verification.running ≡ None = search rules in
-    ends_beside beside seen refl (joined_as (MakesOver g.D.Disk.files g.D.Disk.image g.X.SecretStore.held) {x = (c.args.devices.now, c.args.out.now.entries)} {y = (c.args.devices.now, c.args.out.now.entries)} (works_by fixed (option_map result_of c.args.done) (live_of beside fence c.args.life.now) false (ap (λ (j : Option core.Job). is_some j) seen.running ∙ ap (λ (j : Option Job). is_some (option_map job_of j)) none)) (makes_nothing (g.D.Disk.files c.args.devices.now.disk.now) (g.D.Disk.image c.args.devices.now.disk.now) _ refl))
+    ends_beside beside seen refl (joined_as (MakesOver g.D.Disk.files g.D.Disk.image g.X.SecretStore.held) {x = (c.args.devices.now, c.args.out.now.entries)} {y = (c.args.devices.now, c.args.out.now.entries)} (works_by fixed (option_map checked_result_of c.args.done) (live_of beside fence c.args.life.now) false (ap (λ (j : Option core.Job). is_some j) seen.running ∙ ap (λ (j : Option Job). is_some (option_map job_of j)) none)) (makes_nothing (g.D.Disk.files c.args.devices.now.disk.now) (g.D.Disk.image c.args.devices.now.disk.now) _ refl))
 
 pub returns-then-is_none-clause-tells : goal.returns-then-is_none-clause-tells
 returns-then-is_none-clause-tells g c = λ provider fixed beside fence of reads by includes seen.
     let none : c.args.inclusion.now.verification.running ≡ None = search rules in
-    ends_beside beside seen refl (joined_as TellsOver {x = c.args.out.now.entries} {y = c.args.out.now.entries} (works_by fixed (option_map result_of c.args.done) (live_of beside fence c.args.life.now) false (ap (λ (j : Option core.Job). is_some j) seen.running ∙ ap (λ (j : Option Job). is_some (option_map job_of j)) none)) (goes_told g.row.Dir.Denot (live_of beside fence c.args.life.now) c.args.out.now.entries))
+    ends_beside beside seen refl (joined_as TellsOver {x = c.args.out.now.entries} {y = c.args.out.now.entries} (works_by fixed (option_map checked_result_of c.args.done) (live_of beside fence c.args.life.now) false (ap (λ (j : Option core.Job). is_some j) seen.running ∙ ap (λ (j : Option Job). is_some (option_map job_of j)) none)) (goes_told g.row.Dir.Denot (live_of beside fence c.args.life.now) c.args.out.now.entries))
 
 pub returns-then-is_none-clause-moved : goal.returns-then-is_none-clause-moved
 returns-then-is_none-clause-moved g c = moved_none g.D.Disk.tells g.D.Disk.made g.X.SecretStore.made g.D.Disk.faults g.X.SecretStore.faults g.met.D.Disk.made_none g.met.X.SecretStore.made_none c.args.devices.now
@@ -41,16 +41,16 @@ pub returns-clause-acts : goal.returns-clause-acts
 returns-clause-acts g c = λ disk secrets provider fixed beside fence of reads by includes seen.
     let some : is_some (option_map job_of c.args.inclusion.now.verification.running) ≡ true = search rules in
     within_then beside (c.in_ok-end_verifying.ensures.acts disk secrets provider fixed beside fence of reads by includes seen)
-    (λ now is made. within_as (λ i was. was) (λ later was next. joined_as (MakesOver g.D.Disk.files g.D.Disk.image g.X.SecretStore.held) {x = (c.args.devices.now, c.args.out.now.entries)} {y = (c.advance.new.devices, c.advance.new.out.entries)} (works_by fixed (option_map result_of c.args.done) (live_of beside fence c.args.life.now) true (ap (λ (j : Option core.Job). is_some j) seen.running ∙ some))
-    ((makes_joins g.D.Disk.files g.D.Disk.image g.X.SecretStore.held).next (including.ends_verifying fixed (option_map result_of c.args.done) (live_of beside fence c.args.life.now)) (λ s. including.advanced fixed s) (live_of now fence c.end_verifying.new.life) _ (c.args.devices.now, c.args.out.now.entries) (c.end_verifying.new.devices, c.end_verifying.new.out.entries) (c.advance.new.devices, c.advance.new.out.entries) made next))
+    (λ now is made. within_as (λ i was. was) (λ later was next. joined_as (MakesOver g.D.Disk.files g.D.Disk.image g.X.SecretStore.held) {x = (c.args.devices.now, c.args.out.now.entries)} {y = (c.advance.new.devices, c.advance.new.out.entries)} (works_by fixed (option_map checked_result_of c.args.done) (live_of beside fence c.args.life.now) true (ap (λ (j : Option core.Job). is_some j) seen.running ∙ some))
+    ((makes_joins g.D.Disk.files g.D.Disk.image g.X.SecretStore.held).next (including.ends_verifying fixed (option_map checked_result_of c.args.done) (live_of beside fence c.args.life.now)) (λ s. including.advanced fixed s) (live_of now fence c.end_verifying.new.life) _ (c.args.devices.now, c.args.out.now.entries) (c.end_verifying.new.devices, c.end_verifying.new.out.entries) (c.advance.new.devices, c.advance.new.out.entries) made next))
     (c.advance.ensures.acts disk secrets provider fixed now fence of reads by (includes_on fixed (c.end_verifying.ensures.stays.provider provider) includes) is))
 
 pub returns-clause-tells : goal.returns-clause-tells
 returns-clause-tells g c = λ provider fixed beside fence of reads by includes seen.
     let some : is_some (option_map job_of c.args.inclusion.now.verification.running) ≡ true = search rules in
     within_then beside (c.in_ok-end_verifying.ensures.tells provider fixed beside fence of reads by includes seen)
-    (λ now is made. within_as (λ i was. was) (λ later was next. joined_as TellsOver {x = c.args.out.now.entries} {y = c.advance.new.out.entries} (works_by fixed (option_map result_of c.args.done) (live_of beside fence c.args.life.now) true (ap (λ (j : Option core.Job). is_some j) seen.running ∙ some))
-    (tells_joins.next (including.ends_verifying fixed (option_map result_of c.args.done) (live_of beside fence c.args.life.now)) (λ s. including.advanced fixed s) (live_of now fence c.end_verifying.new.life) _ c.args.out.now.entries c.end_verifying.new.out.entries c.advance.new.out.entries made next))
+    (λ now is made. within_as (λ i was. was) (λ later was next. joined_as TellsOver {x = c.args.out.now.entries} {y = c.advance.new.out.entries} (works_by fixed (option_map checked_result_of c.args.done) (live_of beside fence c.args.life.now) true (ap (λ (j : Option core.Job). is_some j) seen.running ∙ some))
+    (tells_joins.next (including.ends_verifying fixed (option_map checked_result_of c.args.done) (live_of beside fence c.args.life.now)) (λ s. including.advanced fixed s) (live_of now fence c.end_verifying.new.life) _ c.args.out.now.entries c.end_verifying.new.out.entries c.advance.new.out.entries made next))
     (c.advance.ensures.tells provider fixed now fence of reads by (includes_on fixed (c.end_verifying.ensures.stays.provider provider) includes) is))
 
 pub returns-clause-moved : goal.returns-clause-moved
@@ -86,16 +86,16 @@ pub returns-in_err-end_verifying-clause-acts : goal.returns-in_err-end_verifying
 returns-in_err-end_verifying-clause-acts g c = λ disk secrets provider fixed beside fence of reads by includes seen.
     let p = err_from_is_err_and c.from_residual.result c.from_residual.ensures.1 in
     let some : is_some (option_map job_of c.args.inclusion.now.verification.running) ≡ true = search rules in
-    rw (p.1, p.2) (within_as (λ i was. was) (λ now was made. joined_as (MakesOver g.D.Disk.files g.D.Disk.image g.X.SecretStore.held) {x = (c.args.devices.now, c.args.out.now.entries)} {y = (c.end_verifying.new.devices, c.end_verifying.new.out.entries)} (works_by fixed (option_map result_of c.args.done) (live_of beside fence c.args.life.now) true (ap (λ (j : Option core.Job). is_some j) seen.running ∙ some))
-    ((makes_joins g.D.Disk.files g.D.Disk.image g.X.SecretStore.held).early (including.ends_verifying fixed (option_map result_of c.args.done) (live_of beside fence c.args.life.now)) (λ s. including.advanced fixed s) c.in_err-end_verifying.field-0.0 (c.args.devices.now, c.args.out.now.entries) (c.end_verifying.new.devices, c.end_verifying.new.out.entries) made))
+    rw (p.1, p.2) (within_as (λ i was. was) (λ now was made. joined_as (MakesOver g.D.Disk.files g.D.Disk.image g.X.SecretStore.held) {x = (c.args.devices.now, c.args.out.now.entries)} {y = (c.end_verifying.new.devices, c.end_verifying.new.out.entries)} (works_by fixed (option_map checked_result_of c.args.done) (live_of beside fence c.args.life.now) true (ap (λ (j : Option core.Job). is_some j) seen.running ∙ some))
+    ((makes_joins g.D.Disk.files g.D.Disk.image g.X.SecretStore.held).early (including.ends_verifying fixed (option_map checked_result_of c.args.done) (live_of beside fence c.args.life.now)) (λ s. including.advanced fixed s) c.in_err-end_verifying.field-0.0 (c.args.devices.now, c.args.out.now.entries) (c.end_verifying.new.devices, c.end_verifying.new.out.entries) made))
     (c.in_err-end_verifying.ensures.acts disk secrets provider fixed beside fence of reads by includes seen))
 
 pub returns-in_err-end_verifying-clause-tells : goal.returns-in_err-end_verifying-clause-tells
 returns-in_err-end_verifying-clause-tells g c = λ provider fixed beside fence of reads by includes seen.
     let p = err_from_is_err_and c.from_residual.result c.from_residual.ensures.1 in
     let some : is_some (option_map job_of c.args.inclusion.now.verification.running) ≡ true = search rules in
-    rw (p.1, p.2) (within_as (λ i was. was) (λ now was made. joined_as TellsOver {x = c.args.out.now.entries} {y = c.end_verifying.new.out.entries} (works_by fixed (option_map result_of c.args.done) (live_of beside fence c.args.life.now) true (ap (λ (j : Option core.Job). is_some j) seen.running ∙ some))
-    (tells_joins.early (including.ends_verifying fixed (option_map result_of c.args.done) (live_of beside fence c.args.life.now)) (λ s. including.advanced fixed s) c.in_err-end_verifying.field-0.0 c.args.out.now.entries c.end_verifying.new.out.entries made))
+    rw (p.1, p.2) (within_as (λ i was. was) (λ now was made. joined_as TellsOver {x = c.args.out.now.entries} {y = c.end_verifying.new.out.entries} (works_by fixed (option_map checked_result_of c.args.done) (live_of beside fence c.args.life.now) true (ap (λ (j : Option core.Job). is_some j) seen.running ∙ some))
+    (tells_joins.early (including.ends_verifying fixed (option_map checked_result_of c.args.done) (live_of beside fence c.args.life.now)) (λ s. including.advanced fixed s) c.in_err-end_verifying.field-0.0 c.args.out.now.entries c.end_verifying.new.out.entries made))
     (c.in_err-end_verifying.ensures.tells provider fixed beside fence of reads by includes seen))
 
 pub returns-in_err-end_verifying-clause-ready : goal.returns-in_err-end_verifying-clause-ready

@@ -25,21 +25,21 @@ use Rattle.dkg_inclusion.proofs.scanning.ask_for.Goals as goal
 pub returns-in-Some-clause-acts : goal.returns-in-Some-clause-acts
 returns-in-Some-clause-acts g c = λ disk secrets provider fixed round beside fence of reads by includes has seen.
     told_ends (MakesOver g.D.Disk.files g.D.Disk.image g.X.SecretStore.held) beside fence c.args.life.now c.args.inclusion.now seen c.args.request c.answer.result
-    (including.asks_for fixed round c.args.request c.args.logs (live_of beside fence c.args.life.now)) (c.args.devices.now, c.args.out.now.entries) (c.args.devices.now, c.answer.new.out.entries)
+    (including.asks_logs fixed round c.args.request c.args.logs (live_of beside fence c.args.life.now)) (c.args.devices.now, c.args.out.now.entries) (c.args.devices.now, c.answer.new.out.entries)
     (Info (Available (option_map info_payload c.in-Some.artifact.now.info))) (GaveInfo (option_map info_payload c.in-Some.artifact.now.info)) refl c.answer.new.told c.answer.ensures.told
     (joined_as (MakesOver g.D.Disk.files g.D.Disk.image g.X.SecretStore.held) {x = (c.args.devices.now, c.args.out.now.entries)} {y = (c.args.devices.now, c.answer.new.out.entries)}
     (from_cache fixed round c.args.request c.args.logs beside fence c.args.life.now c.args.inclusion.now seen (c.in-Some.ensures.exactly.0 refl) c.in-Some.artifact.now (c.in-Some.ensures.kept refl))
-    (speaks_makes (including.answers fixed c.args.request (artifact_of c.in-Some.artifact.now) (live_of beside fence c.args.life.now)) _ (g.D.Disk.files c.args.devices.now.disk.now) (g.D.Disk.image c.args.devices.now.disk.now)
+    (speaks_makes (including.answers_request fixed c.args.request (artifact_of c.in-Some.artifact.now) (live_of beside fence c.args.life.now)) _ (g.D.Disk.files c.args.devices.now.disk.now) (g.D.Disk.image c.args.devices.now.disk.now)
     (c.answer.ensures.speaks fixed (live_of beside fence c.args.life.now) includes.spelling_is)))
 
 pub returns-in-Some-clause-tells : goal.returns-in-Some-clause-tells
 returns-in-Some-clause-tells g c = λ provider fixed round beside fence of reads by includes has seen.
     told_ends TellsOver beside fence c.args.life.now c.args.inclusion.now seen c.args.request c.answer.result
-    (including.asks_for fixed round c.args.request c.args.logs (live_of beside fence c.args.life.now)) c.args.out.now.entries c.answer.new.out.entries
+    (including.asks_logs fixed round c.args.request c.args.logs (live_of beside fence c.args.life.now)) c.args.out.now.entries c.answer.new.out.entries
     (Info (Available (option_map info_payload c.in-Some.artifact.now.info))) (GaveInfo (option_map info_payload c.in-Some.artifact.now.info)) refl c.answer.new.told c.answer.ensures.told
     (joined_as TellsOver {x = c.args.out.now.entries} {y = c.answer.new.out.entries}
     (from_cache fixed round c.args.request c.args.logs beside fence c.args.life.now c.args.inclusion.now seen (c.in-Some.ensures.exactly.0 refl) c.in-Some.artifact.now (c.in-Some.ensures.kept refl))
-    (speaks_tells (including.answers fixed c.args.request (artifact_of c.in-Some.artifact.now) (live_of beside fence c.args.life.now)) _ (c.answer.ensures.speaks fixed (live_of beside fence c.args.life.now) includes.spelling_is)))
+    (speaks_tells (including.answers_request fixed c.args.request (artifact_of c.in-Some.artifact.now) (live_of beside fence c.args.life.now)) _ (c.answer.ensures.speaks fixed (live_of beside fence c.args.life.now) includes.spelling_is)))
 
 pub returns-in-Some-clause-ready : goal.returns-in-Some-clause-ready
 returns-in-Some-clause-ready g c = in_any c.answer.result c.requires.ready
@@ -59,7 +59,7 @@ returns-in-Some-clause-causes g c = want_blames _ _ _ c.answer.result c.answer.e
 pub returns-in-Some-ready-clause-acts : goal.returns-in-Some-ready-clause-acts
 returns-in-Some-ready-clause-acts g c = λ disk secrets provider fixed round beside fence of reads by includes has seen.
     rw c.answer_by.ensures.store (cached_ends (MakesOver g.D.Disk.files g.D.Disk.image g.X.SecretStore.held) beside fence c.args.life.now c.args.inclusion.now seen c.args.request c.answer_by.result
-    (including.asks_for fixed round c.args.request c.args.logs (live_of beside fence c.args.life.now)) (c.args.devices.now, c.args.out.now.entries) (c.answer_by.new.devices, c.answer_by.new.out.entries)
+    (including.asks_logs fixed round c.args.request c.args.logs (live_of beside fence c.args.life.now)) (c.args.devices.now, c.args.out.now.entries) (c.answer_by.new.devices, c.answer_by.new.out.entries)
     c.answer_by.new.cache c.answer_by.new.told c.in-Some-ready.ready.now.logs c.answer_by.ensures.told
     (joined_as (MakesOver g.D.Disk.files g.D.Disk.image g.X.SecretStore.held) {x = (c.args.devices.now, c.args.out.now.entries)} {y = (c.answer_by.new.devices, c.answer_by.new.out.entries)}
     (from_kept fixed round c.args.request c.args.logs beside fence c.args.life.now c.args.inclusion.now seen (λ here. not_some c.get.result c.in_default.not-Some (c.get.ensures.exactly.1 here)) (c.in-Some-ready.ensures.exactly.0 refl)
@@ -69,7 +69,7 @@ returns-in-Some-ready-clause-acts g c = λ disk secrets provider fixed round bes
 pub returns-in-Some-ready-clause-tells : goal.returns-in-Some-ready-clause-tells
 returns-in-Some-ready-clause-tells g c = λ provider fixed round beside fence of reads by includes has seen.
     rw c.answer_by.ensures.store (cached_ends TellsOver beside fence c.args.life.now c.args.inclusion.now seen c.args.request c.answer_by.result
-    (including.asks_for fixed round c.args.request c.args.logs (live_of beside fence c.args.life.now)) c.args.out.now.entries c.answer_by.new.out.entries
+    (including.asks_logs fixed round c.args.request c.args.logs (live_of beside fence c.args.life.now)) c.args.out.now.entries c.answer_by.new.out.entries
     c.answer_by.new.cache c.answer_by.new.told c.in-Some-ready.ready.now.logs c.answer_by.ensures.told
     (joined_as TellsOver {x = c.args.out.now.entries} {y = c.answer_by.new.out.entries}
     (from_kept fixed round c.args.request c.args.logs beside fence c.args.life.now c.args.inclusion.now seen (λ here. not_some c.get.result c.in_default.not-Some (c.get.ensures.exactly.1 here)) (c.in-Some-ready.ensures.exactly.0 refl)

@@ -56,7 +56,7 @@ pub returns-in_default-pop-clause-including : goal.returns-in_default-pop-clause
 returns-in_default-pop-clause-including g c = ready_requests g.C.Ceremony.check_log_of g.C.Ceremony.dealing_of g.C.Ceremony.finish_of (non_zero_u64_get c.args.terms.now.blocks_per_epoch) c.args.life.now c.args.inclusion.now c.requires.may.0 c.requires.including c.pop.new.self
 
 pub returns-in_default-pop-clause-left : goal.returns-in_default-pop-clause-left
-returns-in_default-pop-clause-left g c = λ some. (at_none _ c.pop.result (none_of c.pop.result c.in_default-pop.not-Some) c.pop.ensures.none).1 ∙ ap (λ (rs : List (requested.Request g.row.Dir.Denot)). behind_first rs) (sym (at_none _ c.pop.result (none_of c.pop.result c.in_default-pop.not-Some) c.pop.ensures.none).0)
+returns-in_default-pop-clause-left g c = λ some. (at_none _ c.pop.result (none_of c.pop.result c.in_default-pop.not-Some) c.pop.ensures.none).1 ∙ ap (λ (rs : List (requested.WaitingRequest g.row.Dir.Denot)). behind_first rs) (sym (at_none _ c.pop.result (none_of c.pop.result c.in_default-pop.not-Some) c.pop.ensures.none).0)
 
 -- NO MEMORY
 
@@ -98,7 +98,7 @@ returns-then-is_need-clause-including g c =
     c.requires.may.2 stands.0 c.in-Some.round c.in-Some.is stands.1
 
 pub returns-then-is_need-clause-left : goal.returns-then-is_need-clause-left
-returns-then-is_need-clause-left g c = λ some. ap (λ (rs : List (requested.Request g.row.Dir.Denot)). behind_first rs) (sym c.in-Some-pop.ensures.first)
+returns-then-is_need-clause-left g c = λ some. ap (λ (rs : List (requested.WaitingRequest g.row.Dir.Denot)). behind_first rs) (sym c.in-Some-pop.ensures.first)
 
 -- IT IS ANSWERED
 
@@ -133,7 +133,7 @@ returns-clause-causes g c = c.take_answer.ensures.causes
 
 pub returns-clause-left : goal.returns-clause-left
 returns-clause-left g c = in_any c.take_answer.result (λ some. ap (λ (x : Inclusion g.row.C.Denot g.row.Dir.Denot g.row.C-Signer.Denot g.row.Dir-Cfg.Denot). x.requests) c.take_answer.ensures.rest
-    ∙ ap (λ (rs : List (requested.Request g.row.Dir.Denot)). behind_first rs) (sym c.in-Some-pop.ensures.first))
+    ∙ ap (λ (rs : List (requested.WaitingRequest g.row.Dir.Denot)). behind_first rs) (sym c.in-Some-pop.ensures.first))
 
 pub take_answer-requires-clause-ready : goal.take_answer-requires-clause-ready
 take_answer-requires-clause-ready g c = c.requires.ready

@@ -116,7 +116,7 @@ returns-in_ok-logs-in-Logs-clause-acts g c = λ disk secrets provider fixed roun
     c.in_ok-logs-in-Logs.ensures ∙ ap (λ (l : LogMap). filled_by l c.in-Logs.found)
     (c.in_ok-canonical-in-Logs.ensures.canonical fixed beside fence (middle_of (non_zero_u64_get c.args.terms.now.blocks_per_epoch) c.args.life.now fixed of.blocks c.requires.ready.placed c.requires.may.0)) in
     within_as (λ i is. is) (λ now is made. joined_as (MakesOver g.D.Disk.files g.D.Disk.image g.X.SecretStore.held) {x = (c.args.devices.now, c.args.out.now.entries)} {y = (c.ask_for.new.devices, c.ask_for.new.out.entries)} (ap (λ (x : declared.Fed). on_fed fixed round c.args.request (fed_of x) (live_of beside fence c.args.life.now)) c.in-Logs.is
-    ∙ ap (λ (l : LogMap). including.asks_for fixed round c.args.request l (live_of beside fence c.args.life.now)) (sym of_logs)) made)
+    ∙ ap (λ (l : LogMap). including.asks_logs fixed round c.args.request l (live_of beside fence c.args.life.now)) (sym of_logs)) made)
     (c.ask_for.ensures.acts disk secrets provider fixed round beside fence of reads by includes has seen)
 
 pub returns-in_ok-logs-in-Logs-clause-tells : goal.returns-in_ok-logs-in-Logs-clause-tells
@@ -125,7 +125,7 @@ returns-in_ok-logs-in-Logs-clause-tells g c = λ provider fixed round beside fen
     c.in_ok-logs-in-Logs.ensures ∙ ap (λ (l : LogMap). filled_by l c.in-Logs.found)
     (c.in_ok-canonical-in-Logs.ensures.canonical fixed beside fence (middle_of (non_zero_u64_get c.args.terms.now.blocks_per_epoch) c.args.life.now fixed of.blocks c.requires.ready.placed c.requires.may.0)) in
     within_as (λ i is. is) (λ now is made. joined_as TellsOver {x = c.args.out.now.entries} {y = c.ask_for.new.out.entries} (ap (λ (x : declared.Fed). on_fed fixed round c.args.request (fed_of x) (live_of beside fence c.args.life.now)) c.in-Logs.is
-    ∙ ap (λ (l : LogMap). including.asks_for fixed round c.args.request l (live_of beside fence c.args.life.now)) (sym of_logs)) made)
+    ∙ ap (λ (l : LogMap). including.asks_logs fixed round c.args.request l (live_of beside fence c.args.life.now)) (sym of_logs)) made)
     (c.ask_for.ensures.tells provider fixed round beside fence of reads by includes has seen)
 
 pub returns-in_ok-logs-in-Logs-clause-moved : goal.returns-in_ok-logs-in-Logs-clause-moved

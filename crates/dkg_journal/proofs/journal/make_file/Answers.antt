@@ -2,7 +2,7 @@ use Rattle.std.proofs.Common.{ℕ, Ok, Option, refl, sym, subst}
 use Rattle.std.proofs.lemmas.Result.{err_from_is_err_and}
 use Rattle.dkg_journal.specs.Disk.{Follows, Inside, Did}
 use Rattle.dkg_journal.specs.Fuse.{HasRun}
-use Rattle.dkg_journal.specs.Steps.{IsNext, SegmentAt, make_calls, start}
+use Rattle.dkg_journal.specs.Steps.{IsNextAppend, SegmentAt, make_calls, place_or_start}
 use Rattle.dkg_journal.specs.declared.call.JournalError.{JournalError}
 use Rattle.dkg_journal.specs.declared.disk.Op.{Op}
 use Rattle.dkg_journal.proofs.Append.{keeps_none, made_segment, made_keeps, next_segment}
@@ -12,26 +12,26 @@ use Rattle.dkg_journal.proofs.journal.make_file.Goals as goal
 
 pub returns-in-Some-clause-open : goal.returns-in-Some-clause-open
 returns-in-Some-clause-open g c = λ tells next.
-    let at = next_segment c.args.section _ _ _ (subst (λ (p : Option ℕ). IsNext c.args.section p (g.D.Disk.files c.args.disk.now) (g.D.Disk.image c.args.disk.now)) c.in-Some.is next) in
-    subst (λ (p : Option ℕ). SegmentAt c.args.section (start p) (g.D.Disk.files c.args.disk.now) (g.D.Disk.image c.args.disk.now)) (sym c.in-Some.is) at
+    let at = next_segment c.args.section _ _ _ (subst (λ (p : Option ℕ). IsNextAppend c.args.section p (g.D.Disk.files c.args.disk.now) (g.D.Disk.image c.args.disk.now)) c.in-Some.is next) in
+    subst (λ (p : Option ℕ). SegmentAt c.args.section (place_or_start p) (g.D.Disk.files c.args.disk.now) (g.D.Disk.image c.args.disk.now)) (sym c.in-Some.is) at
 
 pub returns-in-Some-clause-images : goal.returns-in-Some-clause-images
 returns-in-Some-clause-images g c = λ next. keeps_none _ _
 
 pub returns-in_err-perform-in-None-clause-images : goal.returns-in_err-perform-in-None-clause-images
 returns-in_err-perform-in-None-clause-images g c = λ next.
-    let none = subst (λ (p : Option ℕ). IsNext c.args.section p (g.D.Disk.files c.args.disk.now) (g.D.Disk.image c.args.disk.now)) c.in-None.is next in
+    let none = subst (λ (p : Option ℕ). IsNextAppend c.args.section p (g.D.Disk.files c.args.disk.now) (g.D.Disk.image c.args.disk.now)) c.in-None.is next in
     made_keeps c.args.section _ _ _ none (subst (λ (op : Op). Follows (Inside op) (g.D.Disk.image c.args.disk.now) (g.D.Disk.image c.perform.new.disk)) c.requires c.perform.ensures.crash)
 
 pub returns-in_ok-perform-in-None-clause-images : goal.returns-in_ok-perform-in-None-clause-images
 returns-in_ok-perform-in-None-clause-images g c = λ next.
-    let none = subst (λ (p : Option ℕ). IsNext c.args.section p (g.D.Disk.files c.args.disk.now) (g.D.Disk.image c.args.disk.now)) c.in-None.is next in
+    let none = subst (λ (p : Option ℕ). IsNextAppend c.args.section p (g.D.Disk.files c.args.disk.now) (g.D.Disk.image c.args.disk.now)) c.in-None.is next in
     made_keeps c.args.section _ _ _ none (subst (λ (op : Op). Follows (Inside op) (g.D.Disk.image c.args.disk.now) (g.D.Disk.image c.perform.new.disk)) c.requires c.perform.ensures.crash)
 
 pub returns-in_ok-perform-in-None-clause-open : goal.returns-in_ok-perform-in-None-clause-open
 returns-in_ok-perform-in-None-clause-open g c = λ tells next.
     let at = made_segment c.args.section _ _ _ (subst (λ (op : Op). Did op (g.D.Disk.files c.args.disk.now) (g.D.Disk.files c.perform.new.disk) (g.D.Disk.image c.perform.new.disk)) c.requires (c.in_ok-perform-in-None.ensures.done tells)) in
-    subst (λ (p : Option ℕ). SegmentAt c.args.section (start p) (g.D.Disk.files c.perform.new.disk) (g.D.Disk.image c.perform.new.disk)) (sym c.in-None.is) at
+    subst (λ (p : Option ℕ). SegmentAt c.args.section (place_or_start p) (g.D.Disk.files c.perform.new.disk) (g.D.Disk.image c.perform.new.disk)) (sym c.in-None.is) at
 
 pub returns-in_err-perform-in-None-clause-sound : goal.returns-in_err-perform-in-None-clause-sound
 returns-in_err-perform-in-None-clause-sound g c = λ next sound.

@@ -1,7 +1,7 @@
 use Rattle.std.proofs.Common.{◌≡◌, [], ap, inl, Ok, Err, rules}
 use Rattle.dkg_script.specs.Promise.{Adds}
 use Rattle.dkg_store.specs.declared.devices.Devices.{Devices}
-use Rattle.dkg_lives.specs.Causes.{HasCause}
+use Rattle.dkg_lives.specs.Causes.{HasDeviceCause}
 use Rattle.dkg_lives.specs.Epochs.{IsChecked}
 use Rattle.dkg_promises.specs.Found.{IsFoundRecord}
 use Rattle.dkg_lives.specs.Given.{AreBytes}
@@ -88,7 +88,7 @@ returns-in-Err-clause-promise g c =
     (runs_faulted by_worlds c.args.script.now (λ its. its ≡ g.D.Disk.files c.args.disk.now) _ _ _ c.in-Err.fault c.tell.result (c.in-Err.ensures.run told.0 told.1 stands image left)
     (tells_over c.in-Err.fault c.tell.result c.run_all.new.out.entries c.tell.new.out.entries [] (g.X.SecretStore.held c.run_all.new.devices.secrets.now) c.run_all.new.devices.fuse image (c.tell.ensures []))))
     (λ disk. g.met.D.Disk.reads c.args.disk.now disk) (λ disk. g.met.D.Disk.reads c.run_all.new.devices.disk.now disk)
-    (known_told (λ f. HasCause f o.disk_rose o.secrets_rose) c.in-Err.fault c.tell.result c.run_all.new.out.entries c.tell.new.out.entries [] tt (c.tell.ensures []) c.in-Err.ensures.causes)
+    (known_told (λ f. HasDeviceCause f o.disk_rose o.secrets_rose) c.in-Err.fault c.tell.result c.run_all.new.out.entries c.tell.new.out.entries [] tt (c.tell.ensures []) c.in-Err.ensures.causes)
     (λ disk. known_told (IsFoundRecord (limit_in c.args.script.now) o.now.files) c.in-Err.fault c.tell.result c.run_all.new.out.entries c.tell.new.out.entries [] (record { so = tt }) (c.tell.ensures []) (c.in-Err.ensures.found disk))
     c.run_all.ensures.fit
     tt

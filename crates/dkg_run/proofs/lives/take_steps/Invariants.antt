@@ -5,7 +5,7 @@ use Rattle.std.specs.Int.NonZero.{non_zero_u32_get}
 use Rattle.dkg_infos.specs.declared.directory.Unit as directory
 use Rattle.dkg_store.specs.Corrupt.{AreFit}
 use Rattle.dkg_core.specs.Live.{Live}
-use Rattle.dkg_lives.specs.Epochs.{IsAt, IsLifeInForm}
+use Rattle.dkg_lives.specs.Epochs.{IsAtEvent, IsLifeInForm}
 use Rattle.dkg_lives.specs.Given.{Lived}
 use Rattle.dkg_lives.specs.Moving.{Went, world_of}
 use Rattle.dkg_node.specs.Nodes.{IsOfLife, IsReadyNode, IsStepHere, IsView}
@@ -23,10 +23,10 @@ invariant-loop-i g l = record {
   went : Went g.D.Disk.tells g.D.Disk.made g.X.SecretStore.made g.D.Disk.faults g.X.SecretStore.faults l.initial.devices l.devices [];
   fit : IsTrue g.D.Disk.tells → AreFit (non_zero_u32_get l.initial.node.actor.terms.limit) (g.D.Disk.image l.initial.devices.disk.now)
       → AreFit (non_zero_u32_get l.initial.node.actor.terms.limit) (g.D.Disk.image l.devices.disk.now);
-  lines : (lived : Lived) (st : Live directory.Unit) (picks : List ℕ) → IsLifeInForm lived → IsStepHere lived l.initial.node l.initial.source.blocks.now l.life → IsView l.initial.node st → IsAt lived 0 st
+  lines : (lived : Lived) (st : Live directory.Unit) (picks : List ℕ) → IsLifeInForm lived → IsStepHere lived l.initial.node l.initial.source.blocks.now l.life → IsView l.initial.node st → IsAtEvent lived 0 st
       → TakenOn by_lines lived l.life.events st (trace l.initial.out.entries picks) l.i (IsHere lived l.node l.i) (trace l.out.entries picks);
   run : IsTrue g.D.Disk.tells → IsTrue g.X.SecretStore.tells → (lived : Lived) (st : Live directory.Unit) → IsLifeInForm lived → IsStepHere lived l.initial.node l.initial.source.blocks.now l.life
-      → IsView l.initial.node st → IsAt lived 0 st → TakenOn by_worlds lived l.life.events st
+      → IsView l.initial.node st → IsAtEvent lived 0 st → TakenOn by_worlds lived l.life.events st
       (world_of g.X.SecretStore.held l.initial.devices l.initial.out.entries (g.D.Disk.files l.initial.devices.disk.now)) l.i (IsHere lived l.node l.i)
       (world_of g.X.SecretStore.held l.devices l.out.entries (g.D.Disk.files l.devices.disk.now));
 }

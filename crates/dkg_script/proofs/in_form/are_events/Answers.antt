@@ -1,25 +1,25 @@
 use Rattle.std.proofs.Common.{◌≡◌, ◌&&◌, ◌∙◌, ◌+◌, Bool, false, true, ℕ, List, Some, add-one, ap, drop, length, sym}
 use Rattle.std.specs.Prelude.{slice_get}
 use Rattle.dkg_text.specs.declared.script.Event.{Event}
-use Rattle.dkg_script.specs.InForm.{are_events, is_event}
+use Rattle.dkg_script.specs.InForm.{are_events, is_event_in_form}
 use Rattle.dkg_script.proofs.Placed.{from_place}
 use Rattle.dkg_script.proofs.in_form.are_events.Goals as goal
 
 judged_from : (blocks : ℕ) (events : List Event) (place : ℕ) (event : Event) → slice_get events place ≡ Some event
-    → are_events blocks (drop place events) ≡ (is_event blocks event && are_events blocks (drop (place + 1) events))
+    → are_events blocks (drop place events) ≡ (is_event_in_form blocks event && are_events blocks (drop (place + 1) events))
 judged_from blocks events place event is =
-    ap (are_events blocks) (from_place events place event is) ∙ ap (λ (n : ℕ). is_event blocks event && are_events blocks (drop n events)) (sym (add-one place))
+    ap (are_events blocks) (from_place events place event is) ∙ ap (λ (n : ℕ). is_event_in_form blocks event && are_events blocks (drop n events)) (sym (add-one place))
 
 pub returns-then-not-is_event : goal.returns-then-not-is_event
 returns-then-not-is_event c =
     let blocks = length c.args.blocks.now in
     let here = judged_from blocks c.args.events.now c.loop-i.i c.at.result c.at.ensures in
-    let judged : is_event blocks c.at.result ≡ false = sym c.is_event.ensures ∙ c.if-not-is_event.true in
+    let judged : is_event_in_form blocks c.at.result ≡ false = sym c.is_event.ensures ∙ c.if-not-is_event.true in
     sym (sym c.loop-i.invariant ∙ here ∙ ap (λ (b : Bool). b && are_events blocks (drop (c.loop-i.i + 1) c.args.events.now)) judged)
 
 pub loop-i-preserved : goal.loop-i-preserved
 loop-i-preserved c =
     let blocks = length c.args.blocks.now in
     let here = judged_from blocks c.args.events.now c.loop-i.i c.at.result c.at.ensures in
-    let judged : is_event blocks c.at.result ≡ true = sym c.is_event.ensures ∙ c.if-not-is_event.false in
+    let judged : is_event_in_form blocks c.at.result ≡ true = sym c.is_event.ensures ∙ c.if-not-is_event.false in
     sym (ap (λ (b : Bool). b && are_events blocks (drop (c.loop-i.i + 1) c.args.events.now)) judged) ∙ sym here ∙ c.loop-i.invariant

@@ -8,7 +8,7 @@ use Rattle.dkg_infos.specs.declared.entry.Part.{Part}
 use Rattle.dkg_core.specs.Setup as setup
 use Rattle.dkg_life.specs.declared.life.Life.{Life}
 use Rattle.dkg_life.specs.declared.stop.Stop.TheVariants.{Fault as Faulted}
-use Rattle.dkg_life.specs.LiveOf.{PlayerSits, IsWithin, dealer_of, live_of}
+use Rattle.dkg_life.specs.LiveOf.{PlayerSits, IsRoundWithin, dealer_of, live_of}
 use Rattle.dkg_life.proofs.Speaking.{wants_speaks}
 use Rattle.dkg_life.proofs.Caused.{of_round}
 use Rattle.dkg_life.proofs.Dealers.{not_signed, to_sign}
@@ -70,7 +70,7 @@ returns-clause-sits g c =
     (seated_in g.C.Ceremony.ack_of c.args.terms.now.me (record c.args.life.now { stage = c.begin_stage.new.life.stage; round = Some round; dealer = c.begin_stage.new.life.dealer; player = c.in_ok-player.player }) round refl
     c.in_ok-player.player c.in_ok-player.ensures.sits))
     c.begin_stage.ensures.dealing
-    (subst (λ (l : Life g.row.Dir.Denot). IsWithin (non_zero_u32_get c.args.terms.now.limit) l.round) (sym c.begin_stage.ensures.rest)
+    (subst (λ (l : Life g.row.Dir.Denot). IsRoundWithin (non_zero_u32_get c.args.terms.now.limit) l.round) (sym c.begin_stage.ensures.rest)
     (few_players c.args.life.now.epoch (non_zero_u32_get c.args.terms.now.limit) c.args.info.now c.requires.valid round.players
     (players_of _ _ (g.met.C.Ceremony.round_has c.args.terms.now.namespace c.args.life.now.epoch (Some c.args.info.now.output) c.args.terms.now.mode c.args.terms.now.reveal c.args.info.now.output.players c.args.info.now.players) round c.in_ok-round.ensures.ok)))
     (subst (λ (l : Life g.row.Dir.Denot). IsSome l.round) (sym c.begin_stage.ensures.rest) refl)

@@ -7,7 +7,7 @@ use Rattle.dkg_artifact.specs.Results.{Checked}
 use Rattle.dkg_core.specs.Live.{VerifiedLogs}
 use Rattle.dkg_verifying.specs.Derived.{follows_with}
 use Rattle.dkg_verifying.specs.Including.{derives_in}
-use Rattle.dkg_verifying.specs.InclusionOf.{result_of, verified_of}
+use Rattle.dkg_verifying.specs.InclusionOf.{checked_result_of, verified_of}
 use Rattle.dkg_life.specs.Steps.{IsFaultOrWant}
 use Rattle.dkg_verifying.proofs.Caching.{info_is, own_unprovided}
 use Rattle.dkg_verifying.proofs.Derived.{derived_made, derived_told, for_info_made, for_info_told, is_provided, mismatch_is, mismatch_made, mismatch_told, one_value, refused_info, unprovided_is, unprovided_made, unprovided_told, unread_made, unread_told, want_made, want_told}
@@ -17,12 +17,12 @@ use Rattle.dkg_verifying.proofs.artifacts.derive.Goals as goal
 pub returns-in_err-info-clause-acts : goal.returns-in_err-info-clause-acts
 returns-in_err-info-clause-acts g c = λ disk secrets told info fixed current of reads includes out.
     let p = err_from_is_err_and c.from_residual.result c.from_residual.ensures.1 in
-    rw (p.1, p.2) (want_made (derives_in fixed info (result_of c.args.verified.now)) _ _)
+    rw (p.1, p.2) (want_made (derives_in fixed info (checked_result_of c.args.verified.now)) _ _)
 
 pub returns-in_err-info-clause-tells : goal.returns-in_err-info-clause-tells
 returns-in_err-info-clause-tells g c = λ told info fixed current of reads includes out.
     let p = err_from_is_err_and c.from_residual.result c.from_residual.ensures.1 in
-    rw (p.1, p.2) (want_told (derives_in fixed info (result_of c.args.verified.now)) out)
+    rw (p.1, p.2) (want_told (derives_in fixed info (checked_result_of c.args.verified.now)) out)
 
 pub returns-in_err-info-clause-moved : goal.returns-in_err-info-clause-moved
 returns-in_err-info-clause-moved g c = moved_none g.D.Disk.tells g.D.Disk.made g.X.SecretStore.made g.D.Disk.faults g.X.SecretStore.faults g.met.D.Disk.made_none g.met.X.SecretStore.made_none c.args.devices.now
@@ -34,7 +34,7 @@ pub returns-in_err-next_players-clause-acts : goal.returns-in_err-next_players-c
 returns-in_err-next_players-clause-acts g c = λ disk secrets told info fixed current of reads includes out.
     let p = err_from_is_err_and c.from_residual-in_err-next_players.result c.from_residual-in_err-next_players.ensures.1 in
     let its = c.in_ok-info.info in
-    let r = result_of c.args.verified.now in
+    let r = checked_result_of c.args.verified.now in
     let same = one_value its info (c.in_ok-info.ensures ∙ current) in
     let alike = unprovided_is fixed.provided.participants (g.P.ParticipantsProvider.participants_of c.args.provider.now) fixed.limit (non_zero_u32_get c.args.terms.now.limit) its.epoch includes.participants_are of.limit in
     let refused = subst (λ (o : Option Fault). IsFaultOrWant o c.in_err-next_players.field-0.0) (sym alike) (c.in_err-next_players.ensures.err told) in
@@ -45,7 +45,7 @@ pub returns-in_err-next_players-clause-tells : goal.returns-in_err-next_players-
 returns-in_err-next_players-clause-tells g c = λ told info fixed current of reads includes out.
     let p = err_from_is_err_and c.from_residual-in_err-next_players.result c.from_residual-in_err-next_players.ensures.1 in
     let its = c.in_ok-info.info in
-    let r = result_of c.args.verified.now in
+    let r = checked_result_of c.args.verified.now in
     let same = one_value its info (c.in_ok-info.ensures ∙ current) in
     let alike = unprovided_is fixed.provided.participants (g.P.ParticipantsProvider.participants_of c.args.provider.now) fixed.limit (non_zero_u32_get c.args.terms.now.limit) its.epoch includes.participants_are of.limit in
     let refused = subst (λ (o : Option Fault). IsFaultOrWant o c.in_err-next_players.field-0.0) (sym alike) (c.in_err-next_players.ensures.err told) in
@@ -58,7 +58,7 @@ returns-in_err-share-clause-acts g c = λ disk secrets told info fixed current o
     let its = c.in_ok-info.info in
     let v = c.verified.inside in
     let r : VerifiedLogs = record { round = v.round; me = v.me; logs = v.logs; result = option_map verified_of v.result } in
-    let whole = ap (λ (x : Checked). result_of x) c.verified.view_is in
+    let whole = ap (λ (x : Checked). checked_result_of x) c.verified.view_is in
     let participants = g.P.ParticipantsProvider.participants_of c.args.provider.now in
     let limit = non_zero_u32_get c.args.terms.now.limit in
     let set = c.in_ok-next_players in
@@ -73,7 +73,7 @@ returns-in_err-share-clause-tells g c = λ told info fixed current of reads incl
     let its = c.in_ok-info.info in
     let v = c.verified.inside in
     let r : VerifiedLogs = record { round = v.round; me = v.me; logs = v.logs; result = option_map verified_of v.result } in
-    let whole = ap (λ (x : Checked). result_of x) c.verified.view_is in
+    let whole = ap (λ (x : Checked). checked_result_of x) c.verified.view_is in
     let participants = g.P.ParticipantsProvider.participants_of c.args.provider.now in
     let limit = non_zero_u32_get c.args.terms.now.limit in
     let set = c.in_ok-next_players in
@@ -88,7 +88,7 @@ returns-in_err-info-2-clause-acts g c = λ disk secrets told info fixed current 
     let its = c.in_ok-info.info in
     let v = c.verified.inside in
     let r : VerifiedLogs = record { round = v.round; me = v.me; logs = v.logs; result = option_map verified_of v.result } in
-    let whole = ap (λ (x : Checked). result_of x) c.verified.view_is in
+    let whole = ap (λ (x : Checked). checked_result_of x) c.verified.view_is in
     let participants = g.P.ParticipantsProvider.participants_of c.args.provider.now in
     let directory = g.P.ParticipantsProvider.directory_of c.provided.new.provider in
     let limit = non_zero_u32_get c.args.terms.now.limit in
@@ -108,7 +108,7 @@ returns-in_err-info-2-clause-tells g c = λ told info fixed current of reads inc
     let its = c.in_ok-info.info in
     let v = c.verified.inside in
     let r : VerifiedLogs = record { round = v.round; me = v.me; logs = v.logs; result = option_map verified_of v.result } in
-    let whole = ap (λ (x : Checked). result_of x) c.verified.view_is in
+    let whole = ap (λ (x : Checked). checked_result_of x) c.verified.view_is in
     let participants = g.P.ParticipantsProvider.participants_of c.args.provider.now in
     let directory = g.P.ParticipantsProvider.directory_of c.provided.new.provider in
     let limit = non_zero_u32_get c.args.terms.now.limit in
@@ -127,7 +127,7 @@ returns-clause-acts g c = λ disk secrets told info fixed current of reads inclu
     let its = c.in_ok-info.info in
     let v = c.verified.inside in
     let r : VerifiedLogs = record { round = v.round; me = v.me; logs = v.logs; result = option_map verified_of v.result } in
-    let whole = ap (λ (x : Checked). result_of x) c.verified.view_is in
+    let whole = ap (λ (x : Checked). checked_result_of x) c.verified.view_is in
     let participants = g.P.ParticipantsProvider.participants_of c.args.provider.now in
     let limit = non_zero_u32_get c.args.terms.now.limit in
     let set = c.in_ok-next_players in
@@ -145,7 +145,7 @@ returns-clause-tells g c = λ told info fixed current of reads includes out.
     let its = c.in_ok-info.info in
     let v = c.verified.inside in
     let r : VerifiedLogs = record { round = v.round; me = v.me; logs = v.logs; result = option_map verified_of v.result } in
-    let whole = ap (λ (x : Checked). result_of x) c.verified.view_is in
+    let whole = ap (λ (x : Checked). checked_result_of x) c.verified.view_is in
     let participants = g.P.ParticipantsProvider.participants_of c.args.provider.now in
     let limit = non_zero_u32_get c.args.terms.now.limit in
     let set = c.in_ok-next_players in

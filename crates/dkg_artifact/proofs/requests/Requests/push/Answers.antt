@@ -1,7 +1,7 @@
 use Rattle.std.proofs.Common.{◌∙◌, ◌++◌, ◌∷◌, [], List, ap, reverse}
 use Rattle.std.specs.BTreeMap.{values}
 use Rattle.std.specs.Map.{values_of}
-use Rattle.dkg_artifact.specs.Requested.{Request}
+use Rattle.dkg_artifact.specs.Requested.{WaitingRequest}
 use Rattle.dkg_artifact.proofs.Waiting.{free_below, on_ok_as, reverse_cons, values_below}
 use Rattle.dkg_artifact.proofs.requests.Requests.push.Goals as goal
 
@@ -12,4 +12,4 @@ pub returns-clause-ok : goal.returns-clause-ok
 returns-clause-ok g c = on_ok_as c.put.result (λ is.
     ap reverse (ap values_of is ∙ values_below c.self.inside.waiting.entries c.in_ok-place.place c.args.request c.in_ok-place.ensures)
     ∙ reverse_cons c.args.request (values c.self.inside.waiting)
-    ∙ ap (λ (l : List (Request g.row.Dir.Denot)). l ++ c.args.request ∷ []) c.self.view_is) c.put.ensures.ok
+    ∙ ap (λ (l : List (WaitingRequest g.row.Dir.Denot)). l ++ c.args.request ∷ []) c.self.view_is) c.put.ensures.ok

@@ -2,7 +2,7 @@ use Rattle.std.proofs.Common.{◌∙◌, ◌∷◌, [], List, ap, reverse}
 use Rattle.std.specs.BTreeMap.{values}
 use Rattle.std.specs.Map.{values_of}
 use Rattle.std.proofs.lemmas.List.{reverse-append}
-use Rattle.dkg_artifact.specs.Requested.{Request}
+use Rattle.dkg_artifact.specs.Requested.{WaitingRequest}
 use Rattle.dkg_artifact.proofs.Waiting.{free_above, on_ok_as, values_above}
 use Rattle.dkg_artifact.proofs.requests.Requests.push_front.Goals as goal
 
@@ -13,4 +13,4 @@ pub returns-clause-ok : goal.returns-clause-ok
 returns-clause-ok g c = on_ok_as c.put.result (λ is.
     ap reverse (ap values_of is ∙ values_above c.self.inside.waiting.entries c.in_ok-place.place c.args.request c.in_ok-place.ensures)
     ∙ reverse-append (values c.self.inside.waiting) (c.args.request ∷ [])
-    ∙ ap (λ (l : List (Request g.row.Dir.Denot)). c.args.request ∷ l) c.self.view_is) c.put.ensures.ok
+    ∙ ap (λ (l : List (WaitingRequest g.row.Dir.Denot)). c.args.request ∷ l) c.self.view_is) c.put.ensures.ok

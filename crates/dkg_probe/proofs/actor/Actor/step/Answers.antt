@@ -1,6 +1,6 @@
 use Rattle.std.proofs.Common.{Ok, Err}
 use Rattle.dkg_probe.specs.Acts.{went}
-use Rattle.dkg_probe.specs.Probing.{takes, tracked_of, ended_by}
+use Rattle.dkg_probe.specs.Probing.{takes, tracked_of, probe_ended_by}
 use Rattle.dkg_probe.proofs.Knowing.{told_is_known, none_is_told}
 use Rattle.dkg_probe.proofs.Saying.{one_epoch_since}
 use Rattle.dkg_probe.proofs.Served.{served_since}
@@ -31,7 +31,7 @@ pub returns-in-Err-clause-one_epoch : goal.returns-in-Err-clause-one_epoch
 returns-in-Err-clause-one_epoch g c = λ genesis.
     let terms = given g.S.Scheme.verifies g.Dir.Spelled.spelling g.Dir.Read.read_of g.Dir.Directory.config_of g.Dir.Directory.matches_of c.args.self.now.terms in
     let lack = g.M.Manager.lacks c.args.self.now.terms.bootstrap.directory (tracked_of c.args.self.now.terms.bootstrap.participants) in
-    one_epoch_since terms lack (g.B.Blocks.source c.args.source.now) c.args.event c.args.self.now.state (ended_by c.take.new.state (Err c.in-Err.stop)) c.args.out.now.entries c.take.new.out.entries genesis c.in-Err.ensures.acts
+    one_epoch_since terms lack (g.B.Blocks.source c.args.source.now) c.args.event c.args.self.now.state (probe_ended_by c.take.new.state (Err c.in-Err.stop)) c.args.out.now.entries c.take.new.out.entries genesis c.in-Err.ensures.acts
 
 pub returns-in-Ok-clause-acts : goal.returns-in-Ok-clause-acts
 returns-in-Ok-clause-acts g c = λ there.
@@ -73,4 +73,4 @@ pub returns-in-Err-clause-held : goal.returns-in-Err-clause-held
 returns-in-Err-clause-held g c = λ on.
     let terms = given g.S.Scheme.verifies g.Dir.Spelled.spelling g.Dir.Read.read_of g.Dir.Directory.config_of g.Dir.Directory.matches_of c.args.self.now.terms in
     let lack = g.M.Manager.lacks c.args.self.now.terms.bootstrap.directory (tracked_of c.args.self.now.terms.bootstrap.participants) in
-    served_since terms (g.B.Blocks.source c.args.source.now) lack c.args.event c.args.self.now.state (ended_by c.take.new.state (Err c.in-Err.stop)) c.args.out.now.entries c.take.new.out.entries on c.in-Err.ensures.acts
+    served_since terms (g.B.Blocks.source c.args.source.now) lack c.args.event c.args.self.now.state (probe_ended_by c.take.new.state (Err c.in-Err.stop)) c.args.out.now.entries c.take.new.out.entries on c.in-Err.ensures.acts

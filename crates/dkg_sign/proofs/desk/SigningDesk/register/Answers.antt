@@ -1,6 +1,6 @@
 use Rattle.std.proofs.Common.{ℕ, List, [], ◌∷◌, Some, refl, sym, ◌∙◌, ap, subst}
 use Rattle.std.proofs.lemmas.Result.{err_from_is_err_and}
-use Rattle.dkg_sign.specs.Lives.{Deed, KeepsPromise, Covers}
+use Rattle.dkg_sign.specs.Lives.{DeskDeed, KeepsPromise, Covers}
 use Rattle.dkg_journal.specs.Fuse.{Ran, RanAll}
 use Rattle.dkg_sign.specs.Registers.{put_call}
 use Rattle.dkg_sign.specs.Desks.{Desk}
@@ -20,7 +20,7 @@ returns-then-not-branch-clause-lives g c = λ tells stands deeds keeps.
 pub returns-in_err-put_epoch-clause-lives : goal.returns-in_err-put_epoch-clause-lives
 returns-in_err-put_epoch-clause-lives g c = λ tells stands deeds keeps.
     let p = err_from_is_err_and c.from_residual-in_err-put_epoch.result c.from_residual-in_err-put_epoch.ensures.1 in
-    unregistered c.from_residual-in_err-put_epoch.result p.0 (λ (ds : List Deed). KeepsPromise ds (g.D.Disk.image c.put_epoch.new.disk) × Covers c.args.self.now.current ds) c.args.epoch deeds p.1
+    unregistered c.from_residual-in_err-put_epoch.result p.0 (λ (ds : List DeskDeed). KeepsPromise ds (g.D.Disk.image c.put_epoch.new.disk) × Covers c.args.self.now.current ds) c.args.epoch deeds p.1
     (failed_lives c.args.self.now c.args.epoch (g.D.Disk.files c.args.disk.now) (g.D.Disk.image c.args.disk.now) (g.D.Disk.image c.put_epoch.new.disk) deeds (sym c.is_below.ensures ∙ c.if-is_below.true) (g.met.D.Disk.reads c.args.disk.now tells) stands keeps _ c.epoch.view_is (c.put_epoch.ensures.tried stands.settled))
 
 pub invariant_of-self : goal.invariant_of-self

@@ -11,7 +11,7 @@ use Rattle.std.proofs.lemmas.Result.{err_from_is_err_and}
 use Rattle.dkg_journal.specs.Opening.{broken}
 use Rattle.dkg_journal.specs.Views.{views}
 use Rattle.dkg_store.specs.Acts.{by_want}
-use Rattle.dkg_store.specs.Calls.{cause_of, ended_as, reading}
+use Rattle.dkg_store.specs.Calls.{cause_of, ended_as, store_reading}
 use Rattle.dkg_store.specs.Errors.{IsOfDevices, IsOfOpening}
 use Rattle.dkg_store.specs.Noted.{acks_in, logs_in}
 use Rattle.dkg_store.specs.Pairs.{recovered}
@@ -38,7 +38,7 @@ pub returns-in_err-journal-clause-acts : goal.returns-in_err-journal-clause-acts
 returns-in_err-journal-clause-acts g c = λ told_disk told_secrets whole alien is_alien out.
     let p = err_from_is_err_and c.from_residual.result c.from_residual.ensures.1 in
     let of_devices : IsOfDevices c.in_err-journal.field-0.0 = due_sound c.in_err-journal.field-0.0 _ _ _ _ _ (λ name place at. no_place (broken (g.D.Disk.files c.args.devices.now.disk.now)) (name, place) (at told_disk).0 whole) c.in_err-journal.ensures.due in
-    then_broken (λ (u : Unit {0}). reading alien) c.in_err-journal.field-0.0 of_devices
+    then_broken (λ (u : Unit {0}). store_reading alien) c.in_err-journal.field-0.0 of_devices
     (ended_broken (λ (store : Store g.row.Dir.Denot). (store.dealings, store.acks, store.logs)) c.from_residual.result p.0 p.1 (subst IsOfDevices (sym p.2) of_devices) ∙ ap (λ (e : StoreError). ended_by (cause_of e)) p.2)
     (c.in_err-journal.ensures.acts told_disk whole out (g.X.SecretStore.held c.args.devices.now.secrets.now))
 
@@ -53,7 +53,7 @@ pub returns-in_err-recorded-clause-acts : goal.returns-in_err-recorded-clause-ac
 returns-in_err-recorded-clause-acts g c = λ told_disk told_secrets whole alien is_alien out.
     let p = err_from_is_err_and c.from_residual-in_err-recorded.result c.from_residual-in_err-recorded.ensures.1 in
     let ends = ap (λ (r : Result (Store g.row.Dir.Denot) StoreError). ended_as (λ (store : Store g.row.Dir.Denot). (store.dealings, store.acks, store.logs)) r) (p.1 ∙ ap (λ (e : StoreError). Err e) p.2) in
-    made_next (λ (u : Unit {0}). reading alien) (c.in_ok-journal.ensures.acts told_disk whole out (g.X.SecretStore.held c.args.devices.now.secrets.now))
+    made_next (λ (u : Unit {0}). store_reading alien) (c.in_ok-journal.ensures.acts told_disk whole out (g.X.SecretStore.held c.args.devices.now.secrets.now))
     (read_ends (non_zero_u32_get c.args.limit) (g.D.Disk.files c.args.devices.now.disk.now) alien c.in_err-recorded.field-0.0 c.in_err-recorded.ensures.error_kinds
     (λ name q is.
     let here = c.in_err-recorded.ensures.corrupt name q (ap (λ (e : StoreError). Err e) is) in
@@ -68,13 +68,13 @@ returns-in_err-recorded-clause-acts g c = λ told_disk told_secrets whole alien 
 pub returns-in_err-restored-clause-acts : goal.returns-in_err-restored-clause-acts
 returns-in_err-restored-clause-acts g c = λ told_disk told_secrets whole alien is_alien out.
     let p = err_from_is_err_and c.from_residual-in_err-restored.result c.from_residual-in_err-restored.ensures.1 in
-    made_next (λ (u : Unit {0}). reading alien) (c.in_ok-journal.ensures.acts told_disk whole out (g.X.SecretStore.held c.args.devices.now.secrets.now))
+    made_next (λ (u : Unit {0}). store_reading alien) (c.in_ok-journal.ensures.acts told_disk whole out (g.X.SecretStore.held c.args.devices.now.secrets.now))
     (made_none_held _ _ _ by_want tt c.restore.ensures.same (ended_broken (λ (store : Store g.row.Dir.Denot). (store.dealings, store.acks, store.logs)) c.from_residual-in_err-restored.result p.0 p.1 (subst IsOfDevices (sym p.2) tt) ∙ ap (λ (e : StoreError). ended_by (cause_of e)) p.2))
 
 pub returns-clause-acts : goal.returns-clause-acts
 returns-clause-acts g c = λ told_disk told_secrets whole alien is_alien out.
     let none = events_read (non_zero_u32_get c.args.limit) c.get.result (g.D.Disk.files c.args.devices.now.disk.now) c.deref.result.now c.in_ok-journal.journal.waiting.items whole c.get.ensures.value (c.deref.ensures.value ∙ c.replay-entries.ensures.listed) ((c.in_ok-journal.ensures.opens told_disk).gated) c.in_ok-recorded.ensures.events alien is_alien in
-    made_next (λ (u : Unit {0}). reading alien) (c.in_ok-journal.ensures.acts told_disk whole out (g.X.SecretStore.held c.args.devices.now.secrets.now))
+    made_next (λ (u : Unit {0}). store_reading alien) (c.in_ok-journal.ensures.acts told_disk whole out (g.X.SecretStore.held c.args.devices.now.secrets.now))
     (read_all none c.restore.ensures.same (
     let read : c.deref.result.now ≡ c.in_ok-journal.journal.waiting.items = c.deref.ensures.value ∙ c.replay-entries.ensures.listed in
     let stands : views c.in_ok-journal.journal.waiting.items ≡ entries (g.D.Disk.files c.open_journal.new.disk) = (c.in_ok-journal.ensures.opens told_disk).listed ∙ sym ((c.in_ok-journal.ensures.opens told_disk).settled (g.D.Disk.files c.open_journal.new.disk) (g.met.D.Disk.reads _ told_disk)) in

@@ -4,7 +4,7 @@ use Rattle.std.specs.FinMap.{FinMap, get, get-empty}
 use Rattle.std.specs.Ordering.{nat_cmp}
 use Rattle.dkg_core.specs.Live as core
 use Rattle.dkg_verifying.specs.declared.told.Told.{Told}
-use Rattle.dkg_verifying.specs.InclusionOf.{cached_of, job_of, kept_of, request_of, result_of}
+use Rattle.dkg_verifying.specs.InclusionOf.{cached_of, job_of, kept_of, waiting_request_of, checked_result_of}
 use Rattle.dkg_verifying.proofs.inclusion.Inclusion.new.Goals as goal
 
 none_some : (P : Type 0) (o : Option P) → o ≡ None → IsSome o → ⊥
@@ -20,11 +20,11 @@ returns-clause-seen g c =
     let none : (q : ℕ) → get answers q ≡ None = λ q. ap (λ (m : FinMap nat_cmp (Told g.row.Dir.Denot)). get m q) c.new-4.ensures ∙ get-empty nat_cmp q in
     record {
       served = refl;
-      queue = sym (ap (map request_of) c.new.ensures);
+      queue = sym (ap (map waiting_request_of) c.new.ensures);
       running = sym (ap (option_map job_of) c.new-2.ensures.running);
       waiter = refl;
-      retained = sym (ap (option_map result_of) c.new-2.ensures.kept);
+      retained = sym (ap (option_map checked_result_of) c.new-2.ensures.kept);
       cached = sym (ap (option_map cached_of) c.new-3.ensures);
       told = λ q. sym (ap (option_and_then kept_of) (none q));
-      used = λ q. (λ any. absurd (none_held (core.Told g.row.Dir.Denot) q None refl any), λ has. absurd (none_some (Told g.row.Dir.Denot) (get answers q) (none q) has));
+      used = λ q. (λ any. absurd (none_held (core.RequestAnswer g.row.Dir.Denot) q None refl any), λ has. absurd (none_some (Told g.row.Dir.Denot) (get answers q) (none q) has));
     }
