@@ -8,9 +8,11 @@ mod calls;
 mod sink;
 mod source;
 mod standard;
+mod status;
 mod transfer;
 
 pub use sink::{MemorySink, Sink, SureSink};
 pub use source::{Failed, MemorySource, Source, SureSource};
 pub use standard::{StdSink, StdSource};
+pub use status::Status;
 pub use transfer::{ReadError, read_all, write_all};

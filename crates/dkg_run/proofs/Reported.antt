@@ -20,8 +20,8 @@ use Rattle.dkg_outside.specs.Outside.{TookAll, TookMore}
 use Rattle.dkg_promises.specs.Over.{Over}
 use Rattle.dkg_promises.specs.Promised.{DoesRun, Promised, RunsLives, SaysRun}
 use Rattle.dkg_run.specs.Reports.{Blamed, RanScript, RanNothing, WasRead, RanByStatus, fault_status, last_of}
-use Rattle.dkg_run.specs.declared.command.Status.{Status}
-use Rattle.dkg_run.specs.declared.command.Status.TheVariants as status
+use Rattle.dkg_outside.specs.declared.status.Status.{Status}
+use Rattle.dkg_outside.specs.declared.status.Status.TheVariants as status
 use Rattle.dkg_lives.proofs.Checked.{refused_so}
 use Rattle.dkg_promises.proofs.Completing.{valid_as_cut}
 

@@ -1,8 +1,8 @@
 -- What the words of a command ask for, and how a status is told: its text is written, and the command answers it.
 use Rattle.std.specs.Prelude.{ℕ, List, [], ◌∷◌, ◌≡◌, ◌<◌, ◌^◌, ◌++◌, ◌⊎◌, codes, decimal, length}
 use Rattle.dkg_outside.specs.Outside.{HoldsFront}
-use Rattle.dkg_run.specs.declared.command.Status.{Status}
-use Rattle.dkg_run.specs.declared.command.Status.TheVariants.{WriteFault, NoMemory}
+use Rattle.dkg_outside.specs.declared.status.Status.{Status}
+use Rattle.dkg_outside.specs.declared.status.Status.TheVariants.{WriteFault, NoMemory}
 
 -- the words ask for the lives of the script that the source gives
 abbrev pub IsRun : (words : List (List ℕ)) → Type 0

@@ -16,10 +16,10 @@ use Rattle.dkg_script.specs.Inclusion.{IsFormOfInclusion}
 use Rattle.dkg_run.specs.Command.{IsTold}
 use Rattle.dkg_script.specs.Ends.{IsNodeFault}
 use Rattle.dkg_outside.specs.Outside.{TookAll}
+use Rattle.dkg_outside.specs.declared.status.Status.{Status}
+use Rattle.dkg_outside.specs.declared.status.Status.TheVariants as status
 use Rattle.dkg_promises.specs.Over.{Over}
 use Rattle.dkg_promises.specs.Promised.{RunsLives}
-use Rattle.dkg_run.specs.declared.command.Status.{Status}
-use Rattle.dkg_run.specs.declared.command.Status.TheVariants as status
 
 -- the status of a run that a fault ended
 abbrev pub fault_status : Fault → Status
@@ -27,19 +27,6 @@ fault_status fault.NoMemory = status.NoMemory
 fault_status fault.Disk = status.Device
 fault_status fault.Secrets = status.Device
 fault_status other = status.Fault other
-
--- the number of a status, which is the program's exit status
-abbrev pub exit_status_of : Status → ℕ
-exit_status_of status.Done = 0
-exit_status_of status.Usage = 2
-exit_status_of (status.BadScript place) = 3
-exit_status_of (status.Fault fault) = 4
-exit_status_of status.Device = 5
-exit_status_of status.NoMemory = 6
-exit_status_of status.ReadFault = 7
-exit_status_of status.WriteFault = 8
-exit_status_of status.TooLong = 9
-exit_status_of status.Unsupported = 10
 
 -- the last line that is written for a status, where it has one
 abbrev pub last_of : Status → List ℕ

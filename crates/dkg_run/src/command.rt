@@ -16,66 +16,20 @@ ghost use Rattle.dkg_run.specs.Command.{IsMake, IsRun, IsRunOfMade, IsTold};
 ghost use Rattle.dkg_promises.specs.Complete.{IsSoundRun, IsValidAnyhow};
 ghost use Rattle.dkg_outside.specs.Outside.{TookFew, TookMore};
 ghost use Rattle.dkg_promises.specs.Over.{over};
-ghost use Rattle.dkg_run.specs.Reports.{Blamed, IsMade, WasRead, Reported, RanByStatus, Summed, fault_status, last_fault as last_fault_of, last_of, exit_status_of, summary_by};
+ghost use Rattle.dkg_run.specs.Reports.{Blamed, IsMade, WasRead, Reported, RanByStatus, Summed, fault_status, last_fault as last_fault_of, last_of, summary_by};
 
 use crate::lives::run_lives;
 use dkg_ceremony::Mem;
 use dkg_generator::make_script;
 use dkg_infos::{Entry, Fault, Transcript};
 use dkg_journal::Disk;
-use dkg_outside::{ReadError, Sink, Source, read_all, write_all};
+use dkg_outside::{ReadError, Sink, Source, Status, read_all, write_all};
 use dkg_reading::number;
 use dkg_script::{ReadError as FormError, Script, print_of, read_in_form};
 use dkg_store::SecretStore;
 use dkg_text::{script_text, summary};
 use itoa::Buffer;
 use std::alloc::Global;
-
-/// How a command ended. The program's exit status is its number.
-#[derive(Debug, Drop)]
-pub enum Status {
-    /// The script was read to its end, and every life was run.
-    Done,
-    /// The words name no command.
-    Usage,
-    /// The bytes are no script. The place is the offset of the first line that no script has after the lines before it; the length,
-    /// where only the last line is missing.
-    BadScript { place: u64 },
-    /// The bytes are a script of a form that isn't run yet.
-    Unsupported,
-    /// The node ended with a fault that is neither want of memory nor a device's.
-    Fault(Fault),
-    /// The disk or the secret store failed.
-    Device,
-    /// Memory ran out.
-    NoMemory,
-    /// The source failed.
-    ReadFault,
-    /// The sink failed.
-    WriteFault,
-    /// The source has more bytes than a script may have.
-    TooLong,
-}
-
-impl Status {
-    /// The number of the status.
-    pub fn number(&self) -> u8
-        ensures { result ≡ exit_status_of self.now }
-    {
-        match self {
-            Status::Done => 0,
-            Status::Usage => 2,
-            Status::BadScript { .. } => 3,
-            Status::Fault(_) => 4,
-            Status::Device => 5,
-            Status::NoMemory => 6,
-            Status::ReadFault => 7,
-            Status::WriteFault => 8,
-            Status::TooLong => 9,
-            Status::Unsupported => 10,
-        }
-    }
-}
 
 fn is_run_word(word: &str) -> bool
     ensures { IsTrue result ↔ (word.now ≡ codes "run") }

@@ -9,9 +9,10 @@ mod lives;
 mod memory;
 
 pub use again::{acknowledges_as_before, runs_again};
-pub use command::{Status, run_command};
+pub use command::run_command;
 pub use dkg_outside::{
-    Failed, MemorySink, MemorySource, Sink, Source, StdSink, StdSource, SureSink, SureSource,
+    Failed, MemorySink, MemorySource, Sink, Source, Status, StdSink, StdSource, SureSink,
+    SureSource,
 };
 pub use lives::run_lives;
 pub use memory::fresh_devices;

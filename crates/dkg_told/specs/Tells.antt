@@ -2,8 +2,8 @@
 use Rattle.std.specs.Prelude.{ℕ, ◌≡◌, ◌-◌, Bool, true, false, List, [], ◌∷◌, ◌++◌, length, slice_get, Option, Some, None, codes}
 use Rattle.dkg_infos.specs.declared.entry.Entry.{Entry}
 use Rattle.dkg_infos.specs.declared.entry.Entry.TheVariants as entry
-use Rattle.dkg_run.specs.declared.command.Status.{Status}
-use Rattle.dkg_run.specs.declared.command.Status.TheVariants as status
+use Rattle.dkg_outside.specs.declared.status.Status.{Status}
+use Rattle.dkg_outside.specs.declared.status.Status.TheVariants as status
 use Rattle.dkg_words.specs.Bad.{bad_text}
 use Rattle.dkg_words.specs.Fault.{IsFaultLine}
 use Rattle.dkg_words.specs.Help.{help_text}

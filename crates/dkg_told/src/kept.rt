@@ -2,7 +2,7 @@
 ghost use Rattle.std.specs.Prelude.{◌≡◌, None, Some, option_map};
 ghost use Rattle.std.specs.Option.{option_copied};
 
-use dkg_run::{Failed, Source};
+use dkg_outside::{Failed, Source};
 
 /// A source, and the bytes that it was given back.
 #[derive(Drop)]

@@ -5,7 +5,7 @@ ghost use Rattle.dkg_words.specs.Help.{help_text};
 ghost use Rattle.dkg_told.specs.Tells.{DeviceTold, TellsByStatus, TellsOf, Warns, is_of_text as is_of_text_status};
 
 use dkg_infos::Entry;
-use dkg_run::Status;
+use dkg_outside::Status;
 use dkg_values::{Mem, NoMemory};
 use dkg_words::{bad_line, chain_warning, fault_line, help, own_warning, sentence, unbuilt_line};
 use std::alloc::Global;
