@@ -1,10 +1,12 @@
 -- What a node answers, beside what it has recorded.
-use Rattle.std.specs.Prelude.{◌≡◌, ◌-◌, ◌<◌, ◌⊎◌, ℕ, nat_le, List, length, Contains, IsErr, IsSome, None, Result}
+use Rattle.std.specs.Prelude.{◌≡◌, ◌-◌, ◌<◌, ◌⊎◌, ℕ, nat_le, List, length, Contains, IsErr, IsSome, Option, Some, None, Result}
 use Rattle.std.specs.FinMap.{get, retain_keys}
 use Rattle.dkg_ceremony.specs.declared.ceremony.DealingError.{DealingError}
 use Rattle.dkg_ceremony.specs.declared.round.RoundParts.{RoundParts as Round}
 use Rattle.dkg_store.specs.Pairs.{Pairs}
 use Rattle.dkg_store.specs.Player.{Acknowledges, IsPlayerOf}
+use Rattle.dkg_types.specs.declared.message.Message.{Message}
+use Rattle.dkg_types.specs.declared.message.Message.TheVariants.{Dealer, Ack}
 use Rattle.dkg_example.specs.declared.Answer.{Answer}
 use Rattle.dkg_example.specs.declared.Answer.TheVariants.{Send, Block}
 use Rattle.dkg_example.specs.declared.Node.{Node}
@@ -33,6 +35,12 @@ IsSoundAnswer ack_of me round pairs epoch dealer Block = Unit {0}
 abbrev pub IsFair : (check : Result (Unit {0}) DealingError) (public : List ℕ) (pairs : Pairs) (epoch dealer : ℕ) → Answer → Type 0
 IsFair check public pairs epoch dealer (Send ack) = Unit {0}
 IsFair check public pairs epoch dealer Block = (65520 < length public) ⊎ (IsErr check × (get pairs (epoch, dealer) ≡ None))
+
+-- Of what was heard: whoever sends no dealing is blocked.
+abbrev pub IsFairTo : (check : List ℕ → ℕ → Result (Unit {0}) DealingError) (heard : Option Message) (pairs : Pairs) (epoch sender : ℕ) → Answer → Type 0
+IsFairTo check (Some (Dealer public private)) pairs epoch sender answer = IsFair (check public private) public pairs epoch sender answer
+IsFairTo check (Some (Ack ack)) pairs epoch sender answer = answer ≡ Block
+IsFairTo check None pairs epoch sender answer = answer ≡ Block
 
 -- What is recorded of a dealer stays.
 abbrev pub Stays : Pairs → Pairs → Type 0

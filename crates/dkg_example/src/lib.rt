@@ -4,10 +4,14 @@
 #![tactic(auto)]
 
 ghost use Rattle.std.specs.Prelude.{◌≡◌, Contains, IfOk, IfSome, IsTrue, OnOk};
+ghost use Rattle.std.specs.Int.NonZero.{non_zero_u32_get};
+ghost use Rattle.std.specs.Result.{result_ok};
+ghost use Rattle.dkg_values.specs.Codec.{whole};
 ghost use Rattle.dkg_journal.specs.Journals.{IsOpen};
 ghost use Rattle.dkg_journal.specs.Records.{entries};
 ghost use Rattle.dkg_store.specs.Pairs.{recovered};
-ghost use Rattle.dkg_example.specs.Sent.{IsFair, IsNodePlaying, IsSameSeat, IsSoundAnswer, Stays, since_below};
+ghost use Rattle.dkg_types.specs.MessageCodes.{message_at};
+ghost use Rattle.dkg_example.specs.Sent.{IsFair, IsFairTo, IsNodePlaying, IsSameSeat, IsSoundAnswer, Stays, since_below};
 
 #[cfg(test)]
 mod tests;
@@ -148,6 +152,9 @@ impl Node {
         ensures playing { IsNodePlaying C.ack_of self.new }
         // What is sent is the acknowledgement of the dealing that is recorded, and what is recorded stays.
         ensures sound { IfOk result (IsSoundAnswer C.ack_of self.new.player.me self.new.player.round self.new.store.dealings self.new.epoch from) }
+        // Whose message is no dealing is blocked, and a dealing's sender only where that is fair.
+        ensures fair { IfOk result (IsFairTo (C.dealing_of self.old.player.round self.old.player.me from)
+            (result_ok (whole (message_at (non_zero_u32_get self.old.limit) bytes.now))) self.old.store.dealings self.old.epoch from) }
         ensures stays { Stays self.old.store.dealings self.new.store.dealings }
         ensures same_disk { devices.new.disk.ghost_name ≡ devices.old.disk.ghost_name }
         ensures same_secrets { devices.new.secrets.ghost_name ≡ devices.old.secrets.ghost_name }
