@@ -97,7 +97,7 @@ pub(crate) fn deliver<
     actor.deliver(alloc, devices, block, fence, out)
 }
 
-/// The end of a verification by the actor's own work.
+/// The end of a verification, by this result where it is that one's, else by the actor's own work.
 pub(crate) fn work<
     C: Ceremony + Drop,
     P: ParticipantsProvider<Dir = Unit>,
@@ -111,6 +111,7 @@ pub(crate) fn work<
     actor: &mut Actor<C, P, R, M, Unit>,
     devices: &mut Devices<'_, D, X>,
     source: &B,
+    done: Option<VerifiedLogs<C>>,
     fence: &mut Fence,
     out: &mut Transcript,
 ) -> Result<(), Stop>
@@ -121,6 +122,5 @@ pub(crate) fn work<
     ensures including { IfIncluding actor.new.state (IsSettledInclusion C.check_log_of C.dealing_of C.finish_of
         (non_zero_u64_get actor.new.terms.blocks_per_epoch)) }
 {
-    let done: Option<VerifiedLogs<C>> = None;
     actor.work(alloc, devices, source, done, fence, out)
 }

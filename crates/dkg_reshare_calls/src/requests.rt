@@ -7,7 +7,8 @@ ghost use Rattle.dkg_reshare.specs.Actors.{IfIncluding, IsOpenedOn, IsNew};
 use crate::actors::plain_actor;
 use crate::blocks::first_source;
 use crate::calls::{open, step, work};
-use dkg_ceremony::Ceremony;
+use dkg_artifact::VerifiedLogs;
+use dkg_ceremony::{Ceremony, StandCeremony};
 use dkg_fence::Fence;
 use dkg_infos::{Transcript, Unit};
 use dkg_journal::{Disk, Fuse, MemoryDisk};
@@ -16,7 +17,7 @@ use dkg_setup::BlockSource;
 use dkg_store::{Devices, MemorySecrets, SecretStore};
 use dkg_types::{Block, ParticipantsProvider, Payload, Registrar};
 use dkg_values::{Height, Mem, Value};
-use dkg_verifying::{EpochInfoResponse, Told};
+use dkg_verifying::{EpochInfoResponse, Told, verify};
 use std::alloc::Global;
 use std::test::Fail;
 
@@ -113,7 +114,22 @@ fn asked<
     Ok(())
 }
 
-/// The end of that verification. Whether the first request is answered by an info.
+/// What the verification that runs comes to, as another finds it.
+fn found<C: Ceremony + Drop, P: ParticipantsProvider<Dir = Unit>, R: Registrar, M>(
+    alloc: Global,
+    ceremony: &C,
+    actor: &Actor<C, P, R, M, Unit>,
+) -> Result<VerifiedLogs<C>, Fail>
+    requires { IfIncluding actor.now.state (IsSettledInclusion C.check_log_of C.dealing_of C.finish_of
+        (non_zero_u64_get actor.now.terms.blocks_per_epoch)) }
+{
+    let Some(job) = actor.running() else {
+        return Err(Fail::from("no verification runs"));
+    };
+    Ok(verify(alloc, ceremony, job.copy(alloc)?)?)
+}
+
+/// The end of that verification, by this result or by the actor's own work. Whether the first request is answered by an info.
 fn verified<
     C: Ceremony + Drop,
     P: ParticipantsProvider<Dir = Unit>,
@@ -127,6 +143,7 @@ fn verified<
     actor: &mut Actor<C, P, R, M, Unit>,
     devices: &mut Devices<'_, D, X>,
     source: &B,
+    done: Option<VerifiedLogs<C>>,
     fence: &mut Fence,
     out: &mut Transcript,
 ) -> Result<bool, Fail>
@@ -134,7 +151,7 @@ fn verified<
     requires including { IfIncluding actor.old.state (IsSettledInclusion C.check_log_of C.dealing_of C.finish_of
         (non_zero_u64_get actor.old.terms.blocks_per_epoch)) }
 {
-    if work(alloc, actor, devices, source, fence, out).is_err() {
+    if work(alloc, actor, devices, source, done, fence, out).is_err() {
         return Err(Fail::from("not verified"));
     }
     if actor.running().is_some() {
@@ -143,7 +160,8 @@ fn verified<
     Ok(has_info(alloc, actor.told(1))?)
 }
 
-/// An opening with its requests, and the end of the verification. Whether the first request is answered by an info.
+/// An opening with its requests, and the end of the verification: by a result that this ceremony finds, or by the actor's own work. Whether the first
+/// request is answered by an info.
 fn includes<
     C: Ceremony + Drop,
     P: ParticipantsProvider<Dir = Unit>,
@@ -154,6 +172,7 @@ fn includes<
     B: BlockSource<Unit>,
 >(
     alloc: Global,
+    finder: Option<&C>,
     actor: &mut Actor<C, P, R, M, Unit>,
     devices: &mut Devices<'_, D, X>,
     source: &B,
@@ -164,7 +183,11 @@ fn includes<
 {
     let mut fence = Fence::new();
     asked(alloc, actor, devices, source, below, &mut fence, out)?;
-    verified(alloc, actor, devices, source, &mut fence, out)
+    let done = match finder {
+        Some(ceremony) => Some(found(alloc, ceremony, actor)?),
+        None => None,
+    };
+    verified(alloc, actor, devices, source, done, &mut fence, out)
 }
 
 /// That over these devices, of which the first block is the one that the source has processed. Whether a request is answered by an info, and how many
@@ -178,6 +201,7 @@ fn answer_over<
     B: BlockSource<Unit>,
 >(
     alloc: Global,
+    finder: Option<&C>,
     actor: &mut Actor<C, P, R, Unit, Unit>,
     disk: &mut D,
     secrets: &mut X,
@@ -195,31 +219,38 @@ fn answer_over<
         fuse: Fuse::never(),
     };
     let mut out = Transcript::new(alloc);
-    let answered = includes(alloc, actor, &mut devices, source, below, &mut out)?;
+    let answered = includes(alloc, finder, actor, &mut devices, source, below, &mut out)?;
     Ok((answered, out.entries().len()))
 }
 
 /// .. of an actor of the plain ceremony.
 fn plain_answer<D: Disk, X: SecretStore, B: BlockSource<Unit>>(
     alloc: Global,
+    finder: Option<&StandCeremony>,
     disk: &mut D,
     secrets: &mut X,
     source: &B,
 ) -> Result<(bool, usize), Fail> {
     let mut actor = plain_actor(alloc, 2)?;
-    answer_over(alloc, &mut actor, disk, secrets, source)
+    answer_over(alloc, finder, &mut actor, disk, secrets, source)
 }
 
 /// .. over memory.
-fn answered(alloc: Global) -> Result<(bool, usize), Fail> {
+fn answered(alloc: Global, finder: Option<&StandCeremony>) -> Result<(bool, usize), Fail> {
     let source = first_source(alloc)?;
     let mut disk = MemoryDisk::new(alloc);
     let mut secrets = MemorySecrets::new(alloc);
-    plain_answer(alloc, &mut disk, &mut secrets, &source)
+    plain_answer(alloc, finder, &mut disk, &mut secrets, &source)
 }
 
 #[test]
 fn an_actor_answers_requests(rt: HostRuntime) -> Result<(), Fail> {
-    assert_eq!(rt; answered(rt.alloc())?, (true, 6));
+    assert_eq!(rt; answered(rt.alloc(), None)?, (true, 6));
+    Ok(())
+}
+
+#[test]
+fn an_actor_answers_by_a_result_that_is_handed_in(rt: HostRuntime) -> Result<(), Fail> {
+    assert_eq!(rt; answered(rt.alloc(), Some(&StandCeremony))?, (true, 6));
     Ok(())
 }
