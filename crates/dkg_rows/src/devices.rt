@@ -1,10 +1,11 @@
 //! What a run finds on devices that another run left, and what it blames them for.
 
 use crate::runs::runs_to;
-use crate::texts::{ANSWERED, DEALING, OUTPUT, RESTORED, SET_UP, life};
+use crate::texts::{ANSWERED, DEALING, OUTPUT, RESTORED, SET_UP, life, text};
 use dkg_journal::{Disk, MemoryDisk};
 use dkg_store::{MemorySecrets, SecretStore};
 use dkg_values::Name;
+use std::alloc::Global;
 use std::test::Fail;
 
 /// A segment whose record is a byte longer than its length says: that byte stands as an open gate with no whole record behind it.
@@ -13,20 +14,41 @@ const SHORT_LENGTH: [u8; 18] = *b"\x01\0\0\0\x0b\0\0\0\0\x02\x03\0\x0f\0\x07\0\x
 /// A segment that ends within its record.
 const SHORT_RECORD: [u8; 10] = *b"\x01\0\0\0\x0c\0\0\0\0\x02";
 
+/// Fails where a script of one life with these events doesn't end with this status over these devices, or writes other lines than these in a row.
+fn lives_to(
+    alloc: Global,
+    output: &str,
+    events: &str,
+    disk: &mut MemoryDisk,
+    secrets: &mut MemorySecrets,
+    status: u8,
+    lines: &[&str],
+) -> Result<(), Fail> {
+    let script = life(alloc, output, events)?;
+    let lines = text(alloc, lines)?;
+    runs_to(
+        alloc,
+        script.as_str(),
+        disk,
+        secrets,
+        status,
+        lines.as_str(),
+    )
+}
+
+/// That over a disk whose segment of epoch 0 has these bytes.
+fn faults_by(alloc: Global, bytes: &[u8], line: &str) -> Result<(), Fail> {
+    let mut disk = MemoryDisk::new(alloc);
+    disk.install(alloc, Name::Segment(0), bytes)?;
+    let mut secrets = MemorySecrets::new(alloc);
+    lives_to(alloc, OUTPUT, "", &mut disk, &mut secrets, 4, &[line])
+}
+
 #[test]
 fn a_record_that_is_not_whole_is_a_fault(rt: HostRuntime) -> Result<(), Fail> {
     let alloc = rt.alloc();
-    let text = life(alloc, OUTPUT, "")?;
-    for (bytes, lines) in [
-        (&SHORT_LENGTH[..], "fault 4 segment 0 16\n"),
-        (&SHORT_RECORD[..], "fault 4 segment 0 0\n"),
-    ] {
-        let mut disk = MemoryDisk::new(alloc);
-        disk.install(alloc, Name::Segment(0), bytes)?;
-        let mut secrets = MemorySecrets::new(alloc);
-        runs_to(alloc, text.as_str(), &mut disk, &mut secrets, 4, lines)?;
-    }
-    Ok(())
+    faults_by(alloc, &SHORT_LENGTH, "fault 4 segment 0 16\n")?;
+    faults_by(alloc, &SHORT_RECORD, "fault 4 segment 0 0\n")
 }
 
 #[test]
@@ -35,28 +57,12 @@ fn a_failed_sync_leaves_nothing(rt: HostRuntime) -> Result<(), Fail> {
     // An opening calls barrier and list, and the dealing then install, write_at and sync: its gate stays closed.
     let mut disk = MemoryDisk::failing(alloc, vec![in alloc; 5]?);
     let mut secrets = MemorySecrets::new(alloc);
-    let text = life(alloc, OUTPUT, DEALING)?;
-    let lines = format!(in alloc; "opened 0 0\n{SET_UP}fault 2\n")?;
-    runs_to(
-        alloc,
-        text.as_str(),
-        &mut disk,
-        &mut secrets,
-        5,
-        lines.as_str(),
-    )?;
+    let lines = ["opened 0 0\n", SET_UP, "fault 2\n"];
+    lives_to(alloc, OUTPUT, DEALING, &mut disk, &mut secrets, 5, &lines)?;
     disk.crash(0);
     secrets.crash(0);
-    let text = life(alloc, OUTPUT, "")?;
-    let lines = format!(in alloc; "opened 0 0\n{SET_UP}done\n")?;
-    runs_to(
-        alloc,
-        text.as_str(),
-        &mut disk,
-        &mut secrets,
-        0,
-        lines.as_str(),
-    )
+    let lines = ["opened 0 0\n", SET_UP, "done\n"];
+    lives_to(alloc, OUTPUT, "", &mut disk, &mut secrets, 0, &lines)
 }
 
 #[test]
@@ -64,37 +70,13 @@ fn a_later_run_goes_on_over_the_same_devices(rt: HostRuntime) -> Result<(), Fail
     let alloc = rt.alloc();
     let mut disk = MemoryDisk::new(alloc);
     let mut secrets = MemorySecrets::new(alloc);
-    let text = life(alloc, OUTPUT, DEALING)?;
-    let lines = format!(in alloc; "opened 0 0\n{SET_UP}{ANSWERED}done\n")?;
-    runs_to(
-        alloc,
-        text.as_str(),
-        &mut disk,
-        &mut secrets,
-        0,
-        lines.as_str(),
-    )?;
-    let text = life(alloc, OUTPUT, "")?;
-    let lines = format!(in alloc; "opened 0 1\n{RESTORED}{SET_UP}done\n")?;
-    runs_to(
-        alloc,
-        text.as_str(),
-        &mut disk,
-        &mut secrets,
-        0,
-        lines.as_str(),
-    )?;
+    let lines = ["opened 0 0\n", SET_UP, ANSWERED, "done\n"];
+    lives_to(alloc, OUTPUT, DEALING, &mut disk, &mut secrets, 0, &lines)?;
+    let lines = ["opened 0 1\n", RESTORED, SET_UP, "done\n"];
+    lives_to(alloc, OUTPUT, "", &mut disk, &mut secrets, 0, &lines)?;
     // Of another output key 2 holds another share, so the round refuses the dealing.
-    let text = life(alloc, "03000600010002", "")?;
-    let lines = format!(in alloc;
-        "opened 0 1\n{RESTORED}committed 0 -\nregistered 0 member\nfault 17 1 0 2\n"
-    )?;
-    runs_to(
-        alloc,
-        text.as_str(),
-        &mut disk,
-        &mut secrets,
-        4,
-        lines.as_str(),
-    )
+    let refused = "committed 0 -\nregistered 0 member\nfault 17 1 0 2\n";
+    let lines = ["opened 0 1\n", RESTORED, refused];
+    let other = "03000600010002";
+    lives_to(alloc, other, "", &mut disk, &mut secrets, 4, &lines)
 }

@@ -1,7 +1,7 @@
 //! What words, sources and sinks give that are no script's affair.
 
 use crate::runs::command;
-use crate::texts::HEAD;
+use crate::texts::{HEAD, text};
 use dkg_journal::MemoryDisk;
 use dkg_run::{MemorySink, MemorySource};
 use dkg_store::MemorySecrets;
@@ -46,9 +46,9 @@ fn status_of(
 #[test]
 fn each_call_ends_with_its_status(rt: HostRuntime) -> Result<(), Fail> {
     let alloc = rt.alloc();
-    let text = format!(in alloc; "{HEAD}end\n")?;
+    let script = text(alloc, &[HEAD, "end\n"])?;
     for (words, read, write, status, wanted) in CALLS {
-        let bytes = Vec::from_slice(alloc, text.as_bytes())?;
+        let bytes = Vec::from_slice(alloc, script.as_bytes())?;
         let mut source = MemorySource::failing(bytes, vec![in alloc; read]?);
         let mut sink = MemorySink::failing(alloc, vec![in alloc; write]?);
         let number = status_of(alloc, words, &mut source, &mut sink)?;

@@ -25,15 +25,24 @@ pub const RESTORED: &str = "restored 0 2 03000f00070001 0017\n";
 pub const SET_UP: &str =
     "committed 0 -\nregistered 0 member\nsetup 0 early player\nentered 0\nstep 0\n";
 
+/// These pieces, one behind another.
+pub fn text(alloc: Global, pieces: &[&str]) -> Result<String, Fail> {
+    Ok(pieces.join(alloc, "")?)
+}
+
 /// A script whose epoch 0 has this output, with these lines behind its first block.
 pub fn script(alloc: Global, output: &str, rest: &str) -> Result<String, Fail> {
-    Ok(format!(in alloc;
-        "{HEAD}block 0 - 0 01000000000000000000000004{output}{KEYS}{KEYS}00{KEYS}{KEYS}\n{rest}end\n"
-    )?)
+    let info = "block 0 - 0 01000000000000000000000004";
+    text(
+        alloc,
+        &[
+            HEAD, info, output, KEYS, KEYS, "00", KEYS, KEYS, "\n", rest, "end\n",
+        ],
+    )
 }
 
 /// A script of one life with these events, each line ended.
 pub fn life(alloc: Global, output: &str, events: &str) -> Result<String, Fail> {
-    let lines = format!(in alloc; "life 9\nheld 0\n{events}stop 0\n")?;
+    let lines = text(alloc, &["life 9\nheld 0\n", events, "stop 0\n"])?;
     script(alloc, output, lines.as_str())
 }
