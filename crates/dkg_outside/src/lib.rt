@@ -1,7 +1,7 @@
 //! Where a command reads its script from, and where it writes its transcript to: a source and a sink of bytes, which may fail; those in memory, and
-//! any reader and any writer; and how all of a source is read, and a text written whole.
+//! any reader and any writer; how all of a source is read, and a text written whole; and how a command ended.
 //!
-//! It knows of no node, and of scripts no more than how many bytes one may have.
+//! It knows of no node but its faults, and of scripts no more than how many bytes one may have.
 #![tactic(auto)]
 
 mod calls;
