@@ -18,7 +18,7 @@ use Rattle.dkg_types.specs.BlockCodes.{info_of}
 use Rattle.dkg_types.specs.Blocks.{Block}
 use Rattle.dkg_types.specs.PayloadCodes.{its_log}
 use Rattle.dkg_infos.specs.declared.entry.Entry.TheVariants.{Acked, Committed}
-use Rattle.dkg_infos.specs.declared.entry.Entry.{Entry as Line}
+use Rattle.dkg_infos.specs.declared.entry.Entry.{Entry}
 use Rattle.dkg_infos.specs.declared.entry.Why.TheVariants.{Finished}
 use Rattle.dkg_infos.specs.declared.fault.Fault.TheVariants.{HeightRange, LocalState, MissingEpochInfo, WrongEpoch}
 use Rattle.dkg_infos.specs.declared.fault.Fault.{Fault}
@@ -72,19 +72,19 @@ equal_number : (n m : ℕ) → n ≡ m → (n == m) ≡ true
 equal_number n m e = grind (arith, nat_tests)
 
 -- A commit that is told is such a one.
-abbrev pub Tells : (So : ℕ → Option ℕ → Type 0) → Line → Type 0
+abbrev pub Tells : (So : ℕ → Option ℕ → Type 0) → Entry → Type 0
 Tells So (Committed epoch share) = So epoch share
 Tells So line = Unit {0}
 
 module _ {Dir : Type 0} (c : Fixed Dir) (So : ℕ → Option ℕ → Type 0) where
-  abbrev P : Line → Type 0
+  abbrev P : Entry → Type 0
   P = Tells So
 
-  plain : (line : Line) → IsUnasked line → P line
+  plain : (line : Entry) → IsUnasked line → P line
   plain (Committed epoch share) is = absurd is
   plain line is = tt
 
-  pub asked : (line : Line) → IsAskedLine line → P line
+  pub asked : (line : Entry) → IsAskedLine line → P line
   asked (Committed epoch share) is = absurd is
   asked line is = tt
 
@@ -214,7 +214,7 @@ module _ {Dir : Type 0} (c : Fixed Dir) (form : IsFormThrough c) (stored : OfSha
   abbrev Taken : ℕ → Option ℕ → Type 0
   Taken = IsTakenShare c stored block st held
 
-  abbrev Q : Line → Type 0
+  abbrev Q : Entry → Type 0
   Q = Tells Taken
 
   -- what is taken at this stage

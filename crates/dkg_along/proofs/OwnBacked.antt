@@ -18,7 +18,7 @@ use Rattle.dkg_journal.specs.Records.{SectionEntry as JournalEntry, from_section
 use Rattle.dkg_secrets.specs.Secrets.{Secrets, after}
 use Rattle.dkg_secrets.specs.declared.secrets.SecretOp.TheVariants.{Prune, PutSeed, PutShare}
 use Rattle.dkg_secrets.proofs.Map.{get_here, get_other, same_key}
-use Rattle.dkg_infos.specs.declared.entry.Entry.{Entry as Line}
+use Rattle.dkg_infos.specs.declared.entry.Entry.{Entry}
 use Rattle.dkg_infos.specs.declared.info.EpochInfo.{EpochInfo}
 use Rattle.dkg_script.specs.Blocks.{known_info, reshare_round, round_at}
 use Rattle.dkg_script.specs.Inclusion.{IsFormOfInclusion}
@@ -129,7 +129,7 @@ module _ (s : Setting) (form : IsFormOfInclusion s.script) where
       backed_less w new (subst (λ (t : Secrets). IsWhole (notes new.held) t) (sym is_t) (subst (λ (es : List JournalEntry). IsWhole es w.held.secrets) (sym is_es) q.whole))
       (λ key pair got. (sym (ap (λ (es : List JournalEntry). get (recovered es new.held.secrets) key) is_es ∙ ap (λ (t : Secrets). get (recovered (notes w.held) t) key) is_t) ∙ got, same_still w.held.secrets new.held.secrets key.0 is_t)) q
 
-  pub said_backed : (w : World) (line : Line) → IsBacked w → IsBacked (says w line)
+  pub said_backed : (w : World) (line : Entry) → IsBacked w → IsBacked (says w line)
   said_backed w line q = record { whole = q.whole; own = q.own }
 
   abbrev NoOwn : ℕ × ℕ → List ℕ × ℕ → Type 0

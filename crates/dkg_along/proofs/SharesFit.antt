@@ -16,7 +16,7 @@ use Rattle.dkg_secrets.proofs.Tried.{all_done}
 use Rattle.dkg_types.specs.BlockCodes.{info_of}
 use Rattle.dkg_types.specs.Blocks.{Block}
 use Rattle.dkg_infos.specs.Validation.{validation}
-use Rattle.dkg_infos.specs.declared.entry.Entry.{Entry as Line}
+use Rattle.dkg_infos.specs.declared.entry.Entry.{Entry}
 use Rattle.dkg_infos.specs.declared.fault.Fault.{Fault}
 use Rattle.dkg_infos.specs.declared.fault.Fault.TheVariants.{HeightRange, MissingEpochInfo, WrongEpoch}
 use Rattle.dkg_infos.specs.declared.info.EpochInfo.{EpochInfo}
@@ -103,7 +103,7 @@ module _ (Such : (epoch share : ℕ) → Type 0) where
       either (inl stays) = q epoch share (sym stays ∙ got)
       either (inr gone) = absurd (none_some (sym gone.1 ∙ got))
 
-  tell : (w : World) (line : Line) → IsAside line → A w → A (says w line)
+  tell : (w : World) (line : Entry) → IsAside line → A w → A (says w line)
   tell w line aside q = q
 
   module _ {Dir : Type 0} where

@@ -14,7 +14,7 @@ use Rattle.dkg_journal.specs.Burn.{Burn}
 use Rattle.dkg_types.specs.Blocks.{Block}
 use Rattle.dkg_types.specs.BlockCodes.{info_of}
 use Rattle.dkg_infos.specs.declared.directory.Unit as directory
-use Rattle.dkg_infos.specs.declared.entry.Entry.{Entry as Line}
+use Rattle.dkg_infos.specs.declared.entry.Entry.{Entry}
 use Rattle.dkg_infos.specs.declared.entry.Entry.TheVariants.{Acked, Entered}
 use Rattle.dkg_infos.specs.declared.fault.Fault.{Fault}
 use Rattle.dkg_infos.specs.declared.fault.Fault.TheVariants.{MissingEpochInfo, NoMemory, SkippedHeight, WrongEpoch}
@@ -84,7 +84,7 @@ module _ {F S T : Type 0} (next : S → Acts F T) where
   breaks_first cause (acts_of.Stops fault) w new none = none
 
 -- a world in which this was said
-abbrev world_of : List Line → Held → Burn → World
+abbrev world_of : List Entry → Held → Burn → World
 world_of out h f = record { out = out; held = h; fuse = f }
 
 module _ {S T : Type 0} (course : Course directory.Unit NodeStop S) (next : S → Course directory.Unit NodeStop T) where
@@ -95,12 +95,12 @@ module _ {S T : Type 0} (course : Course directory.Unit NodeStop S) (next : S �
   as_bound how w new = subst (λ (a : Acts NodeStop T). Runs a how w new) (sym (on_bind course next))
 
   -- the first went to its end
-  pub then_speaks : (end : S) (how : Ended NodeStop T) (out mid now : List Line) → Speaks course (went end) out mid → Speaks (next end) how mid now → Speaks (bind course next) how out now
+  pub then_speaks : (end : S) (how : Ended NodeStop T) (out mid now : List Entry) → Speaks course (went end) out mid → Speaks (next end) how mid now → Speaks (bind course next) how out now
   then_speaks end how out mid now a b = λ h f.
       as_bound how (world_of out h f) (world_of now h f) (runs_next behind_acts (on_devices course) how (world_of out h f) (world_of mid h f) (world_of now h f) end (a h f) (b h f))
 
   -- .. or ended by a stop
-  pub early_speaks : (its : Stop) (out now : List Line) → Speaks course (by_node_stop its) out now → Speaks (bind course next) (by_node_stop its) out now
+  pub early_speaks : (its : Stop) (out now : List Entry) → Speaks course (by_node_stop its) out now → Speaks (bind course next) (by_node_stop its) out now
   early_speaks its out now a = λ h f. as_bound (by_node_stop its) (world_of out h f) (world_of now h f) (in_stop its (world_of out h f) (world_of now h f) (a h f))
     where
       in_cause : (cause : Option Cause) (its : Fault) (w new : World) → Runs (on_devices course) (fault_named {S = S} Faulted (by_cause cause its)) w new
@@ -114,9 +114,9 @@ module _ {S T : Type 0} (course : Course directory.Unit NodeStop S) (next : S �
       in_stop stop.Failed w new a = breaks_first behind_acts by_want (on_devices course) w new a
 
 -- no memory was found before the first line
-pub wants_speaks : {S : Type 0} (course : Course directory.Unit NodeStop S) (its : Stop) → its ≡ stop.Fault NoMemory → (out now : List Line) → now ≡ out → Speaks course (by_node_stop its) out now
+pub wants_speaks : {S : Type 0} (course : Course directory.Unit NodeStop S) (its : Stop) → its ≡ stop.Fault NoMemory → (out now : List Entry) → now ≡ out → Speaks course (by_node_stop its) out now
 wants_speaks {S} course its is out now same =
-    subst (λ (l : List Line). Speaks course (by_node_stop its) out l) (sym same)
+    subst (λ (l : List Entry). Speaks course (by_node_stop its) out l) (sym same)
     (subst (λ (s : Stop). Speaks course (by_node_stop s) out out) (sym is) (λ h f. breaks_none by_want tt (on_devices course) (world_of out h f)))
 
 -- ANY BLOCK, where the half waits for nothing
@@ -148,24 +148,24 @@ module _ (c : Fixed directory.Unit) (b : Block directory.Unit) (st : Live direct
 
   module _ (epoch : ℕ) (is : (if half.halted then None else half.entered) ≡ Some epoch) where
     -- an active one stops
-    pub stops_so : (its : Stop) (out now : List Line) → Speaks (delivered_in c b st (Some epoch)) (by_node_stop its) out now → Speaks (bind (takes_delivered c b st) answers) (by_node_stop its) out now
+    pub stops_so : (its : Stop) (out now : List Entry) → Speaks (delivered_in c b st (Some epoch)) (by_node_stop its) out now → Speaks (bind (takes_delivered c b st) answers) (by_node_stop its) out now
     stops_so its out now a =
         subst (λ (x : Course directory.Unit NodeStop (Live directory.Unit)). Speaks x (by_node_stop its) out now) (in_epoch (Some epoch) is) (early_speaks (delivered_in c b st (Some epoch)) answers its out now a)
 
     -- .. or went on, and the block is acknowledged
-    acks : (end : Live directory.Unit) (out mid : List Line) → Speaks (delivered_in c b st (Some epoch)) (went (record { live = end; answer = Acknowledges })) out mid
-        → (how : Ended NodeStop (Live directory.Unit)) (now : List Line) → Speaks (says_acked end) how mid now → Speaks (bind (takes_delivered c b st) answers) how out now
+    acks : (end : Live directory.Unit) (out mid : List Entry) → Speaks (delivered_in c b st (Some epoch)) (went (record { live = end; answer = Acknowledges })) out mid
+        → (how : Ended NodeStop (Live directory.Unit)) (now : List Entry) → Speaks (says_acked end) how mid now → Speaks (bind (takes_delivered c b st) answers) how out now
     acks end out mid a how now more =
         subst (λ (x : Course directory.Unit NodeStop (Live directory.Unit)). Speaks x how out now) (in_epoch (Some epoch) is)
         (then_speaks (delivered_in c b st (Some epoch)) answers (record { live = end; answer = Acknowledges }) how out mid now a more)
 
-    module _ (end : Live directory.Unit) (out mid : List Line) (went_on : Speaks (delivered_in c b st (Some epoch)) (went (record { live = end; answer = Acknowledges })) out mid) where
-      pub acks_wanted : (now : List Line) → now ≡ mid → Speaks (bind (takes_delivered c b st) answers) (by_node_stop (stop.Fault NoMemory)) out now
+    module _ (end : Live directory.Unit) (out mid : List Entry) (went_on : Speaks (delivered_in c b st (Some epoch)) (went (record { live = end; answer = Acknowledges })) out mid) where
+      pub acks_wanted : (now : List Entry) → now ≡ mid → Speaks (bind (takes_delivered c b st) answers) (by_node_stop (stop.Fault NoMemory)) out now
       acks_wanted now same = acks end out mid went_on (by_node_stop (stop.Fault NoMemory)) now (wants_speaks (says_acked end) (stop.Fault NoMemory) refl mid now same)
 
-      pub acks_said : (height : ℕ) → height ≡ b.height → (now : List Line) → now ≡ mid ++ Acked height ∷ [] → Speaks (bind (takes_delivered c b st) answers) (went end) out now
+      pub acks_said : (height : ℕ) → height ≡ b.height → (now : List Entry) → now ≡ mid ++ Acked height ∷ [] → Speaks (bind (takes_delivered c b st) answers) (went end) out now
       acks_said height is now told =
-          acks end out mid went_on (went end) now (λ h f. (ap (λ (l : List Line). world_of l h f) (told ∙ ap (λ (n : ℕ). mid ++ Acked n ∷ []) is), refl))
+          acks end out mid went_on (went end) now (λ h f. (ap (λ (l : List Entry). world_of l h f) (told ∙ ap (λ (n : ℕ). mid ++ Acked n ∷ []) is), refl))
 
     -- it is active
     pub is_going : (half.halted ≡ false) × (half.entered ≡ Some epoch)

@@ -5,7 +5,7 @@ use Rattle.std.proofs.Math.ListN.{drop_of_length-le}
 use Rattle.dkg_journal.specs.Burn.{Burn}
 use Rattle.dkg_journal.specs.Names.{Files}
 use Rattle.dkg_infos.specs.declared.directory.Unit as directory
-use Rattle.dkg_infos.specs.declared.entry.Entry.{Entry as Line}
+use Rattle.dkg_infos.specs.declared.entry.Entry.{Entry}
 use Rattle.dkg_infos.specs.declared.entry.Entry.TheVariants as entry
 use Rattle.dkg_infos.specs.declared.fault.Fault.{Fault}
 use Rattle.dkg_infos.specs.declared.fault.Fault.TheVariants as fault
@@ -28,7 +28,7 @@ use Rattle.dkg_lives.specs.Ways.{Way, by_lines, by_worlds, trace}
 abbrev pub IsDone : Result (Unit {0}) Stop → Type 0
 IsDone how = how ≡ Ok tt
 
-module _ {W : Type 0} (way : Way W) (line : Line) (fuse : Option Burn) (course : Course directory.Unit NodeStop (Live directory.Unit)) (w : W) (next : Live directory.Unit → W → Type 0) where
+module _ {W : Type 0} (way : Way W) (line : Entry) (fuse : Option Burn) (course : Course directory.Unit NodeStop (Live directory.Unit)) (w : W) (next : Live directory.Unit → W → Type 0) where
   pub step_cut : fuse ≡ None → Steps way line fuse course w (Err Cut) w next
   step_cut none = subst (λ (o : Option Burn). Steps way line o course w (Err Cut) w next) (sym none) (refl, refl)
 
@@ -61,12 +61,12 @@ module _ {W : Type 0} (way : Way W) (line : Line) (fuse : Option Burn) (course :
           not_ok e = cc
 
 -- A step that was answered Ok ended so, and what comes then is what comes behind it.
-pub record GoneOn {W : Type 0} (way : Way W) (line : Line) (fuse : Option Burn) (course : Course directory.Unit NodeStop (Live directory.Unit)) (w mid : W) (V : Live directory.Unit → Type 0) : Type 1 where
+pub record GoneOn {W : Type 0} (way : Way W) (line : Entry) (fuse : Option Burn) (course : Course directory.Unit NodeStop (Live directory.Unit)) (w mid : W) (V : Live directory.Unit → Type 0) : Type 1 where
   pub end : Live directory.Unit
   pub so : V end
   pub on : (how : Result (Unit {0}) Stop) (new : W) (next : Live directory.Unit → W → Type 0) → next end mid → Steps way line fuse course w how new next
 
-pub step_goes_on : {W : Type 0} (way : Way W) (line : Line) (fuse : Option Burn) (course : Course directory.Unit NodeStop (Live directory.Unit)) (w mid : W) (V : Live directory.Unit → Type 0)
+pub step_goes_on : {W : Type 0} (way : Way W) (line : Entry) (fuse : Option Burn) (course : Course directory.Unit NodeStop (Live directory.Unit)) (w mid : W) (V : Live directory.Unit → Type 0)
     → Steps way line fuse course w (Ok tt) mid (λ end m. IsDone (Ok tt) × V end × (m ≡ mid)) → GoneOn way line fuse course w mid V
 step_goes_on {W} way line fuse course w mid V steps = in_fuse fuse steps
   where
@@ -146,7 +146,7 @@ uncut Cut is = refl
 uncut Failed is = absurd (let wrong : ◌≡◌ {A = Ended NodeStop (Live directory.Unit)} (broken by_want) (broken by_cut) = is in cc)
 uncut (FaultOf its) is = absurd (fault_uncut its is)
 
-pub lines_go : (course : Course directory.Unit NodeStop (Live directory.Unit)) (ended : Ended NodeStop (Live directory.Unit)) (f : Burn) (out now : List Line) (picks : List ℕ) → Tells course ended out now
+pub lines_go : (course : Course directory.Unit NodeStop (Live directory.Unit)) (ended : Ended NodeStop (Live directory.Unit)) (f : Burn) (out now : List Entry) (picks : List ℕ) → Tells course ended out now
     → (ended ≡ broken by_cut → 0 < f.call) → by_lines.goes course ended f (trace out picks) (trace now picks)
 lines_go course ended f out now picks told cut = (told, refl, cut)
 

@@ -10,7 +10,7 @@ use Rattle.dkg_journal.specs.Names.{Files}
 use Rattle.dkg_journal.specs.declared.journal.Journal.{Journal}
 use Rattle.dkg_types.specs.BlockCodes.{info_of}
 use Rattle.dkg_types.specs.Blocks.{Block}
-use Rattle.dkg_infos.specs.declared.entry.Entry.{Entry as Line}
+use Rattle.dkg_infos.specs.declared.entry.Entry.{Entry}
 use Rattle.dkg_infos.specs.declared.fault.Fault.{Fault}
 use Rattle.dkg_infos.specs.declared.fault.Fault.TheVariants.{MissingEpochInfo, WrongEpoch}
 use Rattle.dkg_infos.specs.declared.info.EpochInfo.{EpochInfo}
@@ -73,7 +73,7 @@ module _ {Dir : Type 0} (c : Fixed Dir) (b : Block Dir) where
     at_test q = if q then advanced c (begins_inclusion c (with_tip b st)) else Goes (with_tip b st)
 
     -- dealing goes on
-    pub goes_on : (b.height + 1 == mid.midpoint) ≡ false → (tip : Tip) → tip ≡ tip_at b → (out : List Line) → Speaks (ends_offers st) (went (live_of beside fence (record mid { tip = Some tip }))) out out
+    pub goes_on : (b.height + 1 == mid.midpoint) ≡ false → (tip : Tip) → tip ≡ tip_at b → (out : List Entry) → Speaks (ends_offers st) (went (live_of beside fence (record mid { tip = Some tip }))) out out
     goes_on is tip at out = goes_speaks (ends_offers st) (live_of beside fence (record mid { tip = Some tip })) (with_tip b st) (ap at_test (test_is false is)) (tipped b beside fence mid tip at) out
 
     -- or ends, and what waits is read
@@ -92,11 +92,11 @@ module _ {Dir : Type 0} (c : Fixed Dir) (b : Block Dir) where
       → MakesAt (on_devices (deals c st)) (by_stop stop) files image files_now now old new → MakesAt (on_devices (blocks.deals_at c b st)) (by_stop stop) files image files_now now old new
   unoffered_makes st stop first = early_makes (deals c st) ends_offers stop first
 
-  pub offered_told : (st mid : Live Dir) (how : Ended Fault (Live Dir)) {out at now : List Line} → Tells (deals c st) (went mid) out at → Tells (ends_offers mid) how at now
+  pub offered_told : (st mid : Live Dir) (how : Ended Fault (Live Dir)) {out at now : List Entry} → Tells (deals c st) (went mid) out at → Tells (ends_offers mid) how at now
       → Tells (blocks.deals_at c b st) how out now
   offered_told st mid how first second = then_told (deals c st) ends_offers mid how first second
 
-  pub unoffered_told : (st : Live Dir) (stop : Stop) {out now : List Line} → Tells (deals c st) (by_stop stop) out now → Tells (blocks.deals_at c b st) (by_stop stop) out now
+  pub unoffered_told : (st : Live Dir) (stop : Stop) {out now : List Entry} → Tells (deals c st) (by_stop stop) out now → Tells (blocks.deals_at c b st) (by_stop stop) out now
   unoffered_told st stop first = early_told (deals c st) ends_offers stop first
 
 -- WHAT A LAST BLOCK CARRIES
@@ -222,7 +222,7 @@ module _ {Dir : Type 0} (c : Fixed Dir) (b : Block Dir) (st : Live Dir) (n : ℕ
     pub at_its_last : (info : EpochInfo Dir) → carried_in bounds.epoch b ≡ Ok info → blocks.follows_at c b st ≡ blocks.follows_into c b info st
     at_its_last info is = ap at_last (last_is c b n same reshare bounds are true at) ∙ carried_well c b n same reshare bounds are goes_in info is
 
-    pub not_carried : (e : Fault) → carried_in bounds.epoch b ≡ Err e → (out : List Line) → Speaks (blocks.follows_at c b st) (by_stop (Faulted e)) out out
+    pub not_carried : (e : Fault) → carried_in bounds.epoch b ≡ Err e → (out : List Entry) → Speaks (blocks.follows_at c b st) (by_stop (Faulted e)) out out
     not_carried e is out =
         stops_speaks (blocks.follows_at c b st) e (ap at_last (last_is c b n same reshare bounds are true at) ∙ carried_ill c b n same reshare bounds are goes_in e is) (own_cause b bounds.epoch e is) out
 
@@ -270,22 +270,22 @@ module _ {Dir : Type 0} (c : Fixed Dir) (b : Block Dir) (info : EpochInfo Dir) (
 
   -- SAID
 
-  pub unread_told : (stop : Stop) {out now : List Line} → Tells (reads_secrets c info) (by_stop stop) out now → Tells (blocks.follows_into c b info st) (by_stop stop) out now
+  pub unread_told : (stop : Stop) {out now : List Entry} → Tells (reads_secrets c info) (by_stop stop) out now → Tells (blocks.follows_into c b info st) (by_stop stop) out now
   unread_told stop told = tells_as follows_is (by_stop stop) (early_told (reads_secrets c info) behind_secrets stop told)
 
-  module _ (share : Option ℕ) (seed : List ℕ) {out now : List Line} (read : Tells (reads_secrets c info) (went (share, seed)) out out) where
+  module _ (share : Option ℕ) (seed : List ℕ) {out now : List Entry} (read : Tells (reads_secrets c info) (went (share, seed)) out out) where
     behind_told : (how : Ended Fault (Live Dir)) → Tells (behind_secrets (share, seed)) how out now → Tells (blocks.follows_into c b info st) how out now
     behind_told how told = tells_as follows_is how (then_told (reads_secrets c info) behind_secrets (share, seed) how read told)
 
     pub uncommitted_told : (stop : Stop) → Tells (commits_both (share, seed)) (by_stop stop) out now → Tells (blocks.follows_into c b info st) (by_stop stop) out now
     uncommitted_told stop told = behind_told (by_stop stop) (early_told (commits_both (share, seed)) sets_up_next stop told)
 
-    pub took_over_told : (mid : Live Dir) (how : Ended Fault (Live Dir)) {at : List Line} → Tells (commits_both (share, seed)) (went mid) out at → Tells (setup.setup c None (with_tip b mid)) how at now
+    pub took_over_told : (mid : Live Dir) (how : Ended Fault (Live Dir)) {at : List Entry} → Tells (commits_both (share, seed)) (went mid) out at → Tells (setup.setup c None (with_tip b mid)) how at now
         → Tells (blocks.follows_into c b info st) how out now
     took_over_told mid how committed told = behind_told how (then_told (commits_both (share, seed)) sets_up_next mid how committed told)
 
 -- What some held shares and seeds give, a read without the plan can give.
-pub secrets_told : {Dir : Type 0} (c : Fixed Dir) (info : EpochInfo Dir) (share : Option ℕ) (seed : List ℕ) (h : Held) → ReadsPlanless c → GivesBoth c info share seed h → (out : List Line)
+pub secrets_told : {Dir : Type 0} (c : Fixed Dir) (info : EpochInfo Dir) (share : Option ℕ) (seed : List ℕ) (h : Held) → ReadsPlanless c → GivesBoth c info share seed h → (out : List Entry)
     → Tells (reads_secrets c info) (went (share, seed)) out out
 secrets_told c info share seed h reads gives out =
     let given : (setup.recovered_share c (c.seen h) info ≡ share) × (setup.seed_for c info.epoch (lookup info.epoch (c.seen h).seeds) ≡ seed) =

@@ -10,7 +10,7 @@ use Rattle.dkg_secrets.specs.Secrets.{Secrets}
 use Rattle.dkg_artifact.specs.Results.{Checked, checked}
 use Rattle.dkg_artifact.specs.declared.artifact.Artifact as artifact
 use Rattle.dkg_artifact.specs.declared.job.Job as job
-use Rattle.dkg_infos.specs.declared.entry.Entry.{Entry as Line}
+use Rattle.dkg_infos.specs.declared.entry.Entry.{Entry}
 use Rattle.dkg_infos.specs.declared.fault.Fault.{Fault}
 use Rattle.dkg_infos.specs.declared.fault.Fault.TheVariants.{HeightRange, LocalState, NoMemory}
 use Rattle.dkg_infos.specs.declared.fault.LocalCause.TheVariants.{StoredDealing}
@@ -143,7 +143,7 @@ module _ {Dir S : Type 0} (course : Course Dir Fault S) where
   pub goes_makes : (end : S) → course ≡ Goes end → (files : Files) (image : Files → Type 0) (m : Moment) → MakesAt (on_devices course) (went end) files image files image m m
   goes_makes end is files image m = makes_as is (went end) (makes_nothing files image m refl)
 
-  pub goes_tells : (end : S) → course ≡ Goes end → (out : List Line) → Tells course (went end) out out
+  pub goes_tells : (end : S) → course ≡ Goes end → (out : List Entry) → Tells course (went end) out out
   goes_tells end is out = tells_as is (went end) (goes_told Dir end out)
 
   pub wants_makes : (stop : Stop) → stop ≡ Faulted NoMemory → (files : Files) (image : Files → Type 0) (m : Moment) → MakesAt (on_devices course) (by_stop stop) files image files image m m
@@ -153,11 +153,11 @@ module _ {Dir S : Type 0} (course : Course Dir Fault S) where
 
 module _ {Dir : Type 0} (c : Fixed Dir) (round : Round) (logs : LogMap) (st : Live Dir) where
   -- it is found, and kept
-  pub verified_speaks : refusal_for c round logs st ≡ None → (end : Live Dir) → end ≡ found_live c round logs st → (out : List Line) → Speaks (verifies c round logs st) (went end) out out
+  pub verified_speaks : refusal_for c round logs st ≡ None → (end : Live Dir) → end ≡ found_live c round logs st → (out : List Entry) → Speaks (verifies c round logs st) (went end) out out
   verified_speaks passes end is out = goes_speaks (verifies c round logs st) end (found_live c round logs st) (verifies_well c round logs st passes) is out
 
   -- .. or no job is made
-  pub unmade_speaks : (stop : Stop) → (stop ≡ Faulted NoMemory) ⊎ ((refused : ℕ) × (stop ≡ Faulted (LocalState (StoredDealing round.number refused))) × (refusal_for c round logs st ≡ Some refused)) → (out : List Line)
+  pub unmade_speaks : (stop : Stop) → (stop ≡ Faulted NoMemory) ⊎ ((refused : ℕ) × (stop ≡ Faulted (LocalState (StoredDealing round.number refused))) × (refusal_for c round logs st ≡ Some refused)) → (out : List Entry)
       → Speaks (verifies c round logs st) (by_stop stop) out out
   unmade_speaks stop (inl want) out = wants_speaks (verifies c round logs st) stop want out out refl
   unmade_speaks stop (inr is) out =
@@ -191,13 +191,13 @@ found_as c outcome_of finish_of outcome finish j verified is made same = ap chec
 -- BY IT THE ARTIFACT
 
 module _ {Dir : Type 0} (c : Fixed Dir) (round : Round) (logs : LogMap) (st : Live Dir) (same : logs ≡ canonical c st) where
-  pub unseen_makes : (stop : Stop) {out : List Line} → Speaks (sees_verified c round logs st) (by_stop stop) out out → (files : Files) (image : Files → Type 0) (s : Secrets) (f : Burn)
+  pub unseen_makes : (stop : Stop) {out : List Entry} → Speaks (sees_verified c round logs st) (by_stop stop) out out → (files : Files) (image : Files → Type 0) (s : Secrets) (f : Burn)
       → MakesAt (on_devices (derives_now c round logs st)) (by_stop stop) files image files image (moment out s f) (moment out s f)
   unseen_makes stop speaks files image s f =
       makes_as (derives_now_is c round logs st same) (by_stop stop)
       (early_makes (sees_verified c round logs st) (derives_kept c) stop (speaks_makes (sees_verified c round logs st) (by_stop stop) files image speaks))
 
-  pub unseen_told : (stop : Stop) {out : List Line} → Speaks (sees_verified c round logs st) (by_stop stop) out out → Tells (derives_now c round logs st) (by_stop stop) out out
+  pub unseen_told : (stop : Stop) {out : List Entry} → Speaks (sees_verified c round logs st) (by_stop stop) out out → Tells (derives_now c round logs st) (by_stop stop) out out
   unseen_told stop speaks =
       tells_as (derives_now_is c round logs st same) (by_stop stop)
       (early_told (sees_verified c round logs st) (derives_kept c) stop (speaks_tells (sees_verified c round logs st) (by_stop stop) speaks))
@@ -206,14 +206,14 @@ module _ {Dir : Type 0} (c : Fixed Dir) (round : Round) (logs : LogMap) (st : Li
     kept_is : derives_kept c mid ≡ bind (sees_artifact c reshare r mid) (takes_cached r.logs)
     kept_is = ap (λ (o : Option core.VerifiedLogs). option_map_or (λ r. artifact_in c r mid) o (Stops HeightRange)) kept ∙ artifact_taken c reshare r mid
 
-    module _ {out : List Line} (sees : Speaks (sees_verified c round logs st) (went mid) out out) where
+    module _ {out : List Entry} (sees : Speaks (sees_verified c round logs st) (went mid) out out) where
       behind_makes : (how : Ended Fault (core.Artifact Dir × Live Dir)) {files files_now : Files} {image now : Files → Type 0} {s : Secrets} {f : Burn} {new : Moment}
           → MakesAt (on_devices (bind (sees_artifact c reshare r mid) (takes_cached r.logs))) how files image files_now now (moment out s f) new → MakesAt (on_devices (derives_now c round logs st)) how files image files_now now (moment out s f) new
       behind_makes how {files} {files_now} {image} {now} {s} {f} {new} made =
           makes_as (derives_now_is c round logs st same) how
           (then_makes (sees_verified c round logs st) (derives_kept c) mid how (speaks_makes (sees_verified c round logs st) (went mid) files image sees) (makes_as kept_is how made))
 
-      behind_told : (how : Ended Fault (core.Artifact Dir × Live Dir)) {now : List Line} → Tells (bind (sees_artifact c reshare r mid) (takes_cached r.logs)) how out now → Tells (derives_now c round logs st) how out now
+      behind_told : (how : Ended Fault (core.Artifact Dir × Live Dir)) {now : List Entry} → Tells (bind (sees_artifact c reshare r mid) (takes_cached r.logs)) how out now → Tells (derives_now c round logs st) how out now
       behind_told how told =
           tells_as (derives_now_is c round logs st same) how
           (then_told (sees_verified c round logs st) (derives_kept c) mid how (speaks_tells (sees_verified c round logs st) (went mid) sees) (tells_as kept_is how told))
@@ -223,7 +223,7 @@ module _ {Dir : Type 0} (c : Fixed Dir) (round : Round) (logs : LogMap) (st : Li
           → MakesAt (on_devices (sees_artifact c reshare r mid)) (by_stop stop) files image files_now now (moment out s f) new → MakesAt (on_devices (derives_now c round logs st)) (by_stop stop) files image files_now now (moment out s f) new
       unkept_makes stop made = behind_makes (by_stop stop) (early_makes (sees_artifact c reshare r mid) (takes_cached r.logs) stop made)
 
-      pub unkept_told : (stop : Stop) {now : List Line} → Tells (sees_artifact c reshare r mid) (by_stop stop) out now → Tells (derives_now c round logs st) (by_stop stop) out now
+      pub unkept_told : (stop : Stop) {now : List Entry} → Tells (sees_artifact c reshare r mid) (by_stop stop) out now → Tells (derives_now c round logs st) (by_stop stop) out now
       unkept_told stop told = behind_told (by_stop stop) (early_told (sees_artifact c reshare r mid) (takes_cached r.logs) stop told)
 
       -- one is, and it is what the cache has
@@ -234,7 +234,7 @@ module _ {Dir : Type 0} (c : Fixed Dir) (round : Round) (logs : LogMap) (st : Li
             subst (λ (x : Live Dir). MakesAt (on_devices (derives_now c round logs st)) (went (made, x)) files image files_now now (moment out s f) new) (sym at_last)
             (behind_makes (went (made, last)) (then_makes (sees_artifact c reshare r mid) (takes_cached r.logs) last (went (made, last)) first (goes_makes (takes_cached r.logs last) (made, last) (taken_as r.logs last made is) files_now now new)))
 
-        pub kept_told : (end : Live Dir) → end ≡ last → (made : core.Artifact Dir) → Some made ≡ including.cached_for last.inclusion.cached r.logs → {now : List Line}
+        pub kept_told : (end : Live Dir) → end ≡ last → (made : core.Artifact Dir) → Some made ≡ including.cached_for last.inclusion.cached r.logs → {now : List Entry}
             → Tells (sees_artifact c reshare r mid) (went last) out now → Tells (derives_now c round logs st) (went (made, end)) out now
         kept_told end at_last made is {now} first =
             subst (λ (x : Live Dir). Tells (derives_now c round logs st) (went (made, x)) out now) (sym at_last)
@@ -246,7 +246,7 @@ module _ {Dir : Type 0} (c : Fixed Dir) (round : Round) (logs : LogMap) (st : Li
         uncopied_makes stop want {files} {files_now} {image} {now} {s} {f} {new} first =
             behind_makes (by_stop stop) (then_makes (sees_artifact c reshare r mid) (takes_cached r.logs) last (by_stop stop) first (wants_makes (takes_cached r.logs last) stop want files_now now new))
 
-        pub uncopied_told : (stop : Stop) → stop ≡ Faulted NoMemory → {now : List Line} → Tells (sees_artifact c reshare r mid) (went last) out now → Tells (derives_now c round logs st) (by_stop stop) out now
+        pub uncopied_told : (stop : Stop) → stop ≡ Faulted NoMemory → {now : List Entry} → Tells (sees_artifact c reshare r mid) (went last) out now → Tells (derives_now c round logs st) (by_stop stop) out now
         uncopied_told stop want {now} first =
             behind_told (by_stop stop) (then_told (sees_artifact c reshare r mid) (takes_cached r.logs) last (by_stop stop) first
             (speaks_tells (takes_cached r.logs last) (by_stop stop) (wants_speaks (takes_cached r.logs last) stop want now now refl)))

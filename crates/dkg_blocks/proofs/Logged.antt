@@ -12,7 +12,7 @@ use Rattle.dkg_ceremony.specs.declared.signed_log.SignedDealerLog.{SignedDealerL
 use Rattle.dkg_fence.specs.Readiness.{Readiness}
 use Rattle.dkg_journal.specs.Names.{Files}
 use Rattle.dkg_secrets.specs.Keys.{key_cmp}
-use Rattle.dkg_infos.specs.declared.entry.Entry.{Entry as Line}
+use Rattle.dkg_infos.specs.declared.entry.Entry.{Entry}
 use Rattle.dkg_infos.specs.declared.fault.Fault.{Fault}
 use Rattle.dkg_store.specs.Acts as acts_of
 use Rattle.dkg_store.specs.Acts.{Acts, Moment, went}
@@ -66,7 +66,7 @@ module _ {Dir : Type 0} (epoch dealer height : ℕ) (log : DealerLog) (st : Live
   logs_as false = refl
 
   -- nothing is said
-  logged_said : (recorded : Bool) (out : List Line) → Said (acts_of.bind (its_acts recorded) (then_goes recorded)) (went (logged_in recorded)) out out
+  logged_said : (recorded : Bool) (out : List Entry) → Said (acts_of.bind (its_acts recorded) (then_goes recorded)) (went (logged_in recorded)) out out
   logged_said true out = record { lines = []; added = sym (append-nil out); by = (refl, refl) }
   logged_said false out = record { lines = []; added = sym (append-nil out); by = (refl, refl) }
 
@@ -95,7 +95,7 @@ module _ {Dir : Type 0} (life : Life Dir) (beside : Beside Dir) (fence : Readine
       ∙ logs_as epoch signed.dealer height signed.log st recorded
 
   -- WHAT WAS RECORDED BEFORE
-  pub known_speaks : recorded ≡ true → (out : List Line) → Speaks course (went (live_of beside fence (record life { store = old }))) out out
+  pub known_speaks : recorded ≡ true → (out : List Entry) → Speaks course (went (live_of beside fence (record life { store = old }))) out out
   known_speaks is out =
       goes_speaks course (live_of beside fence (record life { store = old })) st
       (ap (λ (r : Bool). let its : Course Dir Fault (Live Dir) = if r then Goes st else appends epoch (carried_log_event signed.dealer height signed.log) (Goes (blocks.with_log_at epoch signed.dealer height signed.log st)) in its) (recorded_is ∙ is))
@@ -138,7 +138,7 @@ module _ {Dir : Type 0} (life : Life Dir) (beside : Beside Dir) (fence : Readine
           subst (λ (x : Acts Fault (Live Dir)). MakesAt x (went (live_of beside fence new)) files image files_now between before mid) (sym course_is)
           (makes_next next first (makes_nothing files_now between mid (logged_live recorded records)))
 
-      pub log_said : (out : List Line) → Said (on_devices course) (went (live_of beside fence new)) out out
+      pub log_said : (out : List Entry) → Said (on_devices course) (went (live_of beside fence new)) out out
       log_said out =
           subst (λ (x : Live Dir). Said (on_devices course) (went x) out out) (sym (logged_live recorded records))
           (subst (λ (x : Acts Fault (Live Dir)). Said x (went (logged_in epoch signed.dealer height signed.log st recorded)) out out) (sym course_is)

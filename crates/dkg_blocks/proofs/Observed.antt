@@ -7,7 +7,7 @@ use Rattle.dkg_fence.specs.Readiness.{Readiness}
 use Rattle.dkg_journal.specs.Names.{Files}
 use Rattle.dkg_types.specs.Blocks.{Block}
 use Rattle.dkg_types.specs.PayloadCodes.{its_log}
-use Rattle.dkg_infos.specs.declared.entry.Entry.{Entry as Line}
+use Rattle.dkg_infos.specs.declared.entry.Entry.{Entry}
 use Rattle.dkg_infos.specs.declared.fault.Fault.{Fault}
 use Rattle.dkg_store.specs.Acts.{Moment, went}
 use Rattle.dkg_store.specs.declared.dealer.Dealer.{Dealer}
@@ -106,7 +106,7 @@ module _ {Dir : Type 0} (c : Fixed Dir) (round : Round) (b : Block Dir) (st : Li
   whole = blocks.observes c round b st (option_and_then its_log b.payload)
 
   -- no log is carried
-  pub bare_speaks : (end : Live Dir) → end ≡ st → option_and_then its_log b.payload ≡ None → (out : List Line) → Speaks whole (went end) out out
+  pub bare_speaks : (end : Live Dir) → end ≡ st → option_and_then its_log b.payload ≡ None → (out : List Entry) → Speaks whole (went end) out out
   bare_speaks end same none out = goes_speaks whole end st (ap (λ (o : Option SignedDealerLog). blocks.observes c round b st o) none) same out
 
   module _ (signed : SignedDealerLog) (carried : option_and_then its_log b.payload ≡ Some signed) where
@@ -120,7 +120,7 @@ module _ {Dir : Type 0} (c : Fixed Dir) (round : Round) (b : Block Dir) (st : Li
     observes_as test counts = ap (λ (o : Option SignedDealerLog). blocks.observes c round b st o) carried ∙ ap (λ (t : Bool). if t then bind recording clearing else Goes st) counts
 
     -- it doesn't count
-    pub passed_over : (end : Live Dir) → end ≡ st → recorded.is_accepted c round signed ≡ false → (out : List Line) → Speaks whole (went end) out out
+    pub passed_over : (end : Live Dir) → end ≡ st → recorded.is_accepted c round signed ≡ false → (out : List Entry) → Speaks whole (went end) out out
     passed_over end same counts out = goes_speaks whole end st (observes_as false counts) same out
 
     module _ (counts : recorded.is_accepted c round signed ≡ true) where
@@ -130,7 +130,7 @@ module _ {Dir : Type 0} (c : Fixed Dir) (round : Round) (b : Block Dir) (st : Li
           subst (λ (x : Course Dir Fault (Live Dir)). MakesAt (on_devices x) (went end) files image files_now now old new) (sym (observes_as true counts))
           (then_makes recording clearing mid (went end) first (makes_nothing files_now now new is))
 
-      pub observed_told : (mid end : Live Dir) → end ≡ blocks.without_own_log c signed.dealer mid → {out now : List Line} → Tells recording (went mid) out now → Tells whole (went end) out now
+      pub observed_told : (mid end : Live Dir) → end ≡ blocks.without_own_log c signed.dealer mid → {out now : List Entry} → Tells recording (went mid) out now → Tells whole (went end) out now
       observed_told mid end is {out} {now} first =
           subst (λ (x : Course Dir Fault (Live Dir)). Tells x (went end) out now) (sym (observes_as true counts))
           (then_told recording clearing mid (went end) first (subst (λ (e : Live Dir). Tells (clearing mid) (went e) now now) (sym is) (goes_told Dir (blocks.without_own_log c signed.dealer mid) now)))
@@ -140,6 +140,6 @@ module _ {Dir : Type 0} (c : Fixed Dir) (round : Round) (b : Block Dir) (st : Li
       unrecorded_makes stop {files} {files_now} {image} {now} {old} {new} first =
           subst (λ (x : Course Dir Fault (Live Dir)). MakesAt (on_devices x) (by_stop stop) files image files_now now old new) (sym (observes_as true counts)) (early_makes recording clearing stop first)
 
-      pub unrecorded_told : (stop : Stop) {out now : List Line} → Tells recording (by_stop stop) out now → Tells whole (by_stop stop) out now
+      pub unrecorded_told : (stop : Stop) {out now : List Entry} → Tells recording (by_stop stop) out now → Tells whole (by_stop stop) out now
       unrecorded_told stop {out} {now} first =
           subst (λ (x : Course Dir Fault (Live Dir)). Tells x (by_stop stop) out now) (sym (observes_as true counts)) (early_told recording clearing stop first)

@@ -5,7 +5,7 @@ use Rattle.dkg_values.specs.Rising.{lookup}
 use Rattle.dkg_fence.specs.Readiness.{Readiness}
 use Rattle.dkg_journal.specs.Names.{Files}
 use Rattle.dkg_types.specs.Blocks.{Block}
-use Rattle.dkg_infos.specs.declared.entry.Entry.{Entry as Line}
+use Rattle.dkg_infos.specs.declared.entry.Entry.{Entry}
 use Rattle.dkg_infos.specs.declared.fault.Fault.{Fault}
 use Rattle.dkg_infos.specs.declared.info.EpochInfo.{EpochInfo}
 use Rattle.dkg_types.specs.declared.scheme.SchemeInfo.{SchemeInfo}
@@ -108,19 +108,19 @@ module _ {Dir : Type 0} (c : Fixed Dir) (b : Block Dir) (info : EpochInfo Dir) (
 
     -- SAID
 
-    pub seed_unread_told : (stop : Stop) {out now : List Line} → Tells (reads_seed c info) (by_stop stop) out now → Tells (blocks.takes_over c b info share st) (by_stop stop) out now
+    pub seed_unread_told : (stop : Stop) {out now : List Entry} → Tells (reads_seed c info) (by_stop stop) out now → Tells (blocks.takes_over c b info share st) (by_stop stop) out now
     seed_unread_told stop told = tells_as takes_is (by_stop stop) (early_told (reads_seed c info) behind_seed stop told)
 
-    module _ (seed : List ℕ) {out now : List Line} (read : Tells (reads_seed c info) (went seed) out out) where
+    module _ (seed : List ℕ) {out now : List Entry} (read : Tells (reads_seed c info) (went seed) out out) where
       pub untaken_told : (stop : Stop) → Tells (commits_with seed) (by_stop stop) out now → Tells (blocks.takes_over c b info share st) (by_stop stop) out now
       untaken_told stop told = tells_as takes_is (by_stop stop) (then_told (reads_seed c info) behind_seed seed (by_stop stop) read (early_told (commits_with seed) then_passes stop told))
 
-      pub taken_told : (mid : Live Dir) (how : Ended Fault (Live Dir)) {at : List Line} → Tells (commits_with seed) (went mid) out at → Tells (then_passes mid) how at now
+      pub taken_told : (mid : Live Dir) (how : Ended Fault (Live Dir)) {at : List Entry} → Tells (commits_with seed) (went mid) out at → Tells (then_passes mid) how at now
           → Tells (blocks.takes_over c b info share st) how out now
       taken_told mid how committed told = tells_as takes_is how (then_told (reads_seed c info) behind_seed seed how read (then_told (commits_with seed) then_passes mid how committed told))
 
 -- What some held seeds give, a read of today can give.
-pub seed_told : {Dir : Type 0} (c : Fixed Dir) (info : EpochInfo Dir) (seed : List ℕ) (h : Held) → ReadsPlanless c → GivesSeed c info seed h → (out : List Line) → Tells (reads_seed c info) (went seed) out out
+pub seed_told : {Dir : Type 0} (c : Fixed Dir) (info : EpochInfo Dir) (seed : List ℕ) (h : Held) → ReadsPlanless c → GivesSeed c info seed h → (out : List Entry) → Tells (reads_seed c info) (went seed) out out
 seed_told c info seed h reads gives out =
     let given : setup.seed_for c info.epoch (lookup info.epoch (c.seen h).seeds) ≡ seed = gives (c.seen h) (ap (λ (seen : Held → Seen). (seen h).seeds) reads) in
     record { lines = []; added = sym (append-nil out); by = (h, (refl, sym given)) }

@@ -6,7 +6,7 @@ ghost use Rattle.dkg_ceremony.specs.declared.round.RoundParts.{RoundParts as Rou
 ghost use Rattle.dkg_fence.specs.Readiness.{Readiness};
 ghost use Rattle.dkg_store.specs.Corrupt.{AreFit};
 ghost use Rattle.dkg_types.specs.PayloadCodes.{its_log, log_payload};
-ghost use Rattle.dkg_infos.specs.declared.entry.Entry.{Entry as Line};
+ghost use Rattle.dkg_infos.specs.declared.entry.Entry.{Entry};
 ghost use Rattle.dkg_infos.specs.declared.fault.Fault.TheVariants.{NoMemory as OutOfMemory};
 ghost use Rattle.dkg_core.specs.Blocks as blocks;
 ghost use Rattle.dkg_core.specs.Fixed.{Fixed, has};
@@ -78,10 +78,10 @@ fn record<Dir: Directory + Drop, D: Disk, X: SecretStore>(
     requires firm { IsTrue D.tells → IsFirm store.old.journal (D.files devices.old.disk.now) (D.image devices.old.disk.now) }
     ensures firm { OnOk result (IsTrue D.tells → IsFirm store.new.journal (D.files devices.new.disk.now) (D.image devices.new.disk.now)) }
     ensures rest { store.new ≡ record store.old { journal = store.new.journal; logs = store.new.logs } }
-    ensures acts { IsTrue D.tells → IsTrue X.tells → (life : Life Dir) (beside : Beside Dir) (fence : Readiness) (out : List Line) → life.store ≡ store.old
+    ensures acts { IsTrue D.tells → IsTrue X.tells → (life : Life Dir) (beside : Beside Dir) (fence : Readiness) (out : List Entry) → life.store ≡ store.old
         → Makes D.files D.image X.held (blocks.records_log epoch height signed.now (live_of beside fence life))
         (ends_in (live_of beside fence (record life { store = store.new })) result) devices.old devices.new out out }
-    ensures tells { (life : Life Dir) (beside : Beside Dir) (fence : Readiness) (out : List Line) → life.store ≡ store.old
+    ensures tells { (life : Life Dir) (beside : Beside Dir) (fence : Readiness) (out : List Entry) → life.store ≡ store.old
         → Tells (blocks.records_log epoch height signed.now (live_of beside fence life))
         (ends_in (live_of beside fence (record life { store = store.new })) result) out out }
     ensures moved { Moved D.tells D.made X.made D.faults X.faults devices.old devices.new }
@@ -129,12 +129,12 @@ pub fn observe<C: Ceremony, Dir: Directory + Drop, D: Disk, X: SecretStore>(
       store = record life.old.store { journal = life.new.store.journal; logs = life.new.store.logs };
       dealer = life.new.dealer;
     } }
-    ensures acts { IsTrue D.tells → IsTrue X.tells → (c : Fixed Dir) (round : Round) (beside : Beside Dir) (fence : Readiness) (out : List Line)
+    ensures acts { IsTrue D.tells → IsTrue X.tells → (c : Fixed Dir) (round : Round) (beside : Beside Dir) (fence : Readiness) (out : List Entry)
         → c.me ≡ terms.now.me
         → c.rules.check_log_of ≡ C.check_log_of → life.old.round ≡ Some round
         → Makes D.files D.image X.held (blocks.observes c round block.now (live_of beside fence life.old) (option_and_then its_log block.now.payload))
         (ends_in (live_of beside fence life.new) result) devices.old devices.new out out }
-    ensures tells { (c : Fixed Dir) (round : Round) (beside : Beside Dir) (fence : Readiness) (out : List Line) → c.me ≡ terms.now.me
+    ensures tells { (c : Fixed Dir) (round : Round) (beside : Beside Dir) (fence : Readiness) (out : List Entry) → c.me ≡ terms.now.me
         → c.rules.check_log_of ≡ C.check_log_of → life.old.round ≡ Some round
         → Tells (blocks.observes c round block.now (live_of beside fence life.old) (option_and_then its_log block.now.payload))
         (ends_in (live_of beside fence life.new) result) out out }

@@ -12,7 +12,7 @@ use Rattle.dkg_fence.specs.declared.fence.Waited.TheVariants as waits
 use Rattle.dkg_fence.specs.Fence.{waited}
 use Rattle.dkg_types.specs.Blocks.{Block}
 use Rattle.dkg_types.specs.BlockCodes.{info_of}
-use Rattle.dkg_infos.specs.declared.entry.Entry.{Entry as Line}
+use Rattle.dkg_infos.specs.declared.entry.Entry.{Entry}
 use Rattle.dkg_infos.specs.declared.entry.Entry.TheVariants.{Acked, Entered}
 use Rattle.dkg_infos.specs.declared.fault.Fault.{Fault}
 use Rattle.dkg_infos.specs.declared.fault.Fault.TheVariants.{HeightRange, MissingEpochInfo, SkippedHeight, WrongEpoch}
@@ -35,7 +35,7 @@ use Rattle.dkg_core.proofs.Splitting.{runs_split, runs_under, said_split, said_u
 
 -- COURSES THAT ONLY SAY
 
-module _ {Dir F S : Type 0} (P : Line → Type 0) (Q : S → Type 0) where
+module _ {Dir F S : Type 0} (P : Entry → Type 0) (Q : S → Type 0) where
   pub only_if : (t : Bool) (x y : Course Dir F S) → OnlySays P Q x → OnlySays P Q y → OnlySays P Q (if t then x else y)
   only_if true x y one other = one
   only_if false x y one other = other
@@ -45,7 +45,7 @@ module _ {Dir F S : Type 0} (P : Line → Type 0) (Q : S → Type 0) where
   only_option f (Some a) none some without = some a
 
 -- one behind another
-pub only_behind : {Dir F S T : Type 0} (P : Line → Type 0) (Q : S → Type 0) (R : T → Type 0) (course : Course Dir F S) (next : S → Course Dir F T)
+pub only_behind : {Dir F S T : Type 0} (P : Entry → Type 0) (Q : S → Type 0) (R : T → Type 0) (course : Course Dir F S) (next : S → Course Dir F T)
     → OnlySays P Q course → ((end : S) → Q end → OnlySays P R (next end)) → OnlySays P R (bind course next)
 only_behind P Q R (Say line course) next only so = (only.0, only_behind P Q R course next only.1 so)
 only_behind P Q R (Do op course) next only so = absurd only
@@ -54,7 +54,7 @@ only_behind P Q R (Ask f) next only so = λ h. only_behind P Q R (f h) next (onl
 only_behind P Q R (Goes end) next only so = so end only
 only_behind P Q R (Stops fault) next only so = tt
 
-pub only_under : {Dir F G S : Type 0} (P : Line → Type 0) (Q : S → Type 0) (name : F → G) (course : Course Dir F S) → OnlySays P Q course → OnlySays P Q (under name course)
+pub only_under : {Dir F G S : Type 0} (P : Entry → Type 0) (Q : S → Type 0) (name : F → G) (course : Course Dir F S) → OnlySays P Q course → OnlySays P Q (under name course)
 only_under P Q name (Say line course) only = (only.0, only_under P Q name course only.1)
 only_under P Q name (Do op course) only = absurd only
 only_under P Q name (Call outer course) only = only_under P Q name course only
@@ -169,29 +169,29 @@ IfGoes Q (went end) = Q end
 IfGoes Q (stopped fault) = Unit {0}
 IfGoes Q (broken cause) = Unit {0}
 
-pub record LeavesDevices {F S : Type 0} (P : Line → Type 0) (Q : S → Type 0) (ended : Ended F S) (w new : World) : Type 0 where
+pub record LeavesDevices {F S : Type 0} (P : Entry → Type 0) (Q : S → Type 0) (ended : Ended F S) (w new : World) : Type 0 where
   pub held : new.held ≡ w.held
   pub fuse : new.fuse ≡ w.fuse
-  pub lines : List Line
+  pub lines : List Entry
   pub out : new.out ≡ w.out ++ lines
   pub says : AllByRecursion P lines
   pub goes : IfGoes Q ended
 
-pub record OnlySaid {F S : Type 0} (P : Line → Type 0) (Q : S → Type 0) (ended : Ended F S) (old new : List Line) : Type 0 where
-  pub lines : List Line
+pub record OnlySaid {F S : Type 0} (P : Entry → Type 0) (Q : S → Type 0) (ended : Ended F S) (old new : List Entry) : Type 0 where
+  pub lines : List Entry
   pub out : new ≡ old ++ lines
   pub says : AllByRecursion P lines
   pub goes : IfGoes Q ended
 
 -- such lines
-all_such : (P : Line → Type 0) (line : Line) (lines rest : List Line) → lines ≡ line ∷ rest → P line → AllByRecursion P rest → AllByRecursion P lines
-all_such P line lines rest are is all = subst (λ (ls : List Line). AllByRecursion P ls) (sym are) (is, all)
+all_such : (P : Entry → Type 0) (line : Entry) (lines rest : List Entry) → lines ≡ line ∷ rest → P line → AllByRecursion P rest → AllByRecursion P lines
+all_such P line lines rest are is all = subst (λ (ls : List Entry). AllByRecursion P ls) (sym are) (is, all)
 
-none_such : (P : Line → Type 0) (lines : List Line) → lines ≡ [] → AllByRecursion P lines
-none_such P lines are = subst (λ (ls : List Line). AllByRecursion P ls) (sym are) tt
+none_such : (P : Entry → Type 0) (lines : List Entry) → lines ≡ [] → AllByRecursion P lines
+none_such P lines are = subst (λ (ls : List Entry). AllByRecursion P ls) (sym are) tt
 
-module _ {F S : Type 0} (P : Line → Type 0) (Q : S → Type 0) where
-  one_more : (line : Line) (ended : Ended F S) (w new : World) → P line → LeavesDevices P Q ended (says w line) new → LeavesDevices P Q ended w new
+module _ {F S : Type 0} (P : Entry → Type 0) (Q : S → Type 0) where
+  one_more : (line : Entry) (ended : Ended F S) (w new : World) → P line → LeavesDevices P Q ended (says w line) new → LeavesDevices P Q ended w new
   one_more line ended w new is leaves = record {
     held = leaves.held;
     fuse = leaves.fuse;
@@ -211,7 +211,7 @@ module _ {F S : Type 0} (P : Line → Type 0) (Q : S → Type 0) where
     goes = goes;
   }
 
-module _ {Dir F S : Type 0} (P : Line → Type 0) (Q : S → Type 0) where
+module _ {Dir F S : Type 0} (P : Entry → Type 0) (Q : S → Type 0) where
   completes : (course : Course Dir F S) (end : S) (w new : World) → OnlySays P Q course → Completes (on_devices course) end w new → LeavesDevices {F = F} P Q (went end) w new
   completes (Say line course) end w new only run = one_more P Q line (went end) w new only.0 (completes course end (says w line) new only.1 run)
   completes (Do op course) end w new only run = absurd only
@@ -242,7 +242,7 @@ module _ {Dir F S : Type 0} (P : Line → Type 0) (Q : S → Type 0) where
   leaves_devices course (stopped fault) w new only run = faults course fault w new only run
   leaves_devices course (broken cause) w new only run = breaks cause course w new only run
 
-  all_says : (course : Course Dir F S) (end : S) (lines : List Line) → OnlySays P Q course → SaysAll (on_devices course) end lines → AllByRecursion P lines × Q end
+  all_says : (course : Course Dir F S) (end : S) (lines : List Entry) → OnlySays P Q course → SaysAll (on_devices course) end lines → AllByRecursion P lines × Q end
   all_says (Say line course) end lines only by = let rest = all_says course end by.0 only.1 by.2 in (all_such P line lines by.0 by.1 only.0 rest.0, rest.1)
   all_says (Do op course) end lines only by = absurd only
   all_says (Call outer course) end lines only by = all_says course end lines only by
@@ -250,7 +250,7 @@ module _ {Dir F S : Type 0} (P : Line → Type 0) (Q : S → Type 0) where
   all_says (Goes its) end lines only by = (none_such P lines by.0, subst Q (sym by.1) only)
   all_says (Stops fault) end lines only by = absurd by
 
-  up_to_says : (course : Course Dir F S) (fault : F) (lines : List Line) → OnlySays P Q course → SaysUpTo (on_devices course) fault lines → AllByRecursion P lines
+  up_to_says : (course : Course Dir F S) (fault : F) (lines : List Entry) → OnlySays P Q course → SaysUpTo (on_devices course) fault lines → AllByRecursion P lines
   up_to_says (Say line course) fault lines only by = all_such P line lines by.0 by.1 only.0 (up_to_says course fault by.0 only.1 by.2)
   up_to_says (Do op course) fault lines only by = absurd only
   up_to_says (Call outer course) fault lines only by = up_to_says course fault lines only by
@@ -258,7 +258,7 @@ module _ {Dir F S : Type 0} (P : Line → Type 0) (Q : S → Type 0) where
   up_to_says (Goes its) fault lines only by = absurd by
   up_to_says (Stops its) fault lines only by = none_such P lines by.0
 
-  first_says : (course : Course Dir F S) (lines : List Line) → OnlySays P Q course → SaysFirst (on_devices course) lines → AllByRecursion P lines
+  first_says : (course : Course Dir F S) (lines : List Entry) → OnlySays P Q course → SaysFirst (on_devices course) lines → AllByRecursion P lines
   first_says (Say line course) lines only (inl none) = none_such P lines none
   first_says (Say line course) lines only (inr by) = all_such P line lines by.0 by.1 only.0 (first_says course by.0 only.1 by.2)
   first_says (Do op course) lines only by = absurd only
@@ -268,7 +268,7 @@ module _ {Dir F S : Type 0} (P : Line → Type 0) (Q : S → Type 0) where
   first_says (Goes its) lines only by = none_such P lines by
   first_says (Stops fault) lines only by = none_such P lines by
 
-  pub only_said : (course : Course Dir F S) (ended : Ended F S) (old new : List Line) → OnlySays P Q course → Said (on_devices course) ended old new → OnlySaid P Q ended old new
+  pub only_said : (course : Course Dir F S) (ended : Ended F S) (old new : List Entry) → OnlySays P Q course → Said (on_devices course) ended old new → OnlySaid P Q ended old new
   only_said course (went end) old new only said = let all = all_says course end said.lines only said.by in record { lines = said.lines; out = said.added; says = all.0; goes = all.1 }
   only_said course (stopped fault) old new only said = record { lines = said.lines; out = said.added; says = up_to_says course fault said.lines only said.by; goes = tt }
   only_said course (broken cause) old new only said = record { lines = said.lines; out = said.added; says = first_says course said.lines only said.by; goes = tt }
@@ -305,7 +305,7 @@ module _ {Dir : Type 0} (course : Course Dir Fault (Live Dir)) (next : Live Dir 
   early_behind (broken cause) (broken other) (stopped stop) is so = absurd so
   early_behind (broken cause) (broken other) (broken its) is so = sym (ap broken so) ∙ is
 
-  early_silent : (its : Ended Fault (Live Dir)) → IfEarly {S = Live Dir} its (◌≡◌ {A = List Line} [] [])
+  early_silent : (its : Ended Fault (Live Dir)) → IfEarly {S = Live Dir} its (◌≡◌ {A = List Entry} [] [])
   early_silent (went st) = tt
   early_silent (stopped fault) = refl
   early_silent (broken cause) = refl
@@ -345,7 +345,7 @@ module _ {Dir : Type 0} (course : Course Dir Fault (Live Dir)) (next : Live Dir 
       by_half st mid (stopped fault) is run = absurd (went_apart st (Faulted fault) is)
       by_half st mid (broken cause) is run = absurd (went_unbroken {F = NodeStop} st cause is)
 
-  said_behind : (ended : Ended NodeStop (Live Dir)) (old new : List Line) → Said (on_devices (bind (under Faulted course) next)) ended old new → SaidBehind course ended old new
+  said_behind : (ended : Ended NodeStop (Live Dir)) (old new : List Entry) → Said (on_devices (bind (under Faulted course) next)) ended old new → SaidBehind course ended old new
   said_behind ended old new said = elim (said_split (under Faulted course) next ended old new said) [
     | inl both ↦ (let its = said_under Faulted course (went both.0) old both.1 both.2 in
         let left = only_said IsAside (IsSameBeside both.0) (next both.0) ended both.1 new (aside both.0) both.3 in
@@ -371,7 +371,7 @@ module _ {Dir : Type 0} (course : Course Dir Fault (Live Dir)) (next : Live Dir 
     })
   ]
     where
-      by_half : (st : Live Dir) (mid : List Line) (its : Ended Fault (Live Dir)) → went st ≡ fault_named Faulted its → Said (on_devices course) its old mid → Said (on_devices course) (went st) old mid
+      by_half : (st : Live Dir) (mid : List Entry) (its : Ended Fault (Live Dir)) → went st ≡ fault_named Faulted its → Said (on_devices course) its old mid → Said (on_devices course) (went st) old mid
       by_half st mid (went end) is said = subst (λ (x : Live Dir). Said (on_devices course) (went x) old mid) (sym (same_end {F = NodeStop} st end is)) said
       by_half st mid (stopped fault) is said = absurd (went_apart st (Faulted fault) is)
       by_half st mid (broken cause) is said = absurd (went_unbroken {F = NodeStop} st cause is)

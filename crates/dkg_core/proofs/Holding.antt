@@ -3,13 +3,13 @@ use Rattle.std.proofs.Common.{◌≡◌, List, ◌∷◌, Bool, true, false, Opt
 use Rattle.std.specs.Prelude.{if◌then◌else◌}
 use Rattle.std.specs.Option.{option_map_or}
 use Rattle.dkg_store.specs.Acts.{Operation, World, says, does}
-use Rattle.dkg_infos.specs.declared.entry.Entry.{Entry as Line}
+use Rattle.dkg_infos.specs.declared.entry.Entry.{Entry}
 use Rattle.dkg_core.specs.Courses.{Course, Say, Do, Call, Ask, Goes, Stops, bind, Deed, Said, Did, Called, Throughout}
 use Rattle.dkg_core.specs.Laws.{Law, Holds, LawKeeps}
 
 -- one after another: what the first end in is what the next begin with
 pub holds_bind : {Dir F S T : Type 0} (first : Law Dir S) (law : Law Dir T) (past : List (Deed Dir)) (course : Course Dir F S) (next : S → Course Dir F T)
-    → ((past : List (Deed Dir)) (line : Line) → first.line past line → law.line past line)
+    → ((past : List (Deed Dir)) (line : Entry) → first.line past line → law.line past line)
     → ((past : List (Deed Dir)) (op : Operation) → first.operation past op → law.operation past op)
     → Holds first past course → ((past : List (Deed Dir)) (end : S) → first.end past end → Holds law past (next end)) → Holds law past (bind course next)
 holds_bind first law past (Say line course) next lines ops h more = (lines past line h.0, holds_bind first law (Said line ∷ past) course next lines ops h.1 more)
@@ -33,7 +33,7 @@ holds_option law past (Some a) f none some without = some a refl
 
 -- a law that asks for less
 pub holds_as : {Dir F S : Type 0} (first law : Law Dir S) (past : List (Deed Dir)) (course : Course Dir F S)
-    → ((past : List (Deed Dir)) (line : Line) → first.line past line → law.line past line)
+    → ((past : List (Deed Dir)) (line : Entry) → first.line past line → law.line past line)
     → ((past : List (Deed Dir)) (op : Operation) → first.operation past op → law.operation past op)
     → ((past : List (Deed Dir)) (end : S) → first.end past end → law.end past end) → Holds first past course → Holds law past course
 holds_as first law past (Say line course) lines ops ends h = (lines past line h.0, holds_as first law (Said line ∷ past) course lines ops ends h.1)

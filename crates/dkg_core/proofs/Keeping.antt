@@ -11,7 +11,7 @@ use Rattle.dkg_ceremony.specs.declared.ceremony.AckError.{AckError}
 use Rattle.dkg_ceremony.specs.declared.ceremony.DealingError.{DealingError}
 use Rattle.dkg_ceremony.specs.declared.round.RoundParts.{RoundParts as Round}
 use Rattle.dkg_journal.specs.Records.{SectionEntry, placed}
-use Rattle.dkg_infos.specs.declared.entry.Entry.{Entry as Line}
+use Rattle.dkg_infos.specs.declared.entry.Entry.{Entry}
 use Rattle.dkg_infos.specs.declared.entry.Entry.TheVariants.{Recorded, Ack}
 use Rattle.dkg_types.specs.declared.message.Message.{Message as Channel}
 use Rattle.dkg_types.specs.declared.message.Message.TheVariants.{Dealer as ADealing, Ack as AnAck}
@@ -82,7 +82,7 @@ module _ {Dir : Type 0} (c : Fixed Dir) (st : Live Dir) (from : ℕ) (round : Ro
   begins = unsaid w refl is_whole (inl is_given)
 
   -- one line
-  tells : (line : Line) → IsSaid c round w.held line → P (says w line)
+  tells : (line : Entry) → IsSaid c round w.held line → P (says w line)
   tells line sound = record { whole = is_whole; gives = inl is_given; added = line ∷ []; out = refl; said = (sound, tt) }
 
   recorded_is : (o : Option (List ℕ × ℕ)) → recorded_at st.records.dealings round.number from ≡ o → get pairs (round.number, from) ≡ o
@@ -147,10 +147,10 @@ module _ {Dir : Type 0} (c : Fixed Dir) (st : Live Dir) (from : ℕ) (round : Ro
     abbrev done : World
     done = does (does w op) noted
 
-    abbrev told : Line
+    abbrev told : Entry
     told = Recorded round.number from public private
 
-    abbrev acked : Line
+    abbrev acked : Entry
     acked = Ack round.number from (c.rules.ack_of c.me round from public)
 
     recorded_now : P done
@@ -264,7 +264,7 @@ module _ {Dir : Type 0} (c : Fixed Dir) (st : Live Dir) (from : ℕ) (round : Ro
   same : Q st w
   same = record { of_epoch = is_round; whole = is_whole; records = records }
 
-  told_only : (line : Line) → Q st (says w line)
+  told_only : (line : Entry) → Q st (says w line)
   told_only line = record { of_epoch = is_round; whole = is_whole; records = records }
 
   checked_lands : (public : List ℕ) (private : ℕ) (check : Result (Unit {0}) DealingError) → IsEvent (events.Dealing from public) → recorded_at st.records.dealings round.number from ≡ None

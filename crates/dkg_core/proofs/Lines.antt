@@ -1,7 +1,7 @@
 -- The lines that courses add: those of their deeds, which keep their laws.
 use Rattle.std.proofs.Common.{◌≡◌, inl, inr, List, [], ◌∷◌, ◌++◌, Option, Some, refl, sym, ◌∙◌, ap, subst, append_assoc, append-nil}
 use Rattle.std.specs.List.{AllByRecursion}
-use Rattle.dkg_infos.specs.declared.entry.Entry.{Entry as Line}
+use Rattle.dkg_infos.specs.declared.entry.Entry.{Entry}
 use Rattle.dkg_store.specs.Acts.{Held, World, says, does, Completes, Faults, Breaks, Cause, Ended, went, stopped, broken}
 use Rattle.dkg_core.specs.Courses.{Course, Say, Do, Call, Ask, Goes, Stops, on_devices, Deed, Said, Did, Called, deeds_of}
 use Rattle.dkg_core.specs.Said.{SaysAll, SaysUpTo, SaysFirst, SaysBy}
@@ -11,27 +11,27 @@ use Rattle.dkg_core.specs.Transcripts.{deed_lines, IsOwnEnd, AddsDeeds, RunsAddD
 -- THE LINES OF DEEDS
 
 module _ {Dir F S : Type 0} where
-  one_said : (line : Line) (course : Course Dir F S) (ended : Ended F S) (w new : World) → ((rest : List Line) → IsOwnEnd course ended w.held new.held rest → IsOwnEnd (Say line course) ended w.held new.held rest)
+  one_said : (line : Entry) (course : Course Dir F S) (ended : Ended F S) (w new : World) → ((rest : List Entry) → IsOwnEnd course ended w.held new.held rest → IsOwnEnd (Say line course) ended w.held new.held rest)
       → AddsDeeds course ended (says w line) new → AddsDeeds (Say line course) ended w new
   one_said line course ended w new so adds = record {
     added = line ∷ adds.added;
     rest = adds.rest;
     out = adds.out ∙ append_assoc w.out (line ∷ []) adds.added;
-    of_deeds = ap (λ (ls : List Line). line ∷ ls) adds.of_deeds;
+    of_deeds = ap (λ (ls : List Entry). line ∷ ls) adds.of_deeds;
     own_end = so adds.rest adds.own_end;
   }
 
   -- nothing was said
-  none_said : (course : Course Dir F S) (ended : Ended F S) (w new : World) (rest : List Line) → new.out ≡ w.out → deed_lines (deeds_of course w.held) ≡ rest → IsOwnEnd course ended w.held new.held rest → AddsDeeds course ended w new
+  none_said : (course : Course Dir F S) (ended : Ended F S) (w new : World) (rest : List Entry) → new.out ≡ w.out → deed_lines (deeds_of course w.held) ≡ rest → IsOwnEnd course ended w.held new.held rest → AddsDeeds course ended w new
   none_said course ended w new rest same are own = record { added = []; rest = rest; out = same ∙ sym (append-nil w.out); of_deeds = are; own_end = own }
 
   -- .. by what is no line
   as_said : (course next : Course Dir F S) (ended : Ended F S) (w mid new : World) → mid.out ≡ w.out → deed_lines (deeds_of course w.held) ≡ deed_lines (deeds_of next mid.held)
-      → ((rest : List Line) → IsOwnEnd next ended mid.held new.held rest → IsOwnEnd course ended w.held new.held rest) → AddsDeeds next ended mid new → AddsDeeds course ended w new
+      → ((rest : List Entry) → IsOwnEnd next ended mid.held new.held rest → IsOwnEnd course ended w.held new.held rest) → AddsDeeds next ended mid new → AddsDeeds course ended w new
   as_said course next ended w mid new same are so adds = record {
     added = adds.added;
     rest = adds.rest;
-    out = adds.out ∙ ap (λ (ls : List Line). ls ++ adds.added) same;
+    out = adds.out ∙ ap (λ (ls : List Entry). ls ++ adds.added) same;
     of_deeds = are ∙ adds.of_deeds;
     own_end = so adds.rest adds.own_end;
   }
@@ -75,28 +75,28 @@ runs_add_deeds course (broken cause) w new run = breaks cause course w new run
 -- LAWS AND LINES
 
 module _ {Dir F S : Type 0} (law : Law Dir S) where
-  abbrev Way : (past : List (Deed Dir)) → Ended F S → List Line → Type 0
+  abbrev Way : (past : List (Deed Dir)) → Ended F S → List Entry → Type 0
   Way past ended lines = (deeds : List (Deed Dir)) × Obeys law past deeds × (lines ≡ deed_lines deeds) × IfWentTo ended (law.end (deeds_behind past deeds))
 
-  all : (past : List (Deed Dir)) (course : Course Dir F S) (end : S) (lines : List Line) → Holds law past course → SaysAll (on_devices course) end lines → Way past (went end) lines
-  all past (Say line course) end lines h a = let more = all (Said line ∷ past) course end a.0 h.1 a.2 in (Said line ∷ more.0, (h.0, more.1), a.1 ∙ ap (λ (ls : List Line). line ∷ ls) more.2, more.3)
+  all : (past : List (Deed Dir)) (course : Course Dir F S) (end : S) (lines : List Entry) → Holds law past course → SaysAll (on_devices course) end lines → Way past (went end) lines
+  all past (Say line course) end lines h a = let more = all (Said line ∷ past) course end a.0 h.1 a.2 in (Said line ∷ more.0, (h.0, more.1), a.1 ∙ ap (λ (ls : List Entry). line ∷ ls) more.2, more.3)
   all past (Do op course) end lines h a = let more = all (Did op ∷ past) course end lines h.1 a in (Did op ∷ more.0, (h.0, more.1), more.2, more.3)
   all past (Call outer course) end lines h a = let more = all (Called outer ∷ past) course end lines h a in (Called outer ∷ more.0, more.1, more.2, more.3)
   all past (Ask f) end lines h a = all past (f a.0) end lines (h a.0) a.1
   all past (Goes its) end lines h a = ([], tt, a.0, subst (law.end past) (sym a.1) h)
   all past (Stops fault) end lines h a = absurd a
 
-  up_to : (past : List (Deed Dir)) (course : Course Dir F S) (fault : F) (lines : List Line) → Holds law past course → SaysUpTo (on_devices course) fault lines → Way past (stopped fault) lines
-  up_to past (Say line course) fault lines h a = let more = up_to (Said line ∷ past) course fault a.0 h.1 a.2 in (Said line ∷ more.0, (h.0, more.1), a.1 ∙ ap (λ (ls : List Line). line ∷ ls) more.2, tt)
+  up_to : (past : List (Deed Dir)) (course : Course Dir F S) (fault : F) (lines : List Entry) → Holds law past course → SaysUpTo (on_devices course) fault lines → Way past (stopped fault) lines
+  up_to past (Say line course) fault lines h a = let more = up_to (Said line ∷ past) course fault a.0 h.1 a.2 in (Said line ∷ more.0, (h.0, more.1), a.1 ∙ ap (λ (ls : List Entry). line ∷ ls) more.2, tt)
   up_to past (Do op course) fault lines h a = let more = up_to (Did op ∷ past) course fault lines h.1 a in (Did op ∷ more.0, (h.0, more.1), more.2, tt)
   up_to past (Call outer course) fault lines h a = let more = up_to (Called outer ∷ past) course fault lines h a in (Called outer ∷ more.0, more.1, more.2, tt)
   up_to past (Ask f) fault lines h a = up_to past (f a.0) fault lines (h a.0) a.1
   up_to past (Goes its) fault lines h a = absurd a
   up_to past (Stops its) fault lines h a = ([], tt, a.0, tt)
 
-  first : (past : List (Deed Dir)) (course : Course Dir F S) (cause : Cause) (lines : List Line) → Holds law past course → SaysFirst (on_devices course) lines → Way past (broken cause) lines
+  first : (past : List (Deed Dir)) (course : Course Dir F S) (cause : Cause) (lines : List Entry) → Holds law past course → SaysFirst (on_devices course) lines → Way past (broken cause) lines
   first past (Say line course) cause lines h (inl none) = ([], tt, none, tt)
-  first past (Say line course) cause lines h (inr a) = let more = first (Said line ∷ past) course cause a.0 h.1 a.2 in (Said line ∷ more.0, (h.0, more.1), a.1 ∙ ap (λ (ls : List Line). line ∷ ls) more.2, tt)
+  first past (Say line course) cause lines h (inr a) = let more = first (Said line ∷ past) course cause a.0 h.1 a.2 in (Said line ∷ more.0, (h.0, more.1), a.1 ∙ ap (λ (ls : List Entry). line ∷ ls) more.2, tt)
   first past (Do op course) cause lines h (inl none) = ([], tt, none, tt)
   first past (Do op course) cause lines h (inr a) = let more = first (Did op ∷ past) course cause lines h.1 a in (Did op ∷ more.0, (h.0, more.1), more.2, tt)
   first past (Call outer course) cause lines h a = let more = first (Called outer ∷ past) course cause lines h a in (Called outer ∷ more.0, more.1, more.2, tt)
@@ -105,7 +105,7 @@ module _ {Dir F S : Type 0} (law : Law Dir S) where
   first past (Goes its) cause lines h none = ([], tt, none, tt)
   first past (Stops its) cause lines h none = ([], tt, none, tt)
 
-  by : (past : List (Deed Dir)) (course : Course Dir F S) (ended : Ended F S) (lines : List Line) → Holds law past course → SaysBy (on_devices course) ended lines → Way past ended lines
+  by : (past : List (Deed Dir)) (course : Course Dir F S) (ended : Ended F S) (lines : List Entry) → Holds law past course → SaysBy (on_devices course) ended lines → Way past ended lines
   by past course (went end) lines h a = all past course end lines h a
   by past course (stopped fault) lines h a = up_to past course fault lines h a
   by past course (broken cause) lines h a = first past course cause lines h a
@@ -113,10 +113,10 @@ module _ {Dir F S : Type 0} (law : Law Dir S) where
 pub lines_obey : {Dir F S : Type 0} → LinesObey Dir F S
 lines_obey law past course ended old new holds said =
     let way = by law past course ended said.lines holds said.by in
-    record { deeds = way.0; obeys = way.1; added = said.added ∙ ap (λ (ls : List Line). old ++ ls) way.2; end = way.3 }
+    record { deeds = way.0; obeys = way.1; added = said.added ∙ ap (λ (ls : List Entry). old ++ ls) way.2; end = way.3 }
 
 -- what a law has of each line, the lines have
-pub all_lines : {Dir S : Type 0} (law : Law Dir S) (P : Line → Type 0) → ((past : List (Deed Dir)) (line : Line) → law.line past line → P line) → (past deeds : List (Deed Dir)) → Obeys law past deeds
+pub all_lines : {Dir S : Type 0} (law : Law Dir S) (P : Entry → Type 0) → ((past : List (Deed Dir)) (line : Entry) → law.line past line → P line) → (past deeds : List (Deed Dir)) → Obeys law past deeds
     → AllByRecursion P (deed_lines deeds)
 all_lines law P so past [] obeys = tt
 all_lines law P so past (Said line ∷ deeds) obeys = (so past line obeys.0, all_lines law P so (Said line ∷ past) deeds obeys.1)

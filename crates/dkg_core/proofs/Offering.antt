@@ -1,7 +1,7 @@
 -- What a step offers its dealer deals.
 use Rattle.std.proofs.Common.{◌≡◌, ℕ, List, [], ◌∷◌, ◌++◌, ◌∙◌, ap, append_assoc}
 use Rattle.std.specs.List.{AllByRecursion}
-use Rattle.dkg_infos.specs.declared.entry.Entry.{Entry as Line}
+use Rattle.dkg_infos.specs.declared.entry.Entry.{Entry}
 use Rattle.dkg_infos.specs.declared.entry.Entry.TheVariants.{Offer}
 use Rattle.dkg_infos.specs.declared.fault.Fault.{Fault}
 use Rattle.dkg_store.specs.Acts.{Ended}
@@ -19,23 +19,23 @@ use Rattle.dkg_core.proofs.Hearing.{heard}
 use Rattle.dkg_core.proofs.Lines.{lines_obey, all_lines}
 use Rattle.dkg_core.proofs.Others.{others_acknowledge_nothing}
 
-peer_offers : {Dir : Type 0} (c : Fixed Dir) (st : Live Dir) (from : ℕ) (past : List (Deed Dir)) (line : Line) → PeerLine c st from past line → IsOfferOf c st line
+peer_offers : {Dir : Type 0} (c : Fixed Dir) (st : Live Dir) (from : ℕ) (past : List (Deed Dir)) (line : Entry) → PeerLine c st from past line → IsOfferOf c st line
 peer_offers c st from past (Offer epoch player public private) h = absurd h
 peer_offers c st from past line h = tt
 
-other_offers : {Dir : Type 0} (c : Fixed Dir) (own : OfHalves) (st : Live Dir) (past : List (Deed Dir)) (line : Line) → OtherLine c own (IsOffered c st) past line → IsOfferOf c st line
+other_offers : {Dir : Type 0} (c : Fixed Dir) (own : OfHalves) (st : Live Dir) (past : List (Deed Dir)) (line : Entry) → OtherLine c own (IsOffered c st) past line → IsOfferOf c st line
 other_offers c own st past (Offer epoch player public private) h = h
 other_offers c own st past line h = tt
 
-aside_offers : {Dir : Type 0} (c : Fixed Dir) (st : Live Dir) (line : Line) → IsAside line → IsOfferOf c st line
+aside_offers : {Dir : Type 0} (c : Fixed Dir) (st : Live Dir) (line : Entry) → IsAside line → IsOfferOf c st line
 aside_offers c st (Offer epoch player public private) aside = absurd aside
 aside_offers c st line aside = tt
 
-module _ {Dir : Type 0} (c : Fixed Dir) (st : Live Dir) (ended : Ended Fault (Live Dir)) (old new : List Line) where
+module _ {Dir : Type 0} (c : Fixed Dir) (st : Live Dir) (ended : Ended Fault (Live Dir)) (old new : List Entry) where
   abbrev AddsDealt : Type 0
-  AddsDealt = (added : List Line) × (new ≡ old ++ added) × AllByRecursion (IsOfferOf c st) added
+  AddsDealt = (added : List Entry) × (new ≡ old ++ added) × AllByRecursion (IsOfferOf c st) added
 
-  of_law : (law : Law Dir (Live Dir)) (message : Message Dir) → ((past : List (Deed Dir)) (line : Line) → law.line past line → IsOfferOf c st line) → Holds law [] (step c message st)
+  of_law : (law : Law Dir (Live Dir)) (message : Message Dir) → ((past : List (Deed Dir)) (line : Entry) → law.line past line → IsOfferOf c st line) → Holds law [] (step c message st)
       → Said (on_devices (step c message st)) ended old new → AddsDealt
   of_law law message so holds said =
       let front = lines_obey law [] (step c message st) ended old new holds said in
@@ -58,7 +58,7 @@ module _ {Dir : Type 0} (c : Fixed Dir) (st : Live Dir) (ended : Ended Fault (Li
 pub offers_are_dealt : {Dir : Type 0} → OffersAreDealt Dir
 offers_are_dealt c st message ended old new said = each c st ended old new message said
 
-with_aside : {Dir : Type 0} (c : Fixed Dir) (st : Live Dir) (lines more : List Line) → AllByRecursion (IsOfferOf c st) lines → AllByRecursion IsAside more → AllByRecursion (IsOfferOf c st) (lines ++ more)
+with_aside : {Dir : Type 0} (c : Fixed Dir) (st : Live Dir) (lines more : List Entry) → AllByRecursion (IsOfferOf c st) lines → AllByRecursion IsAside more → AllByRecursion (IsOfferOf c st) (lines ++ more)
 with_aside c st [] [] all aside = tt
 with_aside c st [] (line ∷ more) all aside = (aside_offers c st line aside.0, with_aside c st [] more tt aside.1)
 with_aside c st (line ∷ lines) more all aside = (all.0, with_aside c st lines more all.1 aside)
@@ -68,6 +68,6 @@ node_offers_are_dealt c st message ended old new said =
     let its = steps_say_behind c st message ended old new said in
     let first = offers_are_dealt c st message its.half old its.mid its.said in (
       first.0 ++ its.lines,
-      its.out ∙ ap (λ (ls : List Line). ls ++ its.lines) first.1 ∙ append_assoc old first.0 its.lines,
+      its.out ∙ ap (λ (ls : List Entry). ls ++ its.lines) first.1 ∙ append_assoc old first.0 its.lines,
       with_aside c st first.0 its.lines first.2 its.aside,
     )

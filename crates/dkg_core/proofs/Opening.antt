@@ -10,7 +10,7 @@ use Rattle.dkg_ceremony.specs.Schedule.{epoch_of, last}
 use Rattle.dkg_types.specs.Blocks.{Block}
 use Rattle.dkg_types.specs.BlockCodes.{info_of}
 use Rattle.dkg_infos.specs.declared.entry.Entry.TheVariants.{Opened}
-use Rattle.dkg_infos.specs.declared.entry.Entry.{Entry as Line}
+use Rattle.dkg_infos.specs.declared.entry.Entry.{Entry}
 use Rattle.dkg_infos.specs.declared.info.EpochInfo.{EpochInfo}
 use Rattle.dkg_infos.specs.declared.fault.Fault.{Fault}
 use Rattle.dkg_infos.specs.declared.fault.Fault.TheVariants.{HeightRange, StateSyncEpochs, StateSyncMaterial, MissingEpochInfo}
@@ -56,7 +56,7 @@ further most past (OnDisk (Appends e)) h = absurd h
 further most past (OnDisk (Prunes min)) h = omega arith
 further most past (Changes op) h = lower 0 most (omega arith) past (Changes op) h
 
-silent_in : {Dir : Type 0} (c : Fixed Dir) (past : List (Deed Dir)) (line : Line) → IsSilent past line → OpeningLine c past line
+silent_in : {Dir : Type 0} (c : Fixed Dir) (past : List (Deed Dir)) (line : Entry) → IsSilent past line → OpeningLine c past line
 silent_in c past (Opened life restored) h = absurd h
 silent_in c past line h = h
 
@@ -77,7 +77,7 @@ above_floor P tip b by_anchor by_floor =
 pub record Reaches {Dir : Type 0} (c : Fixed Dir) (law : Law Dir (Live Dir)) (Within : ℕ → Type 0) : Type 0 where
   pub by_anchor : Within (start_of c)
   pub by_floor : (digest : List ℕ) (b : Block Dir) → c.source.by_digest digest ≡ Some b → Within b.height
-  pub lines : (past : List (Deed Dir)) (line : Line) → IsSilent past line → law.line past line
+  pub lines : (past : List (Deed Dir)) (line : Entry) → IsSilent past line → law.line past line
   pub operations : (past : List (Deed Dir)) (op : Operation) → OpeningOperation 0 past op → law.operation past op
   pub ends : (past : List (Deed Dir)) (st : Live Dir) → law.end past st
   pub sets_up : (past : List (Deed Dir)) (material : Option (EpochInfo Dir × ℕ)) (st : Live Dir) → Within (awaited_height st) → Holds law past (s.setup c material st)

@@ -15,7 +15,7 @@ use Rattle.dkg_ceremony.specs.Outcomes.{LogMap}
 use Rattle.dkg_ceremony.specs.Schedule.{epoch_of, midpoint}
 use Rattle.dkg_types.specs.Blocks.{Block}
 use Rattle.dkg_types.specs.BlockCodes.{info_of}
-use Rattle.dkg_infos.specs.declared.entry.Entry.{Entry as Line}
+use Rattle.dkg_infos.specs.declared.entry.Entry.{Entry}
 use Rattle.dkg_infos.specs.declared.entry.Entry.TheVariants as lines
 use Rattle.dkg_infos.specs.declared.entry.Why.TheVariants.{Finished}
 use Rattle.dkg_infos.specs.declared.fault.Fault.{Fault}
@@ -53,7 +53,7 @@ module _ {Dir : Type 0} (c : Fixed Dir) (own : OfHalves) (offered : OfOffers) (m
   abbrev law : Law Dir (Live Dir)
   law = other_law c own offered most
 
-  same_line : (past : List (Deed Dir)) (line : Line) → law.line past line → law.line past line
+  same_line : (past : List (Deed Dir)) (line : Entry) → law.line past line → law.line past line
   same_line past line h = h
 
   same_operation : (past : List (Deed Dir)) (op : Operation) → law.operation past op → law.operation past op
@@ -239,7 +239,7 @@ module _ {Dir : Type 0} (c : Fixed Dir) (own : OfHalves) (offered : OfOffers) (m
 
 -- SETUP
 
-quiet : {Dir : Type 0} (c : Fixed Dir) (own : OfHalves) (offered : OfOffers) (past : List (Deed Dir)) (line : Line) → IsSilent past line → OtherLine c own offered past line
+quiet : {Dir : Type 0} (c : Fixed Dir) (own : OfHalves) (offered : OfOffers) (past : List (Deed Dir)) (line : Entry) → IsSilent past line → OtherLine c own offered past line
 quiet c own offered past (lines.Recorded epoch dealer public private) h = absurd h
 quiet c own offered past (lines.Ack epoch dealer ack) h = absurd h
 quiet c own offered past (lines.Offer epoch player public private) h = absurd h

@@ -4,7 +4,7 @@ use Rattle.std.specs.BTreeMap.{insert_entry}
 use Rattle.std.specs.Ordering.{nat_cmp}
 use Rattle.dkg_values.specs.declared.codec.CodecError.{CodecError}
 use Rattle.dkg_infos.specs.declared.entry.BlockedWhy.TheVariants as why
-use Rattle.dkg_infos.specs.declared.entry.Entry.{Entry as Line}
+use Rattle.dkg_infos.specs.declared.entry.Entry.{Entry}
 use Rattle.dkg_types.specs.declared.finalization.Finalization.{Finalization}
 use Rattle.dkg_infos.specs.declared.info.EpochInfo.{EpochInfo}
 use Rattle.dkg_probe.specs.declared.artifact.Artifact.{Artifact as Known}
@@ -43,7 +43,7 @@ module _ {Dir : Type 0} (m : ℕ) where
   Stays (Goes end) = end.sample.minimum ≡ m
   Stays (Stops fault) = Unit {0}
 
-  stays_at : (acts : Probes Dir) (end : State Dir) (out new : List Line) → Stays acts → ProbeCompletes acts end out new → end.sample.minimum ≡ m
+  stays_at : (acts : Probes Dir) (end : State Dir) (out new : List Entry) → Stays acts → ProbeCompletes acts end out new → end.sample.minimum ≡ m
   stays_at (Say line acts) end out new all done = stays_at acts end (out ++ line ∷ []) new all done
   stays_at (Track epoch peers acts) end out new all done = stays_at acts end out new all done
   stays_at (Goes its) end out new all done = ap (λ (st : State Dir). st.sample.minimum) done.1 ∙ all
@@ -55,7 +55,7 @@ module _ {Dir : Type 0} (m : ℕ) where
   then_stays (Goes end) all = all
   then_stays (Stops fault) all = tt
 
-  all_said : (lines : List Line) (acts : Probes Dir) → Stays acts → Stays (says_all lines acts)
+  all_said : (lines : List Entry) (acts : Probes Dir) → Stays acts → Stays (says_all lines acts)
   all_said [] acts all = all
   all_said (line ∷ lines) acts all = all_said lines acts all
 
@@ -190,7 +190,7 @@ module _ {Dir : Type 0} (c : Fixed Dir) (s : Snapshot Dir) (event : ProbeEvent) 
   its_state : state_of (least_epoch s) st.probe ≡ state
   its_state = ap (state_of (least_epoch s)) has.part ∙ ap (λ (minimum : ℕ). state_of minimum (probe_of state)) (sym has.minimum) ∙ again state
 
-  still : (ended : ProbeEnded ℕ (State Dir)) (out new : List Line) → ProbeRuns (steps_from c s event state) ended out new → IfProbeWentTo ended (λ end. HasState s (with_probe st end) end)
+  still : (ended : ProbeEnded ℕ (State Dir)) (out new : List Entry) → ProbeRuns (steps_from c s event state) ended out new → IfProbeWentTo ended (λ end. HasState s (with_probe st end) end)
   still (went end) out new ran = record {
     part = refl;
     minimum = stays_at (least_epoch s) (steps_from c s event state) end out new (stepping (least_epoch s) (given c s) (lack_in c s) (served_from c.source) event state has.minimum) ran;
@@ -198,7 +198,7 @@ module _ {Dir : Type 0} (c : Fixed Dir) (s : Snapshot Dir) (event : ProbeEvent) 
   still (stopped fault) out new ran = tt
   still broken out new ran = tt
 
-  runs : (ended : ProbeEnded ℕ (State Dir)) (w : World) (new : List Line) → ProbeRuns (steps_from c s event state) ended w.out new
+  runs : (ended : ProbeEnded ℕ (State Dir)) (w : World) (new : List Entry) → ProbeRuns (steps_from c s event state) ended w.out new
       → EndsSo (probes_in c (Some s) (Some event) st) (probe_ended_as PeerSet (with_probe st) ended) w (with_out new w)
   runs ended w new ran =
       probes_join s.directory PeerSet (with_probe st) (steps_from c s event (state_of (least_epoch s) st.probe)) ended w new

@@ -4,7 +4,7 @@ use Rattle.std.specs.List.{AllByRecursion}
 use Rattle.std.specs.FinMap as maps
 use Rattle.std.specs.FinMap.{find, get, get-entries}
 use Rattle.dkg_ceremony.specs.declared.round.RoundParts.{RoundParts as Round}
-use Rattle.dkg_infos.specs.declared.entry.Entry.{Entry as Line}
+use Rattle.dkg_infos.specs.declared.entry.Entry.{Entry}
 use Rattle.dkg_infos.specs.declared.entry.Entry.TheVariants.{Recorded, Ack}
 use Rattle.dkg_store.specs.Acts.{Held, World, says, does}
 use Rattle.dkg_core.specs.Courses.{Course, Say, Do, Call, Ask, Goes, Stops, bind, Throughout, Finishes}
@@ -76,19 +76,19 @@ module _ {Dir : Type 0} (c : Fixed Dir) (st : Live Dir) (from : ℕ) (round : Ro
             | inr apart ↦ ap (λ (m : Pairs). get m key) more.3 ∙ get_other (recovered_in old) here key (more.0, more.1) apart ∙ got
           ]
 
-  still_said : (line : Line) → IsSaid c round old line → IsSaid c round new line
+  still_said : (line : Entry) → IsSaid c round old line → IsSaid c round new line
   still_said (Ack epoch dealer ack) said = (said.0, still (epoch, dealer) said.0 said.1, said.2)
   still_said (Recorded epoch dealer public private) said = still (epoch, dealer) (public, private) said
   still_said line said = tt
 
 -- A RUN
 
-module _ {Dir : Type 0} (c : Fixed Dir) (round : Round) (base : List Line) where
+module _ {Dir : Type 0} (c : Fixed Dir) (round : Round) (base : List Entry) where
   since : (st : Live Dir) (from : ℕ) (w new : World) → st.records.dealings ≡ maps.entries (recovered_in w.held) → IsKeptSince c round base w → IsKeptAt c st from round w.out (recovered_in w.held) new → IsKeptSince c round base new
   since st from w new records before now = record {
     whole = now.whole;
     added = before.added ++ now.added;
-    out = now.out ∙ ap (λ (ls : List Line). ls ++ now.added) before.out ∙ append_assoc base before.added now.added;
+    out = now.out ∙ ap (λ (ls : List Entry). ls ++ now.added) before.out ∙ append_assoc base before.added now.added;
     said = all_of_both (IsSaid c round new.held) before.added now.added
         (all_still (IsSaid c round w.held) (IsSaid c round new.held) (still_said c st from round w.held new.held records now.gives) before.added before.said) now.said;
   }

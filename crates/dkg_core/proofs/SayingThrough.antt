@@ -19,7 +19,7 @@ use Rattle.dkg_ceremony.specs.Outcomes.{LogMap}
 use Rattle.dkg_ceremony.specs.Schedule.{epoch_of, midpoint}
 use Rattle.dkg_types.specs.Blocks.{Block}
 use Rattle.dkg_types.specs.BlockCodes.{info_of}
-use Rattle.dkg_infos.specs.declared.entry.Entry.{Entry as Line}
+use Rattle.dkg_infos.specs.declared.entry.Entry.{Entry}
 use Rattle.dkg_infos.specs.declared.entry.Entry.TheVariants.{Answer, Committed, Setup, Offer}
 use Rattle.dkg_infos.specs.declared.entry.AnswerLine.TheVariants.{Available, Unavailable}
 use Rattle.dkg_infos.specs.declared.entry.Why.{Why}
@@ -83,7 +83,7 @@ equal_number n m e = grind (arith, nat_tests)
 
 -- COURSES WHOSE LINES ARE SUCH
 
-module _ {Dir F S : Type 0} (P : Line → Type 0) where
+module _ {Dir F S : Type 0} (P : Entry → Type 0) where
   pub so_if : (t : Bool) (x y : Course Dir F S) → (t ≡ true → SaysSo P x) → (t ≡ false → SaysSo P y) → SaysSo P (if t then x else y)
   so_if true x y one other = one refl
   so_if false x y one other = other refl
@@ -93,7 +93,7 @@ module _ {Dir F S : Type 0} (P : Line → Type 0) where
   so_option f (Some a) none some without = some a refl
 
 -- one behind another
-pub so_behind : {Dir F S T : Type 0} (P : Line → Type 0) (course : Course Dir F S) (next : S → Course Dir F T) → SaysSo P course → ((end : S) → SaysSo P (next end)) → SaysSo P (bind course next)
+pub so_behind : {Dir F S T : Type 0} (P : Entry → Type 0) (course : Course Dir F S) (next : S → Course Dir F T) → SaysSo P course → ((end : S) → SaysSo P (next end)) → SaysSo P (bind course next)
 so_behind P (Say line course) next so more = (so.0, so_behind P course next so.1 more)
 so_behind P (Do op course) next so more = so_behind P course next so more
 so_behind P (Call outer course) next so more = so_behind P course next so more
@@ -102,7 +102,7 @@ so_behind P (Goes end) next so more = more end
 so_behind P (Stops fault) next so more = tt
 
 -- .. by where the first comes to
-pub so_known : {Dir F S T : Type 0} (P : Line → Type 0) (stops : F → Type 0) (first : S → Option Held → Type 0) (course : Course Dir F S) (next : S → Course Dir F T)
+pub so_known : {Dir F S T : Type 0} (P : Entry → Type 0) (stops : F → Type 0) (first : S → Option Held → Type 0) (course : Course Dir F S) (next : S → Course Dir F T)
     → SaysSo P course → ComesOver stops first course None → ((end : S) → first end None → SaysSo P (next end)) → SaysSo P (bind course next)
 so_known P stops first (Say line course) next so comes more = (so.0, so_known P stops first course next so.1 comes more)
 so_known P stops first (Do op course) next so comes more = so_known P stops first course next so comes more
@@ -113,14 +113,14 @@ so_known P stops first (Stops fault) next so comes more = tt
 
 -- WHAT SUCH A COURSE SAYS
 
-such : (P : Line → Type 0) (line : Line) (lines rest : List Line) → lines ≡ line ∷ rest → P line → AllByRecursion P rest → AllByRecursion P lines
-such P line lines rest are is all = subst (λ (ls : List Line). AllByRecursion P ls) (sym are) (is, all)
+such : (P : Entry → Type 0) (line : Entry) (lines rest : List Entry) → lines ≡ line ∷ rest → P line → AllByRecursion P rest → AllByRecursion P lines
+such P line lines rest are is all = subst (λ (ls : List Entry). AllByRecursion P ls) (sym are) (is, all)
 
-no_such : (P : Line → Type 0) (lines : List Line) → lines ≡ [] → AllByRecursion P lines
-no_such P lines are = subst (λ (ls : List Line). AllByRecursion P ls) (sym are) tt
+no_such : (P : Entry → Type 0) (lines : List Entry) → lines ≡ [] → AllByRecursion P lines
+no_such P lines are = subst (λ (ls : List Entry). AllByRecursion P ls) (sym are) tt
 
-module _ {Dir F S : Type 0} (P : Line → Type 0) where
-  all_so : (course : Course Dir F S) (end : S) (lines : List Line) → SaysSo P course → SaysAll (on_devices course) end lines → AllByRecursion P lines
+module _ {Dir F S : Type 0} (P : Entry → Type 0) where
+  all_so : (course : Course Dir F S) (end : S) (lines : List Entry) → SaysSo P course → SaysAll (on_devices course) end lines → AllByRecursion P lines
   all_so (Say line course) end lines so by = such P line lines by.0 by.1 so.0 (all_so course end by.0 so.1 by.2)
   all_so (Do op course) end lines so by = all_so course end lines so by
   all_so (Call outer course) end lines so by = all_so course end lines so by
@@ -128,7 +128,7 @@ module _ {Dir F S : Type 0} (P : Line → Type 0) where
   all_so (Goes its) end lines so by = no_such P lines by.0
   all_so (Stops fault) end lines so by = absurd by
 
-  up_to_so : (course : Course Dir F S) (fault : F) (lines : List Line) → SaysSo P course → SaysUpTo (on_devices course) fault lines → AllByRecursion P lines
+  up_to_so : (course : Course Dir F S) (fault : F) (lines : List Entry) → SaysSo P course → SaysUpTo (on_devices course) fault lines → AllByRecursion P lines
   up_to_so (Say line course) fault lines so by = such P line lines by.0 by.1 so.0 (up_to_so course fault by.0 so.1 by.2)
   up_to_so (Do op course) fault lines so by = up_to_so course fault lines so by
   up_to_so (Call outer course) fault lines so by = up_to_so course fault lines so by
@@ -136,7 +136,7 @@ module _ {Dir F S : Type 0} (P : Line → Type 0) where
   up_to_so (Goes its) fault lines so by = absurd by
   up_to_so (Stops its) fault lines so by = no_such P lines by.0
 
-  first_so : (course : Course Dir F S) (lines : List Line) → SaysSo P course → SaysFirst (on_devices course) lines → AllByRecursion P lines
+  first_so : (course : Course Dir F S) (lines : List Entry) → SaysSo P course → SaysFirst (on_devices course) lines → AllByRecursion P lines
   first_so (Say line course) lines so (inl none) = no_such P lines none
   first_so (Say line course) lines so (inr by) = such P line lines by.0 by.1 so.0 (first_so course by.0 so.1 by.2)
   first_so (Do op course) lines so (inl none) = no_such P lines none
@@ -147,14 +147,14 @@ module _ {Dir F S : Type 0} (P : Line → Type 0) where
   first_so (Goes its) lines so by = no_such P lines by
   first_so (Stops fault) lines so by = no_such P lines by
 
-  pub said_so : (course : Course Dir F S) (ended : Ended F S) (old new : List Line) → SaysSo P course → Said (on_devices course) ended old new → (added : List Line) × (new ≡ old ++ added) × AllByRecursion P added
+  pub said_so : (course : Course Dir F S) (ended : Ended F S) (old new : List Entry) → SaysSo P course → Said (on_devices course) ended old new → (added : List Entry) × (new ≡ old ++ added) × AllByRecursion P added
   said_so course (went end) old new so said = (said.lines, said.added, all_so course end said.lines so said.by)
   said_so course (stopped fault) old new so said = (said.lines, said.added, up_to_so course fault said.lines so said.by)
   said_so course (broken cause) old new so said = (said.lines, said.added, first_so course said.lines so said.by)
 
 -- WHERE REQUESTS ARE READ
 
-module _ {Dir : Type 0} (c : Fixed Dir) (form : IsForm c) (stored : OfShares) (reads : ReadsShare c stored None) (st : Live Dir) (informed : IsInformed c st) (P : Line → Type 0) where
+module _ {Dir : Type 0} (c : Fixed Dir) (form : IsForm c) (stored : OfShares) (reads : ReadsShare c stored None) (st : Live Dir) (informed : IsInformed c st) (P : Entry → Type 0) where
   abbrev with : Inclusion Dir → Live Dir
   with its = with_inclusion its st
 
@@ -265,7 +265,7 @@ module _ {Dir : Type 0} (c : Fixed Dir) (form : IsForm c) (stored : OfShares) (r
 
 -- LINES THAT ANSWER AND COMMIT NOTHING
 
-module _ {Dir : Type 0} (c : Fixed Dir) (P : Line → Type 0) (plain : (line : Line) → IsUnasked line → P line) where
+module _ {Dir : Type 0} (c : Fixed Dir) (P : Entry → Type 0) (plain : (line : Entry) → IsUnasked line → P line) where
   -- A setup by the committed info
 
   takes_part : (round : Round) (phase : Phase) (dealer : Option Dealer) (seat : Seat) (now : Live Dir) → SaysSo P (s.takes_part c round phase dealer seat now)
@@ -383,7 +383,7 @@ logs_of_result c (Some r) job = either (is_of_job r job) refl
     either true is = one_logs r.logs job.logs (last_of (same_round r.round job.round) (i.same_key r.me (i.its_key job)) (same_logs r.logs job.logs) is)
     either false is = refl
 
-module _ {Dir : Type 0} (c : Fixed Dir) (form : IsFormThrough c) (stored : OfShares) (reads : ReadsShare c stored None) (st : Live Dir) (live : IsLiveThrough c stored st) (P : Line → Type 0) where
+module _ {Dir : Type 0} (c : Fixed Dir) (form : IsFormThrough c) (stored : OfShares) (reads : ReadsShare c stored None) (st : Live Dir) (live : IsLiveThrough c stored st) (P : Entry → Type 0) where
   abbrev its_life : Inclusion Dir → Live Dir
   its_life its = with_inclusion its st
 
@@ -418,7 +418,7 @@ module _ {Dir : Type 0} (c : Fixed Dir) (form : IsFormThrough c) (stored : OfSha
 
   -- A LAST BLOCK
 
-  module _ (block : Block Dir) (last : is_last_height c block.height ≡ true) (plain : (line : Line) → IsUnasked line → P line) where
+  module _ (block : Block Dir) (last : is_last_height c block.height ≡ true) (plain : (line : Entry) → IsUnasked line → P line) where
     -- by the carried info, which is committed
     module _ (info : EpochInfo Dir) (of_next : info.epoch ≡ next_epoch c block) where
       setup_so : (now : Live Dir) → now.tip ≡ (with_tip block now).tip → now.participation.current ≡ Some info → SaysSo P (s.setup c None now)
@@ -537,8 +537,8 @@ module _ {Dir : Type 0} (c : Fixed Dir) (form : IsFormThrough c) (stored : OfSha
 
 -- A LIFE READS ITS REQUESTS
 
-module _ {Dir : Type 0} (c : Fixed Dir) (form : IsForm c) (stored : OfShares) (reads : ReadsShare c stored None) (at : Live Dir) (informed : IsInformed c at) (has : HasAsked c stored at) (P : Line → Type 0)
-    (so : (line : Line) → IsReadAnswer c at line → P line) where
+module _ {Dir : Type 0} (c : Fixed Dir) (form : IsForm c) (stored : OfShares) (reads : ReadsShare c stored None) (at : Live Dir) (informed : IsInformed c at) (has : HasAsked c stored at) (P : Entry → Type 0)
+    (so : (line : Entry) → IsReadAnswer c at line → P line) where
   -- each answer is one of those
   pub reads_so : SaysSo P (i.advanced c at)
   reads_so =
@@ -567,7 +567,7 @@ module _ {Dir : Type 0} (c : Fixed Dir) (form : IsFormThrough c) (stored : OfSha
   asks_so number Follows is = (inr (is, refl), tt)
   asks_so number Ends is = absurd (not_ended c st live.stands is)
 
-  changes : (its : Mail Dir) (number : ℕ) (f : Request Dir → Request Dir) → ((line : Line) → IsReadAnswer c (i.changed number f st) line → IsMailLine c st its line)
+  changes : (its : Mail Dir) (number : ℕ) (f : Request Dir → Request Dir) → ((line : Entry) → IsReadAnswer c (i.changed number f st) line → IsMailLine c st its line)
       → SaysSo (IsMailLine c st its) (i.advanced c (i.changed number f st))
   changes its number f so =
       let g : Request Dir → Request Dir = λ r. if r.number == number then f r else r in
@@ -587,7 +587,7 @@ module _ {Dir : Type 0} (c : Fixed Dir) (form : IsFormThrough c) (stored : OfSha
           (λ follows. ap (λ (q : List (Request Dir)). filter (λ r. not (r.number == number)) q) (has_now.none follows))) (λ line. IsReadAnswer c now line) (λ line its. its)
 
   -- what is read behind a verification that ended is read in the life without it
-  as_finished : (its : Inclusion Dir) → its.queue ≡ st.inclusion.queue → (line : Line) → IsReadAnswer c (with_inclusion its st) line → IsReadAnswer c (verification_ended st) line
+  as_finished : (its : Inclusion Dir) → its.queue ≡ st.inclusion.queue → (line : Entry) → IsReadAnswer c (with_inclusion its st) line → IsReadAnswer c (verification_ended st) line
   as_finished its queue_is (Answer number (Available payload)) read =
       let r = read.4.0 in (
         read.0,
@@ -629,16 +629,16 @@ module _ {Dir : Type 0} (c : Fixed Dir) (form : IsFormThrough c) (stored : OfSha
 -- A BLOCK
 
 module _ {Dir : Type 0} (c : Fixed Dir) (form : IsFormThrough c) (stored : OfShares) (reads : ReadsShare c stored None) (st : Live Dir) (live : IsLiveThrough c stored st) (block : Block Dir) where
-  abbrev P : Line → Type 0
+  abbrev P : Entry → Type 0
   P = IsBlockLineThrough c stored st block
 
-  plain : (line : Line) → IsUnasked line → P line
+  plain : (line : Entry) → IsUnasked line → P line
   plain (Answer number answer) is = absurd is
   plain (Committed epoch share) is = absurd is
   plain line is = tt
 
   -- an answer at this stage
-  at_stage : (stage : Stage) → st.participation.stage ≡ stage → (line : Line) → IsAskedAnswer line → IsBlockAnswer c st block stage line → P line
+  at_stage : (stage : Stage) → st.participation.stage ≡ stage → (line : Entry) → IsAskedAnswer line → IsBlockAnswer c st block stage line → P line
   at_stage stage is (Answer number answer) asked its = subst (λ (x : Stage). IsBlockAnswer c st block x (Answer number answer)) (sym is) its
   at_stage stage is line asked its = absurd asked
 
@@ -647,7 +647,7 @@ module _ {Dir : Type 0} (c : Fixed Dir) (form : IsFormThrough c) (stored : OfSha
   committed_so info h share carries taken =
       subst (λ (o : Option (EpochInfo Dir)). IsSomeAnd o (λ x. (x.epoch ≡ info.epoch) × ((k : Held) × IsShareTaken c stored st k x share st.participation.stage))) (sym carries) (refl, (h, taken))
 
-  read_is_answer : (asked : Live Dir) (line : Line) → IsReadAnswer c asked line → IsAskedAnswer line
+  read_is_answer : (asked : Live Dir) (line : Entry) → IsReadAnswer c asked line → IsAskedAnswer line
   read_is_answer asked (Answer number answer) its = tt
   read_is_answer asked line its = absurd its
 
@@ -714,7 +714,7 @@ module _ {Dir : Type 0} (c : Fixed Dir) (form : IsFormThrough c) (stored : OfSha
           (ends_so c form stored reads st live P (λ its info job number records_of_epoch of_info runs waits. final_answer (Answer number (Available (payload_by c its info job.logs))) tt
           (inl (its, info, records_of_epoch, of_info, (job, runs, waits, refl)))) None (λ r e. absurd (none_apart r e)))
         where
-          final_answer : (line : Line) → IsAskedAnswer line → IsFinalAnswer c st true block line → P line
+          final_answer : (line : Entry) → IsAskedAnswer line → IsFinalAnswer c st true block line → P line
           final_answer line asked its = at_stage Includes is line asked (subst (λ (t : Bool). IsFinalAnswer c st t block line) (sym last) its)
 
       includes_say : SaysSo P (if is_last_height c block.height then b.final_block c round block st else b.includes c round block st)

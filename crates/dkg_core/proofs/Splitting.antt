@@ -1,6 +1,6 @@
 -- Courses one behind another, taken apart.
 use Rattle.std.proofs.Common.{◌≡◌, ◌⊎◌, inl, inr, List, [], ◌∷◌, ◌++◌, refl, sym, ◌∙◌, ap, subst, append_assoc}
-use Rattle.dkg_infos.specs.declared.entry.Entry.{Entry as Line}
+use Rattle.dkg_infos.specs.declared.entry.Entry.{Entry}
 use Rattle.dkg_store.specs.Acts.{World, says, does, Cause, Ended, went, stopped, broken, Completes, Faults, Breaks}
 use Rattle.dkg_core.specs.Courses.{Course, Say, Do, Call, Ask, Goes, Stops, bind, under, on_devices}
 use Rattle.dkg_core.specs.Said.{Said, SaysAll, SaysUpTo, SaysFirst}
@@ -48,13 +48,13 @@ runs_split course next (broken cause) w new run = elim (breaks_apart next cause 
 
 module _ {Dir F S T : Type 0} (next : S → Course Dir F T) where
   -- these lines are the first's, up to its end, and then the second's
-  abbrev Both : Course Dir F S → (S → List Line → Type 0) → List Line → Type 0
-  Both course P lines = (its : S) × (first : List Line) × (rest : List Line) × (lines ≡ first ++ rest) × SaysAll (on_devices course) its first × P its rest
+  abbrev Both : Course Dir F S → (S → List Entry → Type 0) → List Entry → Type 0
+  Both course P lines = (its : S) × (first : List Entry) × (rest : List Entry) × (lines ≡ first ++ rest) × SaysAll (on_devices course) its first × P its rest
 
-  both_more : (line : Line) (course : Course Dir F S) (P : S → List Line → Type 0) (lines rest : List Line) → lines ≡ line ∷ rest → Both course P rest → Both (Say line course) P lines
-  both_more line course P lines rest is both = (both.0, line ∷ both.1, both.2, is ∙ ap (λ (ls : List Line). line ∷ ls) both.3, (both.1, refl, both.4), both.5)
+  both_more : (line : Entry) (course : Course Dir F S) (P : S → List Entry → Type 0) (lines rest : List Entry) → lines ≡ line ∷ rest → Both course P rest → Both (Say line course) P lines
+  both_more line course P lines rest is both = (both.0, line ∷ both.1, both.2, is ∙ ap (λ (ls : List Entry). line ∷ ls) both.3, (both.1, refl, both.4), both.5)
 
-  all_apart : (course : Course Dir F S) (end : T) (lines : List Line) → SaysAll (on_devices (bind course next)) end lines → Both course (λ its rest. SaysAll (on_devices (next its)) end rest) lines
+  all_apart : (course : Course Dir F S) (end : T) (lines : List Entry) → SaysAll (on_devices (bind course next)) end lines → Both course (λ its rest. SaysAll (on_devices (next its)) end rest) lines
   all_apart (Say line course) end lines said = both_more line course (λ its rest. SaysAll (on_devices (next its)) end rest) lines said.0 said.1 (all_apart course end said.0 said.2)
   all_apart (Do op course) end lines said = all_apart course end lines said
   all_apart (Call outer course) end lines said = all_apart course end lines said
@@ -62,7 +62,7 @@ module _ {Dir F S T : Type 0} (next : S → Course Dir F T) where
   all_apart (Goes its) end lines said = (its, [], lines, refl, (refl, refl), said)
   all_apart (Stops fault) end lines said = absurd said
 
-  up_to_apart : (course : Course Dir F S) (fault : F) (lines : List Line) → SaysUpTo (on_devices (bind course next)) fault lines
+  up_to_apart : (course : Course Dir F S) (fault : F) (lines : List Entry) → SaysUpTo (on_devices (bind course next)) fault lines
       → Both course (λ its rest. SaysUpTo (on_devices (next its)) fault rest) lines ⊎ SaysUpTo (on_devices course) fault lines
   up_to_apart (Say line course) fault lines said = elim (up_to_apart course fault said.0 said.2) [
     | inl both ↦ inl (both_more line course (λ its rest. SaysUpTo (on_devices (next its)) fault rest) lines said.0 said.1 both)
@@ -77,7 +77,7 @@ module _ {Dir F S T : Type 0} (next : S → Course Dir F T) where
   up_to_apart (Goes its) fault lines said = inl (its, [], lines, refl, (refl, refl), said)
   up_to_apart (Stops its) fault lines said = inr said
 
-  first_apart : (course : Course Dir F S) (lines : List Line) → SaysFirst (on_devices (bind course next)) lines
+  first_apart : (course : Course Dir F S) (lines : List Entry) → SaysFirst (on_devices (bind course next)) lines
       → Both course (λ its rest. SaysFirst (on_devices (next its)) rest) lines ⊎ SaysFirst (on_devices course) lines
   first_apart (Say line course) lines (inl none) = inr (inl none)
   first_apart (Say line course) lines (inr said) = elim (first_apart course said.0 said.2) [
@@ -99,36 +99,36 @@ pub said_split : {Dir F S T : Type 0} → SaidSplit Dir F S T
 said_split {Dir} {F} {S} {T} course next (went end) old new said = both (all_apart next course end said.lines said.by)
   where
     both : Both next course (λ its rest. SaysAll (on_devices (next its)) end rest) said.lines
-        → ((its : S) × (mid : List Line) × Said (on_devices course) (went its) old mid × Said (on_devices (next its)) (went end) mid new)
+        → ((its : S) × (mid : List Entry) × Said (on_devices course) (went its) old mid × Said (on_devices (next its)) (went end) mid new)
         ⊎ ((early : Ended F S) × IsEarly {T = T} early (went end) × Said (on_devices course) early old new)
     both b = inl (
       b.0,
       old ++ b.1,
       record { lines = b.1; added = refl; by = b.4 },
-      record { lines = b.2; added = said.added ∙ ap (λ (ls : List Line). old ++ ls) b.3 ∙ sym (append_assoc old b.1 b.2); by = b.5 },
+      record { lines = b.2; added = said.added ∙ ap (λ (ls : List Entry). old ++ ls) b.3 ∙ sym (append_assoc old b.1 b.2); by = b.5 },
     )
 said_split {Dir} {F} {S} {T} course next (stopped fault) old new said = either (up_to_apart next course fault said.lines said.by)
   where
     either : Both next course (λ its rest. SaysUpTo (on_devices (next its)) fault rest) said.lines ⊎ SaysUpTo (on_devices course) fault said.lines
-        → ((its : S) × (mid : List Line) × Said (on_devices course) (went its) old mid × Said (on_devices (next its)) (stopped fault) mid new)
+        → ((its : S) × (mid : List Entry) × Said (on_devices course) (went its) old mid × Said (on_devices (next its)) (stopped fault) mid new)
         ⊎ ((early : Ended F S) × IsEarly {T = T} early (stopped fault) × Said (on_devices course) early old new)
     either (inl b) = inl (
       b.0,
       old ++ b.1,
       record { lines = b.1; added = refl; by = b.4 },
-      record { lines = b.2; added = said.added ∙ ap (λ (ls : List Line). old ++ ls) b.3 ∙ sym (append_assoc old b.1 b.2); by = b.5 },
+      record { lines = b.2; added = said.added ∙ ap (λ (ls : List Entry). old ++ ls) b.3 ∙ sym (append_assoc old b.1 b.2); by = b.5 },
     )
     either (inr first) = inr (stopped fault, refl, record { lines = said.lines; added = said.added; by = first })
 said_split {Dir} {F} {S} {T} course next (broken cause) old new said = either (first_apart next course said.lines said.by)
   where
     either : Both next course (λ its rest. SaysFirst (on_devices (next its)) rest) said.lines ⊎ SaysFirst (on_devices course) said.lines
-        → ((its : S) × (mid : List Line) × Said (on_devices course) (went its) old mid × Said (on_devices (next its)) (broken cause) mid new)
+        → ((its : S) × (mid : List Entry) × Said (on_devices course) (went its) old mid × Said (on_devices (next its)) (broken cause) mid new)
         ⊎ ((early : Ended F S) × IsEarly {T = T} early (broken cause) × Said (on_devices course) early old new)
     either (inl b) = inl (
       b.0,
       old ++ b.1,
       record { lines = b.1; added = refl; by = b.4 },
-      record { lines = b.2; added = said.added ∙ ap (λ (ls : List Line). old ++ ls) b.3 ∙ sym (append_assoc old b.1 b.2); by = b.5 },
+      record { lines = b.2; added = said.added ∙ ap (λ (ls : List Entry). old ++ ls) b.3 ∙ sym (append_assoc old b.1 b.2); by = b.5 },
     )
     either (inr first) = inr (broken cause, refl, record { lines = said.lines; added = said.added; by = first })
 
@@ -161,7 +161,7 @@ module _ {Dir F G S : Type 0} (name : F → G) where
   breaks_under cause (Goes end) w new run = run
   breaks_under cause (Stops fault) w new run = run
 
-  all_under : (course : Course Dir F S) (end : S) (lines : List Line) → SaysAll (on_devices (under name course)) end lines → SaysAll (on_devices course) end lines
+  all_under : (course : Course Dir F S) (end : S) (lines : List Entry) → SaysAll (on_devices (under name course)) end lines → SaysAll (on_devices course) end lines
   all_under (Say line course) end lines said = (said.0, said.1, all_under course end said.0 said.2)
   all_under (Do op course) end lines said = all_under course end lines said
   all_under (Call outer course) end lines said = all_under course end lines said
@@ -169,7 +169,7 @@ module _ {Dir F G S : Type 0} (name : F → G) where
   all_under (Goes its) end lines said = said
   all_under (Stops fault) end lines said = absurd said
 
-  up_to_under : (course : Course Dir F S) (fault : G) (lines : List Line) → SaysUpTo (on_devices (under name course)) fault lines
+  up_to_under : (course : Course Dir F S) (fault : G) (lines : List Entry) → SaysUpTo (on_devices (under name course)) fault lines
       → (its : F) × (fault ≡ name its) × SaysUpTo (on_devices course) its lines
   up_to_under (Say line course) fault lines said = let rest = up_to_under course fault said.0 said.2 in (rest.0, rest.1, (said.0, said.1, rest.2))
   up_to_under (Do op course) fault lines said = up_to_under course fault lines said
@@ -178,7 +178,7 @@ module _ {Dir F G S : Type 0} (name : F → G) where
   up_to_under (Goes end) fault lines said = absurd said
   up_to_under (Stops its) fault lines said = (its, said.1, (said.0, refl))
 
-  first_under : (course : Course Dir F S) (lines : List Line) → SaysFirst (on_devices (under name course)) lines → SaysFirst (on_devices course) lines
+  first_under : (course : Course Dir F S) (lines : List Entry) → SaysFirst (on_devices (under name course)) lines → SaysFirst (on_devices course) lines
   first_under (Say line course) lines (inl none) = inl none
   first_under (Say line course) lines (inr said) = inr (said.0, said.1, first_under course said.0 said.2)
   first_under (Do op course) lines (inl none) = inl none
@@ -203,7 +203,7 @@ said_under name course (broken cause) old new said = (broken cause, refl, record
 -- WHERE COURSES COME TO
 
 module _ {Dir F S : Type 0} (stops : F → Type 0) (goes : S → Type 0) where
-  came_all : (course : Course Dir F S) (end : S) (lines : List Line) → ComesTo stops goes course → SaysAll (on_devices course) end lines → goes end
+  came_all : (course : Course Dir F S) (end : S) (lines : List Entry) → ComesTo stops goes course → SaysAll (on_devices course) end lines → goes end
   came_all (Say line course) end lines comes a = came_all course end a.0 comes a.2
   came_all (Do op course) end lines comes a = came_all course end lines comes a
   came_all (Call outer course) end lines comes a = came_all course end lines comes a
@@ -211,7 +211,7 @@ module _ {Dir F S : Type 0} (stops : F → Type 0) (goes : S → Type 0) where
   came_all (Goes its) end lines comes a = subst goes (sym a.1) comes
   came_all (Stops fault) end lines comes a = absurd a
 
-  came_up_to : (course : Course Dir F S) (fault : F) (lines : List Line) → ComesTo stops goes course → SaysUpTo (on_devices course) fault lines → stops fault
+  came_up_to : (course : Course Dir F S) (fault : F) (lines : List Entry) → ComesTo stops goes course → SaysUpTo (on_devices course) fault lines → stops fault
   came_up_to (Say line course) fault lines comes a = came_up_to course fault a.0 comes a.2
   came_up_to (Do op course) fault lines comes a = came_up_to course fault lines comes a
   came_up_to (Call outer course) fault lines comes a = came_up_to course fault lines comes a
@@ -219,7 +219,7 @@ module _ {Dir F S : Type 0} (stops : F → Type 0) (goes : S → Type 0) where
   came_up_to (Goes end) fault lines comes a = absurd a
   came_up_to (Stops its) fault lines comes a = subst stops (sym a.1) comes
 
-  pub came_to : (course : Course Dir F S) (ended : Ended F S) (old new : List Line) → ComesTo stops goes course → Said (on_devices course) ended old new → CameTo stops goes ended
+  pub came_to : (course : Course Dir F S) (ended : Ended F S) (old new : List Entry) → ComesTo stops goes course → Said (on_devices course) ended old new → CameTo stops goes ended
   came_to course (went end) old new comes said = came_all course end said.lines comes said.by
   came_to course (stopped fault) old new comes said = came_up_to course fault said.lines comes said.by
   came_to course (broken cause) old new comes said = tt

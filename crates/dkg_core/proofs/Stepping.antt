@@ -9,7 +9,7 @@ use Rattle.dkg_ceremony.specs.declared.phase.Phase.TheVariants.{Early, Midpoint,
 use Rattle.dkg_ceremony.specs.declared.round.RoundParts.{RoundParts as Round}
 use Rattle.dkg_ceremony.specs.Schedule.{epoch_of, midpoint, last, phase_at}
 use Rattle.dkg_types.specs.Blocks.{Block}
-use Rattle.dkg_infos.specs.declared.entry.Entry.{Entry as Line}
+use Rattle.dkg_infos.specs.declared.entry.Entry.{Entry}
 use Rattle.dkg_infos.specs.declared.entry.Entry.TheVariants.{Acked}
 use Rattle.dkg_infos.specs.declared.fault.Fault.{Fault}
 use Rattle.dkg_infos.specs.declared.fault.Fault.TheVariants.{HeightRange, ConflictingBlock, DetachedBlock, SkippedHeight, OutOfWindow}
@@ -332,7 +332,7 @@ halves_go_on c st block low none = by_half c st block st.orchestrator.waiting no
 -- A NODE'S STEP
 
 -- a course that touches no device leaves them
-pub still_over : {Dir F S : Type 0} (P : Line → Type 0) (Q : S → Type 0) (stops : F → Type 0) (goes : S → Type 0) (course : Course Dir F S) (devices : Option Held)
+pub still_over : {Dir F S : Type 0} (P : Entry → Type 0) (Q : S → Type 0) (stops : F → Type 0) (goes : S → Type 0) (course : Course Dir F S) (devices : Option Held)
     → OnlySays P Q course → ComesTo stops goes course → ComesOver stops (λ end left. goes end × (left ≡ devices)) course devices
 still_over P Q stops goes (Say line course) devices only comes = still_over P Q stops goes course devices only.1 comes
 still_over P Q stops goes (Do op course) devices only comes = absurd only

@@ -28,7 +28,7 @@ use Rattle.dkg_core.specs.Behind.{IsAside}
 use Rattle.dkg_core.specs.Heard.{recovered_in}
 use Rattle.dkg_core.proofs.Keeping.{fold_silent, silent_whole, left_entries}
 use Rattle.std.specs.List.{AllByRecursion}
-use Rattle.dkg_infos.specs.declared.entry.Entry.{Entry as Line}
+use Rattle.dkg_infos.specs.declared.entry.Entry.{Entry}
 use Rattle.dkg_infos.specs.declared.entry.Entry.TheVariants.{Recorded, Ack}
 use Rattle.dkg_secrets.specs.declared.secrets.SecretOp.{SecretOp}
 use Rattle.dkg_core.specs.Enduring.{OwnAckOf, IsSaidFrom, IsKeptFrom}
@@ -60,7 +60,7 @@ not_none a found some none = differs (sym some ∙ none)
     differs : ◌≡◌ {A = Option _} (Some a) None → ⊥
     differs e = cc
 
-module _ (ack_of : OwnAckOf) (most : ℕ) (base : List Line) where
+module _ (ack_of : OwnAckOf) (most : ℕ) (base : List Entry) where
   abbrev Q : World → Type 0
   Q w = IsKeptFrom ack_of most base w
 
@@ -68,7 +68,7 @@ module _ (ack_of : OwnAckOf) (most : ℕ) (base : List Line) where
   abbrev StillGives : Held → Held → Type 0
   StillGives h k = (key : ℕ × ℕ) (v : List ℕ × ℕ) → most ≤ key.0 → get (recovered_in h) key ≡ Some v → get (recovered_in k) key ≡ Some v
 
-  still : (h k : Held) → StillGives h k → (line : Line) → IsSaidFrom ack_of most h line → IsSaidFrom ack_of most k line
+  still : (h k : Held) → StillGives h k → (line : Entry) → IsSaidFrom ack_of most h line → IsSaidFrom ack_of most k line
   still h k gives (Ack epoch dealer ack) said = λ above. let was = said above in (was.0, was.1, gives (epoch, dealer) was.0 above was.2, was.3, was.4)
   still h k gives (Recorded epoch dealer public private) said = λ above. gives (epoch, dealer) (public, private) above (said above)
   still h k gives line said = tt
@@ -81,11 +81,11 @@ module _ (ack_of : OwnAckOf) (most : ℕ) (base : List Line) where
     said = all_still (IsSaidFrom ack_of most w.held) (IsSaidFrom ack_of most new.held) (still w.held new.held gives) q.added q.said;
   }
 
-  pub tells : (w : World) (line : Line) → IsSaidFrom ack_of most w.held line → Q w → Q (says w line)
+  pub tells : (w : World) (line : Entry) → IsSaidFrom ack_of most w.held line → Q w → Q (says w line)
   tells w line sound q = record {
     whole = q.whole;
     added = q.added ++ line ∷ [];
-    out = ap (λ (ls : List Line). ls ++ line ∷ []) q.out ∙ append_assoc base q.added (line ∷ []);
+    out = ap (λ (ls : List Entry). ls ++ line ∷ []) q.out ∙ append_assoc base q.added (line ∷ []);
     said = all_of_both (IsSaidFrom ack_of most w.held) q.added (line ∷ []) q.said (sound, tt);
   }
 
@@ -231,11 +231,11 @@ module _ (ack_of : OwnAckOf) (most : ℕ) (base : List Line) where
 
 -- A COMMIT
 
-module _ {Dir : Type 0} (c : Fixed Dir) (ack_of : OwnAckOf) (most : ℕ) (base : List Line) where
+module _ {Dir : Type 0} (c : Fixed Dir) (ack_of : OwnAckOf) (most : ℕ) (base : List Entry) where
   abbrev P : World → Type 0
   P w = IsKeptFrom ack_of most base w
 
-  tell : (w : World) (line : Line) → IsSaidFrom ack_of most w.held line → P w → P (says w line)
+  tell : (w : World) (line : Entry) → IsSaidFrom ack_of most w.held line → P w → P (says w line)
   tell w line sound q = tells ack_of most base w line sound q
 
   pub commits : (info : EpochInfo Dir) (seed : List ℕ) (share : Option ℕ) (st : Live Dir) (w : World) → P w → Throughout {Dir = Dir} P (s.commits info seed share st) w
@@ -253,13 +253,13 @@ module _ {Dir : Type 0} (c : Fixed Dir) (ack_of : OwnAckOf) (most : ℕ) (base :
         ),
       )
 
-  aside_said : (h : Held) (line : Line) → IsAside line → IsSaidFrom ack_of most h line
+  aside_said : (h : Held) (line : Entry) → IsAside line → IsSaidFrom ack_of most h line
   aside_said h (Recorded epoch dealer public private) aside = absurd aside
   aside_said h (Ack epoch dealer ack) aside = absurd aside
   aside_said h line aside = tt
 
   -- a line that is no dealing's
-  pub told : (w : World) (line : Line) → IsAside line → P w → P (says w line)
+  pub told : (w : World) (line : Entry) → IsAside line → P w → P (says w line)
   told w line aside q = tell w line (aside_said w.held line aside) q
 
   -- what was read is committed

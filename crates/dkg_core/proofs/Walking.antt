@@ -15,7 +15,7 @@ use Rattle.dkg_ceremony.specs.Schedule.{epoch_of, midpoint, boundary}
 use Rattle.dkg_types.specs.Blocks.{Block}
 use Rattle.dkg_types.specs.BlockCodes.{info_of}
 use Rattle.dkg_infos.specs.declared.entry.AnswerLine.TheVariants.{Unavailable}
-use Rattle.dkg_infos.specs.declared.entry.Entry.{Entry as Line}
+use Rattle.dkg_infos.specs.declared.entry.Entry.{Entry}
 use Rattle.dkg_infos.specs.declared.entry.Entry.TheVariants.{Answer}
 use Rattle.dkg_infos.specs.declared.entry.Why.TheVariants.{Finished}
 use Rattle.dkg_infos.specs.declared.fault.Fault.{Fault}
@@ -43,7 +43,7 @@ use Rattle.dkg_core.specs.Forms.{Judged, Refusal, Passed, Applied, judged_over_t
 use Rattle.dkg_core.proofs.Running.{along_next, along_end}
 use Rattle.dkg_core.proofs.Upkeep.{along_if, along_option}
 
-module _ {Dir : Type 0} (c : Fixed Dir) (P : World → Type 0) (tell : (w : World) (line : Line) → IsAside line → P w → P (says w line)) where
+module _ {Dir : Type 0} (c : Fixed Dir) (P : World → Type 0) (tell : (w : World) (line : Entry) → IsAside line → P w → P (says w line)) where
   pub then_next : (course : Course Dir Fault (Live Dir)) (next : Live Dir → Course Dir Fault (Live Dir)) (w : World) → Throughout P course w → ((st : Live Dir) (mid : World) → P mid → Throughout P (next st) mid)
       → Throughout P (bind course next) w
   then_next course next w t more = along_next P course next w t (λ st mid done. more st mid (along_end P course w mid st t done))

@@ -2,7 +2,7 @@
 -- of dealings.
 use Rattle.std.specs.Prelude.{◌≡◌, ◌++◌, List, []}
 use Rattle.std.specs.List.{AllByRecursion}
-use Rattle.dkg_infos.specs.declared.entry.Entry.{Entry as Line}
+use Rattle.dkg_infos.specs.declared.entry.Entry.{Entry}
 use Rattle.dkg_infos.specs.declared.fault.Fault.{Fault}
 use Rattle.dkg_store.specs.Acts.{Held, World, Ended, went, stopped, broken}
 use Rattle.dkg_core.specs.Courses.{Course, Say, Do, Call, Ask, Goes, Stops, on_devices, EndsSo}
@@ -14,7 +14,7 @@ use Rattle.dkg_core.specs.Node.{node_opening, node_step}
 use Rattle.dkg_core.specs.Laws.{IsSilent}
 
 -- A course that touches no device: it says such lines alone, and ends so, if it goes to its end.
-abbrev pub OnlySays : {Dir F S : Type 0} → (line : Line → Type 0) → (end : S → Type 0) → Course Dir F S → Type 0
+abbrev pub OnlySays : {Dir F S : Type 0} → (line : Entry → Type 0) → (end : S → Type 0) → Course Dir F S → Type 0
 OnlySays P Q (Say line course) = P line × OnlySays P Q course
 OnlySays P Q (Do op course) = ⊥
 OnlySays P Q (Call outer course) = OnlySays P Q course
@@ -23,7 +23,7 @@ OnlySays P Q (Goes end) = Q end
 OnlySays P Q (Stops fault) = Unit {0}
 
 -- The line is no dealing's and no acknowledgement's, and it neither opens, counts, cuts nor faults.
-abbrev pub IsAside : Line → Type 0
+abbrev pub IsAside : Entry → Type 0
 IsAside line = IsSilent {Dir = Unit {0}} [] line
 
 -- the same life but for its orchestrator
@@ -51,18 +51,18 @@ pub record RunsBehind {Dir : Type 0} (course : Course Dir Fault (Live Dir)) (end
   pub ends : EndsBehind half ended
   pub held : new.held ≡ mid.held
   pub fuse : new.fuse ≡ mid.fuse
-  pub lines : List Line
+  pub lines : List Entry
   pub out : new.out ≡ mid.out ++ lines
   pub aside : AllByRecursion IsAside lines
   pub silent : IfEarly half (lines ≡ [])
 
 -- .. and its lines, whatever the devices tell
-pub record SaidBehind {Dir : Type 0} (course : Course Dir Fault (Live Dir)) (ended : Ended NodeStop (Live Dir)) (old new : List Line) : Type 0 where
+pub record SaidBehind {Dir : Type 0} (course : Course Dir Fault (Live Dir)) (ended : Ended NodeStop (Live Dir)) (old new : List Entry) : Type 0 where
   pub half : Ended Fault (Live Dir)
-  pub mid : List Line
+  pub mid : List Entry
   pub said : Said (on_devices course) half old mid
   pub ends : EndsBehind half ended
-  pub lines : List Line
+  pub lines : List Entry
   pub out : new ≡ mid ++ lines
   pub aside : AllByRecursion IsAside lines
   pub silent : IfEarly half (lines ≡ [])
@@ -82,9 +82,9 @@ StepsRunBehind Dir = (c : Fixed Dir) (st : Live Dir) (message : Message Dir) (en
 
 -- SO ARE ITS LINES.
 abbrev pub OpeningsSayBehind : Type 0 → Type 0
-OpeningsSayBehind Dir = (c : Fixed Dir) (ended : Ended NodeStop (Live Dir)) (old new : List Line)
+OpeningsSayBehind Dir = (c : Fixed Dir) (ended : Ended NodeStop (Live Dir)) (old new : List Entry)
     → Said (on_devices (node_opening c)) ended old new → SaidBehind (opening c) ended old new
 
 abbrev pub StepsSayBehind : Type 0 → Type 0
-StepsSayBehind Dir = (c : Fixed Dir) (st : Live Dir) (message : Message Dir) (ended : Ended NodeStop (Live Dir)) (old new : List Line)
+StepsSayBehind Dir = (c : Fixed Dir) (st : Live Dir) (message : Message Dir) (ended : Ended NodeStop (Live Dir)) (old new : List Entry)
     → Said (on_devices (node_step c (event_of message) st)) ended old new → SaidBehind (step c message st) ended old new

@@ -1,6 +1,6 @@
 -- What a step does, in its order: lines that it says, operations on the devices, calls of what is outside of the node, and how it ends.
 use Rattle.std.specs.Prelude.{ℕ, List, [], ◌∷◌, Option, Some, None}
-use Rattle.dkg_infos.specs.declared.entry.Entry.{Entry as Line}
+use Rattle.dkg_infos.specs.declared.entry.Entry.{Entry}
 use Rattle.dkg_types.specs.declared.finalization.Finalization.{Finalization}
 use Rattle.dkg_infos.specs.declared.participants.TrackedPeers.{TrackedPeers}
 use Rattle.dkg_types.specs.declared.scheme.SchemeInfo.{SchemeInfo}
@@ -25,7 +25,7 @@ pub data Outer (Dir : Type 0) : Type 0 where
 -- COURSES: a store's acts, and calls outside among them
 
 pub data Course (Dir F S : Type 0) : Type 0 where
-  Say : Line → Course Dir F S → Course Dir F S
+  Say : Entry → Course Dir F S → Course Dir F S
   Do : Operation → Course Dir F S → Course Dir F S
   Call : Outer Dir → Course Dir F S → Course Dir F S
   -- the devices are read, which changes nothing
@@ -77,7 +77,7 @@ EndsSo course ended w new = Runs (on_devices course) ended w new
 
 -- what a course does one after another
 pub data Deed (Dir : Type 0) : Type 0 where
-  Said : Line → Deed Dir
+  Said : Entry → Deed Dir
   Did : Operation → Deed Dir
   Called : Outer Dir → Deed Dir
 

@@ -3,7 +3,7 @@ use Rattle.std.specs.Prelude.{ℕ, List, ◌∷◌, ◌+◌, ◌≡◌, true, So
 use Rattle.dkg_values.specs.Rising.{lookup}
 use Rattle.dkg_ceremony.specs.Schedule.{last}
 use Rattle.dkg_types.specs.Blocks.{Block}
-use Rattle.dkg_infos.specs.declared.entry.Entry.{Entry as Line}
+use Rattle.dkg_infos.specs.declared.entry.Entry.{Entry}
 use Rattle.dkg_infos.specs.declared.entry.Entry.TheVariants.{Entered}
 use Rattle.dkg_types.specs.declared.scheme.SchemeInfo.{SchemeInfo}
 use Rattle.dkg_core.specs.Fixed.{Fixed}
@@ -30,7 +30,7 @@ pub record IsEnterable {Dir : Type 0} (st : Live Dir) (past : List (Deed Dir)) (
   pub registered : lookup epoch st.orchestrator.schemes ≡ Some scheme
   pub started : IsEngineStarted epoch scheme past
 
-abbrev pub EntryLine : {Dir : Type 0} → Live Dir → List (Deed Dir) → Line → Type 0
+abbrev pub EntryLine : {Dir : Type 0} → Live Dir → List (Deed Dir) → Entry → Type 0
 EntryLine st past (Entered epoch) = IsEnterable st past epoch
 EntryLine st past line = Unit {0}
 

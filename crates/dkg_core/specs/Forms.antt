@@ -14,7 +14,7 @@ use Rattle.dkg_ceremony.specs.Schedule.{epoch_of, midpoint}
 use Rattle.dkg_fence.specs.Fence.{marked}
 use Rattle.dkg_types.specs.Blocks.{Block}
 use Rattle.dkg_types.specs.BlockCodes.{info_of}
-use Rattle.dkg_infos.specs.declared.entry.Entry.{Entry as Line}
+use Rattle.dkg_infos.specs.declared.entry.Entry.{Entry}
 use Rattle.dkg_infos.specs.declared.fault.Fault.{Fault}
 use Rattle.dkg_infos.specs.declared.fault.Fault.TheVariants.{HeightRange, MissingEpochInfo, WrongEpoch, InvalidParticipants, LocalState, ConflictingBlock, DetachedBlock, SkippedHeight, OutOfWindow}
 use Rattle.dkg_infos.specs.declared.fault.LocalCause.TheVariants.{ShareRefused, StoredDealing}
@@ -250,7 +250,7 @@ pub record IsOpened {Dir : Type 0} (c : Fixed Dir) (seen : Seen) (k : Held) (st 
 
 -- AN OPENING stops by these faults alone, or leaves such a life. What it restored is what it read first (h).
 abbrev pub OpeningsLead : Type 0 → Type 0
-OpeningsLead Dir = (c : Fixed Dir) (ended : Ended Fault (Live Dir)) (old new : List Line) → IsForm c → Said (on_devices (opening c)) ended old new
+OpeningsLead Dir = (c : Fixed Dir) (ended : Ended Fault (Live Dir)) (old new : List Entry) → IsForm c → Said (on_devices (opening c)) ended old new
     → CameTo (λ fault. (h k : Held) × IsOpeningStop c (c.seen h) k fault) (λ st. (h k : Held) × IsOpened c (c.seen h) k st) ended
 
 -- what devices hold as an opening reads them: the barrier and the journal's opening are behind it
@@ -283,7 +283,7 @@ pub record IsNodeBegun {Dir : Type 0} (c : Fixed Dir) (seen : Seen) (k : Held) (
 
 -- A NODE'S OPENING stops by faults of its reshare half alone, each of which has its cause; or it leaves such a life, where directories lack nobody.
 abbrev pub NodeOpeningsLead : Type 0 → Type 0
-NodeOpeningsLead Dir = (c : Fixed Dir) (ended : Ended NodeStop (Live Dir)) (old new : List Line) → IsForm c → LacksNobody c → Said (on_devices (node_opening c)) ended old new
+NodeOpeningsLead Dir = (c : Fixed Dir) (ended : Ended NodeStop (Live Dir)) (old new : List Entry) → IsForm c → LacksNobody c → Said (on_devices (node_opening c)) ended old new
     → CameTo (IsFaultBy (λ fault. (h k : Held) × IsOpeningStop c (c.seen h) k fault)) (λ st. (h k : Held) × IsNodeBegun c (c.seen h) k st) ended
 
 -- .. and so it is over devices that tell.

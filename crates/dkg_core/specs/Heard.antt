@@ -7,7 +7,7 @@ use Rattle.std.specs.FinMap as maps
 use Rattle.std.specs.FinMap.{get, insert}
 use Rattle.dkg_values.specs.Codec.{whole as all_of}
 use Rattle.dkg_ceremony.specs.declared.round.RoundParts.{RoundParts as Round}
-use Rattle.dkg_infos.specs.declared.entry.Entry.{Entry as Line}
+use Rattle.dkg_infos.specs.declared.entry.Entry.{Entry}
 use Rattle.dkg_infos.specs.declared.entry.Entry.TheVariants.{Opened, Recorded, Ack}
 use Rattle.dkg_types.specs.declared.message.Message.TheVariants.{Dealer as ADealing, Ack as AnAck}
 use Rattle.dkg_types.specs.MessageCodes.{message_at}
@@ -31,7 +31,7 @@ abbrev pub recovered_in : Held → Pairs
 recovered_in h = recovered (notes h) h.secrets
 
 -- An acknowledgement is that of a dealing that the devices give back, and so is a dealing that was told as recorded.
-abbrev pub IsSaid : {Dir : Type 0} → Fixed Dir → Round → Held → Line → Type 0
+abbrev pub IsSaid : {Dir : Type 0} → Fixed Dir → Round → Held → Entry → Type 0
 IsSaid c round h (Ack epoch dealer ack) = (pair : List ℕ × ℕ) × (get (recovered_in h) (epoch, dealer) ≡ Some pair) × (ack ≡ c.rules.ack_of c.me round dealer pair.0)
 IsSaid c round h (Recorded epoch dealer public private) = get (recovered_in h) (epoch, dealer) ≡ Some (public, private)
 IsSaid c round h line = Unit {0}
@@ -42,10 +42,10 @@ MayHave c st from round pairs now =
     (now ≡ pairs) ⊎ ((public : List ℕ) × (private : ℕ) × IsAccepted c st round.number from public private × (now ≡ insert pairs (round.number, from) (public, private)))
 
 -- At a moment of the step: the devices are whole and give these dealings back, and each line since its beginning is sound.
-pub record IsKeptAt {Dir : Type 0} (c : Fixed Dir) (st : Live Dir) (from : ℕ) (round : Round) (base : List Line) (pairs : Pairs) (w : World) : Type 0 where
+pub record IsKeptAt {Dir : Type 0} (c : Fixed Dir) (st : Live Dir) (from : ℕ) (round : Round) (base : List Entry) (pairs : Pairs) (w : World) : Type 0 where
   pub whole : IsWhole (notes w.held) w.held.secrets
   pub gives : MayHave c st from round pairs (recovered_in w.held)
-  pub added : List Line
+  pub added : List Entry
   pub out : w.out ≡ base ++ added
   pub said : AllByRecursion (IsSaid c round w.held) added
 
@@ -91,9 +91,9 @@ Fits c m =
     × ((ack : List ℕ) → all_of (message_at c.limit m.1) ≡ Ok (AnAck ack) → IsEvent (events.Ack m.0 ack))
 
 -- At a moment of the run: the devices are whole, and each line since its beginning is sound over what they give back.
-pub record IsKeptSince {Dir : Type 0} (c : Fixed Dir) (round : Round) (base : List Line) (w : World) : Type 0 where
+pub record IsKeptSince {Dir : Type 0} (c : Fixed Dir) (round : Round) (base : List Entry) (w : World) : Type 0 where
   pub whole : IsWhole (notes w.held) w.held.secrets
-  pub added : List Line
+  pub added : List Entry
   pub out : w.out ≡ base ++ added
   pub said : AllByRecursion (IsSaid c round w.held) added
 

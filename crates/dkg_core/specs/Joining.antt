@@ -1,6 +1,6 @@
 -- How a node joins its probe: the probe's acts as a course.
 use Rattle.std.specs.Prelude.{◌≡◌, ℕ, List, [], ◌∷◌, Option}
-use Rattle.dkg_infos.specs.declared.entry.Entry.{Entry as Line}
+use Rattle.dkg_infos.specs.declared.entry.Entry.{Entry}
 use Rattle.dkg_infos.specs.declared.participants.TrackedPeers.{TrackedPeers}
 use Rattle.dkg_types.specs.Tracking.{with_set}
 use Rattle.dkg_probe.specs.Acts as of_probe
@@ -33,7 +33,7 @@ tracked_by (deed ∷ deeds) sets = tracked_by deeds sets
 
 -- WHATEVER RUNS AS A PROBE'S ACTS runs as the joined course: over any devices, which it leaves as they were with the fuse, and with the same lines.
 abbrev pub ProbesJoin : (Dir F G S T : Type 0) → Type 0
-ProbesJoin Dir F G S T = (directory : Dir) (fault : F → G) (end : S → T) (acts : ProbeActs F S) (ended : of_probe.ProbeEnded F S) (w : World) (new : List Line)
+ProbesJoin Dir F G S T = (directory : Dir) (fault : F → G) (end : S → T) (acts : ProbeActs F S) (ended : of_probe.ProbeEnded F S) (w : World) (new : List Entry)
     → ProbeRuns acts ended w.out new → EndsSo (joined directory fault end acts) (probe_ended_as fault end ended) w (with_out new w)
 
 -- A manager that does the calls of the joined course tracks what the acts say, whatever the devices hold.

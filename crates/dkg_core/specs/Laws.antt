@@ -7,7 +7,7 @@ use Rattle.dkg_ceremony.specs.declared.mode.Reveal.{Reveal}
 use Rattle.dkg_ceremony.specs.declared.output.Output.{Output}
 use Rattle.dkg_ceremony.specs.declared.round.RoundParts.{RoundParts as Round}
 use Rattle.dkg_ceremony.specs.Schedule.{epoch_of}
-use Rattle.dkg_infos.specs.declared.entry.Entry.{Entry as Line}
+use Rattle.dkg_infos.specs.declared.entry.Entry.{Entry}
 use Rattle.dkg_infos.specs.declared.entry.Entry.TheVariants.{Opened, Recorded, Ack, Offer, Cut, Step, Fault as AFault}
 use Rattle.dkg_types.specs.declared.message.Message.TheVariants.{Dealer as ADealing}
 use Rattle.dkg_types.specs.MessageCodes.{message_at}
@@ -27,7 +27,7 @@ use Rattle.dkg_core.specs.Setup.{setup}
 
 -- A law: what it says of a line, of an operation and of an end, each behind what was said, done and called before it (the newest first).
 pub record Law (Dir S : Type 0) : Type 1 where
-  pub line : List (Deed Dir) → Line → Type 0
+  pub line : List (Deed Dir) → Entry → Type 0
   pub operation : List (Deed Dir) → Operation → Type 0
   pub end : List (Deed Dir) → S → Type 0
 
@@ -42,7 +42,7 @@ Holds law past (Stops fault) = Unit {0}
 
 -- What each line and each operation that keeps the law leaves as it was: whether the operation is done, or torn by some cause.
 pub record LawKeeps {Dir S : Type 0} (law : Law Dir S) (P : World → Type 0) : Type 0 where
-  pub said : (past : List (Deed Dir)) (w : World) (line : Line) → law.line past line → P w → P (says w line)
+  pub said : (past : List (Deed Dir)) (w : World) (line : Entry) → law.line past line → P w → P (says w line)
   pub done : (past : List (Deed Dir)) (w : World) (op : Operation) → law.operation past op → P w → P (does w op)
   pub torn : (past : List (Deed Dir)) (cause : Cause) (w new : World) (op : Operation) → law.operation past op → P w → Tears cause op w new → P new
 
@@ -60,7 +60,7 @@ PrunesAtMost most past (Changes (PutSeed epoch seed)) = Unit {0}
 PrunesAtMost most past op = ⊥
 
 -- a line of the node's own: not those by which a life is opened, a step is counted or cut, and a fault is told
-abbrev pub IsQuiet : Line → Type 0
+abbrev pub IsQuiet : Entry → Type 0
 IsQuiet (Opened life restored) = ⊥
 IsQuiet (Cut step call) = ⊥
 IsQuiet (Step step) = ⊥
@@ -68,7 +68,7 @@ IsQuiet (AFault fault) = ⊥
 IsQuiet line = Unit {0}
 
 -- no dealing is told as recorded, none is acknowledged, and no half is offered
-abbrev pub IsSilent : {Dir : Type 0} → List (Deed Dir) → Line → Type 0
+abbrev pub IsSilent : {Dir : Type 0} → List (Deed Dir) → Entry → Type 0
 IsSilent past (Recorded epoch dealer public private) = ⊥
 IsSilent past (Ack epoch dealer ack) = ⊥
 IsSilent past (Offer epoch player public private) = ⊥
@@ -93,7 +93,7 @@ OpeningOperation most past (OnDisk ClearsPlan) = Unit {0}
 OpeningOperation most past op = PrunesAtMost most past op
 
 -- the line with what was restored, as the first thing behind the barrier and the journal's opening
-abbrev pub OpeningLine : {Dir : Type 0} → Fixed Dir → List (Deed Dir) → Line → Type 0
+abbrev pub OpeningLine : {Dir : Type 0} → Fixed Dir → List (Deed Dir) → Entry → Type 0
 OpeningLine c past (Opened life restored) = (life ≡ c.life) × (past ≡ Did (OnDisk (Opens c.opening_calls)) ∷ Did (OnDisk Bars) ∷ [])
 OpeningLine c past line = IsSilent past line
 
@@ -144,7 +144,7 @@ pub record IsAcknowledged {Dir : Type 0} (c : Fixed Dir) (st : Live Dir) (past :
   pub of : ((past ≡ []) × (recorded_at st.records.dealings epoch dealer ≡ Some pair)) ⊎ (IsAccepted c st epoch dealer pair.0 pair.1 × WasRecorded epoch dealer pair.0 pair.1 past)
 
 -- what a peer's message may say
-abbrev pub PeerLine : {Dir : Type 0} → Fixed Dir → Live Dir → (from : ℕ) → List (Deed Dir) → Line → Type 0
+abbrev pub PeerLine : {Dir : Type 0} → Fixed Dir → Live Dir → (from : ℕ) → List (Deed Dir) → Entry → Type 0
 PeerLine c st from past (Recorded epoch dealer public private) = (dealer ≡ from) × IsAccepted c st epoch dealer public private × WasPut epoch dealer public private past
 PeerLine c st from past (Ack epoch dealer ack) = (dealer ≡ from) × IsAcknowledged c st past epoch dealer ack
 PeerLine c st from past (Offer epoch player public private) = ⊥
@@ -204,7 +204,7 @@ pub record IsOffered {Dir : Type 0} (c : Fixed Dir) (st : Live Dir) (epoch playe
   pub other : player ≡ c.me → ⊥
 
 -- No dealing is acknowledged, of dealings only this node's own is recorded, and such halves are offered.
-abbrev pub OtherLine : {Dir : Type 0} → Fixed Dir → OfHalves → OfOffers → List (Deed Dir) → Line → Type 0
+abbrev pub OtherLine : {Dir : Type 0} → Fixed Dir → OfHalves → OfOffers → List (Deed Dir) → Entry → Type 0
 OtherLine c own offered past (Recorded epoch dealer public private) = (dealer ≡ c.me) × own epoch public private
 OtherLine c own offered past (Ack epoch dealer ack) = ⊥
 OtherLine c own offered past (Offer epoch player public private) = offered epoch player public private

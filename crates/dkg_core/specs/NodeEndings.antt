@@ -1,7 +1,7 @@
 -- A node's opening and its steps: in which words it is told how they end, what they say, and what they answer.
 use Rattle.std.specs.Prelude.{◌≡◌, ℕ, List, [], ◌∷◌, ◌++◌, None}
 use Rattle.std.specs.List.{AllByRecursion}
-use Rattle.dkg_infos.specs.declared.entry.Entry.{Entry as Line}
+use Rattle.dkg_infos.specs.declared.entry.Entry.{Entry}
 use Rattle.dkg_infos.specs.declared.entry.Entry.TheVariants.{Ack}
 use Rattle.dkg_infos.specs.declared.fault.Fault.{Fault}
 use Rattle.dkg_infos.specs.declared.participants.TrackedPeers.{TrackedPeers}
@@ -28,17 +28,17 @@ IsFaultBy P stop = (fault : Fault) × (stop ≡ Faulted fault) × P fault
 
 -- A NODE'S OPENING says first that the life is opened, and then lines of its own alone.
 abbrev pub NodeOpeningsAreQuiet : Type 0 → Type 0
-NodeOpeningsAreQuiet Dir = (c : Fixed Dir) (ended : Ended NodeStop (Live Dir)) (old new : List Line) → Said (on_devices (node_opening c)) ended old new
-    → (added : List Line) × (new ≡ old ++ added) × BeginsOpened c.life added ended
+NodeOpeningsAreQuiet Dir = (c : Fixed Dir) (ended : Ended NodeStop (Live Dir)) (old new : List Entry) → Said (on_devices (node_opening c)) ended old new
+    → (added : List Entry) × (new ≡ old ++ added) × BeginsOpened c.life added ended
 
 -- A NODE'S STEP says lines of its own alone, of whatever the reshare half takes.
 abbrev pub NodeStepsAreQuiet : Type 0 → Type 0
-NodeStepsAreQuiet Dir = (c : Fixed Dir) (st : Live Dir) (message : Message Dir) (ended : Ended NodeStop (Live Dir)) (old new : List Line)
-    → Said (on_devices (node_step c (event_of message) st)) ended old new → (added : List Line) × (new ≡ old ++ added) × AllByRecursion IsQuiet added
+NodeStepsAreQuiet Dir = (c : Fixed Dir) (st : Live Dir) (message : Message Dir) (ended : Ended NodeStop (Live Dir)) (old new : List Entry)
+    → Said (on_devices (node_step c (event_of message) st)) ended old new → (added : List Entry) × (new ≡ old ++ added) × AllByRecursion IsQuiet added
 
 -- WHAT IS DUE
 
 -- A DUE MESSAGE is acknowledged last of all, where the orchestrator's half doesn't wait.
 abbrev pub NodeDuesAreAnswered : Type 0 → Type 0
 NodeDuesAreAnswered Dir = (c : Fixed Dir) (st end : Live Dir) (from : ℕ) (bytes : List ℕ) (due : IsDue c st from bytes) (w new : World) → st.orchestrator.waiting ≡ None
-    → EndsSo (node_step c (Reshare (Peer from bytes)) st) (went end) w new → (before : List Line) × (ack : List ℕ) × (new.out ≡ w.out ++ (before ++ Ack due.round.number from ack ∷ []))
+    → EndsSo (node_step c (Reshare (Peer from bytes)) st) (went end) w new → (before : List Entry) × (ack : List ℕ) × (new.out ≡ w.out ++ (before ++ Ack due.round.number from ack ∷ []))

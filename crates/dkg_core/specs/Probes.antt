@@ -1,6 +1,6 @@
 -- A step of a probe is the node's half of it.
 use Rattle.std.specs.Prelude.{◌≡◌, ℕ, List, Some}
-use Rattle.dkg_infos.specs.declared.entry.Entry.{Entry as Line}
+use Rattle.dkg_infos.specs.declared.entry.Entry.{Entry}
 use Rattle.dkg_probe.specs.declared.event.Event.{Event as ProbeEvent}
 use Rattle.dkg_probe.specs.declared.state.State.{State}
 use Rattle.dkg_probe.specs.Acts.{ProbeEnded, went, stopped, broken, ProbeRuns}
@@ -26,6 +26,6 @@ IfProbeWentTo broken P = Unit {0}
 -- of which the life has the state again.
 abbrev pub ProbesStep : Type 0 → Type 0
 ProbesStep Dir = (c : Fixed Dir) (s : Snapshot Dir) (event : Event Dir) (its : ProbeEvent) (st : Live Dir) (state : State Dir)
-    → (ended : ProbeEnded ℕ (State Dir)) (w : World) (new : List Line)
+    → (ended : ProbeEnded ℕ (State Dir)) (w : World) (new : List Entry)
     → c.probed.snapshot ≡ Some s → probe_event event ≡ Some its → HasState s st state → ProbeRuns (steps_from c s its state) ended w.out new
     → EndsSo (probes c event st) (probe_ended_as PeerSet (with_probe st) ended) w (with_out new w) × IfProbeWentTo ended (λ end. HasState s (with_probe st end) end)

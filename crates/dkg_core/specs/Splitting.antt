@@ -1,6 +1,6 @@
 -- Courses one behind another, and a course under other names for its faults: how the whole ended by how its parts did.
 use Rattle.std.specs.Prelude.{◌≡◌, ◌⊎◌, List}
-use Rattle.dkg_infos.specs.declared.entry.Entry.{Entry as Line}
+use Rattle.dkg_infos.specs.declared.entry.Entry.{Entry}
 use Rattle.dkg_store.specs.Acts.{World, Ended, went, stopped, broken}
 use Rattle.dkg_core.specs.Courses.{Course, bind, under, on_devices, EndsSo}
 use Rattle.dkg_core.specs.Said.{Said}
@@ -24,8 +24,8 @@ RunsSplit Dir F S T = (course : Course Dir F S) (next : S → Course Dir F T) (e
 
 -- .. and of its lines, whatever the devices tell
 abbrev pub SaidSplit : (Dir F S T : Type 0) → Type 0
-SaidSplit Dir F S T = (course : Course Dir F S) (next : S → Course Dir F T) (ended : Ended F T) (old new : List Line) → Said (on_devices (bind course next)) ended old new
-    → ((end : S) × (mid : List Line) × Said (on_devices course) (went end) old mid × Said (on_devices (next end)) ended mid new)
+SaidSplit Dir F S T = (course : Course Dir F S) (next : S → Course Dir F T) (ended : Ended F T) (old new : List Entry) → Said (on_devices (bind course next)) ended old new
+    → ((end : S) × (mid : List Entry) × Said (on_devices course) (went end) old mid × Said (on_devices (next end)) ended mid new)
     ⊎ ((early : Ended F S) × IsEarly early ended × Said (on_devices course) early old new)
 
 -- A RUN UNDER OTHER NAMES is one of the course.
@@ -34,5 +34,5 @@ RunsUnder Dir F G S = (name : F → G) (course : Course Dir F S) (ended : Ended 
     → (its : Ended F S) × (ended ≡ fault_named name its) × EndsSo course its w new
 
 abbrev pub SaidUnder : (Dir F G S : Type 0) → Type 0
-SaidUnder Dir F G S = (name : F → G) (course : Course Dir F S) (ended : Ended G S) (old new : List Line) → Said (on_devices (under name course)) ended old new
+SaidUnder Dir F G S = (name : F → G) (course : Course Dir F S) (ended : Ended G S) (old new : List Entry) → Said (on_devices (under name course)) ended old new
     → (its : Ended F S) × (ended ≡ fault_named name its) × Said (on_devices course) its old new

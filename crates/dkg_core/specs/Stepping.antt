@@ -7,7 +7,7 @@ use Rattle.dkg_ceremony.specs.declared.round.RoundParts.{RoundParts as Round}
 use Rattle.dkg_ceremony.specs.Schedule.{epoch_of, midpoint, last}
 use Rattle.dkg_types.specs.Blocks.{Block}
 use Rattle.dkg_types.specs.BlockCodes.{info_of}
-use Rattle.dkg_infos.specs.declared.entry.Entry.{Entry as Line}
+use Rattle.dkg_infos.specs.declared.entry.Entry.{Entry}
 use Rattle.dkg_infos.specs.declared.fault.Fault.{Fault}
 use Rattle.dkg_infos.specs.declared.fault.Fault.TheVariants.{HeightRange, MissingEpochInfo, WrongEpoch, LocalState}
 use Rattle.dkg_infos.specs.declared.fault.LocalCause.TheVariants.{OwnDealing}
@@ -214,7 +214,7 @@ LeavesTaken c st (Sent mail) k now = Unit {0}
 
 -- A STEP stops by these faults alone, or leaves such a life, whatever is read.
 abbrev pub StepsLead : Type 0 → Type 0
-StepsLead Dir = (c : Fixed Dir) (st : Live Dir) (message : Message Dir) (ended : Ended Fault (Live Dir)) (old new : List Line) → IsForm c → IsTakenIn c message st → IsLiveIn c st
+StepsLead Dir = (c : Fixed Dir) (st : Live Dir) (message : Message Dir) (ended : Ended Fault (Live Dir)) (old new : List Entry) → IsForm c → IsTakenIn c message st → IsLiveIn c st
     → Said (on_devices (step c message st)) ended old new → CameTo (λ fault. (h k : Held) × IsStepStop c st message h k fault) (λ end. (h k : Held) × IsNextIn c st message h k end) ended
 
 -- .. OVER DEVICES that tell it reads what these hold.
@@ -255,7 +255,7 @@ HalvesGoOn Dir = (c : Fixed Dir) (st : Live Dir) (b : Block Dir) → ((epoch : �
 
 -- A NODE'S STEP stops by the faults of its reshare half alone; or it leaves the life that this half left, whose orchestrator waits for nothing.
 abbrev pub NodeStepsLead : Type 0 → Type 0
-NodeStepsLead Dir = (c : Fixed Dir) (st : Live Dir) (message : Message Dir) (ended : Ended NodeStop (Live Dir)) (old new : List Line) → IsForm c → IsTakenIn c message st → IsLiveIn c st
+NodeStepsLead Dir = (c : Fixed Dir) (st : Live Dir) (message : Message Dir) (ended : Ended NodeStop (Live Dir)) (old new : List Entry) → IsForm c → IsTakenIn c message st → IsLiveIn c st
     → IsActiveIn st → Said (on_devices (node_step c (event_of message) st)) ended old new
     → CameTo (IsFaultBy (λ fault. (h k : Held) × IsStepStop c st message h k fault)) (λ end. (h k : Held) × IsNextIn c st message h k end × IsActiveIn end) ended
 

@@ -8,7 +8,7 @@ use Rattle.dkg_ceremony.specs.declared.signed_log.SignedDealerLog.{SignedDealerL
 use Rattle.dkg_ceremony.specs.Schedule.{epoch_of, midpoint}
 use Rattle.dkg_types.specs.Blocks.{Block}
 use Rattle.dkg_types.specs.BlockCodes.{info_of}
-use Rattle.dkg_infos.specs.declared.entry.Entry.{Entry as Line}
+use Rattle.dkg_infos.specs.declared.entry.Entry.{Entry}
 use Rattle.dkg_infos.specs.declared.entry.Why.TheVariants.{Finished}
 use Rattle.dkg_infos.specs.declared.fault.Fault.{Fault}
 use Rattle.dkg_infos.specs.declared.fault.Fault.TheVariants.{HeightRange, MissingEpochInfo, WrongEpoch}
@@ -252,7 +252,7 @@ StepsComeThrough Dir = (c : Fixed Dir) (stored : OfShares) → StepsComeThroughA
 
 -- .. whatever is read
 abbrev pub StepsLeadThrough : Type 0 → Type 0
-StepsLeadThrough Dir = (c : Fixed Dir) (st : Live Dir) (message : Message Dir) (ended : Ended Fault (Live Dir)) (old new : List Line) → IsFormThrough c → IsTakenThrough c message st
+StepsLeadThrough Dir = (c : Fixed Dir) (st : Live Dir) (message : Message Dir) (ended : Ended Fault (Live Dir)) (old new : List Entry) → IsFormThrough c → IsTakenThrough c message st
     → IsLiveThrough c (read_somewhere c) st → Said (on_devices (step c message st)) ended old new
     → CameTo (IsStopThrough c (read_somewhere c) st message None) (λ end. IsNextThrough c (read_somewhere c) st message None end None) ended
 

@@ -1,7 +1,7 @@
 -- What a course adds to a transcript: the lines of its deeds.
 use Rattle.std.specs.Prelude.{◌≡◌, ℕ, List, [], ◌∷◌, ◌++◌, Some}
 use Rattle.std.specs.List.{AllByRecursion}
-use Rattle.dkg_infos.specs.declared.entry.Entry.{Entry as Line}
+use Rattle.dkg_infos.specs.declared.entry.Entry.{Entry}
 use Rattle.dkg_infos.specs.declared.entry.Entry.TheVariants.{Opened}
 use Rattle.dkg_infos.specs.declared.fault.Fault.{Fault}
 use Rattle.dkg_store.specs.Acts.{Acts, Held, World, Ended, went, stopped, broken, Runs}
@@ -13,32 +13,32 @@ use Rattle.dkg_core.specs.Live.{Live, Message}
 use Rattle.dkg_core.specs.Core.{opening, step}
 
 -- the same moment behind another transcript
-abbrev pub with_out : List Line → World → World
+abbrev pub with_out : List Entry → World → World
 with_out out w = record w { out = out }
 
 -- A RUN FROM ANOTHER TRANSCRIPT says the same lines, does the same and ends the same: no act reads what was said.
 abbrev pub TranscriptsMove : Type 0 → Type 0 → Type 0
-TranscriptsMove F S = (acts : Acts F S) (ended : Ended F S) (w new : World) (other : List Line) → Runs acts ended w new
-    → (added : List Line) × (new.out ≡ w.out ++ added) × Runs acts ended (with_out other w) (with_out (other ++ added) new)
+TranscriptsMove F S = (acts : Acts F S) (ended : Ended F S) (w new : World) (other : List Entry) → Runs acts ended w new
+    → (added : List Entry) × (new.out ≡ w.out ++ added) × Runs acts ended (with_out other w) (with_out (other ++ added) new)
 
 -- DEEDS AND THEIR LINES
 
-abbrev pub deed_lines : {Dir : Type 0} → List (Deed Dir) → List Line
+abbrev pub deed_lines : {Dir : Type 0} → List (Deed Dir) → List Entry
 deed_lines [] = []
 deed_lines (Said line ∷ deeds) = line ∷ deed_lines deeds
 deed_lines (Did op ∷ deeds) = deed_lines deeds
 deed_lines (Called outer ∷ deeds) = deed_lines deeds
 
 -- How it ended by itself: with all its lines, in its end, or by its fault.
-abbrev pub IsOwnEnd : {Dir F S : Type 0} → Course Dir F S → Ended F S → (held now : Held) → (rest : List Line) → Type 0
+abbrev pub IsOwnEnd : {Dir F S : Type 0} → Course Dir F S → Ended F S → (held now : Held) → (rest : List Entry) → Type 0
 IsOwnEnd course (went end) held now rest = (rest ≡ []) × (end_of course held ≡ Some (end, now))
 IsOwnEnd course (stopped fault) held now rest = (rest ≡ []) × (fault_of course held ≡ Some fault)
 IsOwnEnd course (broken cause) held now rest = Unit {0}
 
 -- The first of the lines of a course's deeds were added, and all of them where nothing broke it off.
 pub record AddsDeeds {Dir F S : Type 0} (course : Course Dir F S) (ended : Ended F S) (w new : World) : Type 0 where
-  pub added : List Line
-  pub rest : List Line
+  pub added : List Entry
+  pub rest : List Entry
   pub out : new.out ≡ w.out ++ added
   pub of_deeds : deed_lines (deeds_of course w.held) ≡ added ++ rest
   pub own_end : IsOwnEnd course ended w.held new.held rest
@@ -67,7 +67,7 @@ IfWentTo (stopped fault) P = Unit {0}
 IfWentTo (broken cause) P = Unit {0}
 
 -- What was added are the lines of such deeds, and the law has the end behind them.
-pub record LinesFront {Dir F S : Type 0} (law : Law Dir S) (past : List (Deed Dir)) (ended : Ended F S) (old new : List Line) : Type 0 where
+pub record LinesFront {Dir F S : Type 0} (law : Law Dir S) (past : List (Deed Dir)) (ended : Ended F S) (old new : List Entry) : Type 0 where
   pub deeds : List (Deed Dir)
   pub obeys : Obeys law past deeds
   pub added : new ≡ old ++ deed_lines deeds
@@ -75,23 +75,23 @@ pub record LinesFront {Dir F S : Type 0} (law : Law Dir S) (past : List (Deed Di
 
 -- LINES THAT A COURSE SAYS keep its laws, whatever the devices tell.
 abbrev pub LinesObey : (Dir F S : Type 0) → Type 1
-LinesObey Dir F S = (law : Law Dir S) (past : List (Deed Dir)) (course : Course Dir F S) (ended : Ended F S) (old new : List Line)
+LinesObey Dir F S = (law : Law Dir S) (past : List (Deed Dir)) (course : Course Dir F S) (ended : Ended F S) (old new : List Entry)
     → Holds law past course → SaysBy (on_devices course) ended old new → LinesFront law past ended old new
 
 -- QUIET LINES
 
 -- A STEP says lines of the node's own alone: it neither opens, counts, cuts nor faults.
 abbrev pub StepsAreQuiet : Type 0 → Type 0
-StepsAreQuiet Dir = (c : Fixed Dir) (st : Live Dir) (message : Message Dir) (ended : Ended Fault (Live Dir)) (old new : List Line)
-    → SaysBy (on_devices (step c message st)) ended old new → (added : List Line) × (new ≡ old ++ added) × AllByRecursion IsQuiet added
+StepsAreQuiet Dir = (c : Fixed Dir) (st : Live Dir) (message : Message Dir) (ended : Ended Fault (Live Dir)) (old new : List Entry)
+    → SaysBy (on_devices (step c message st)) ended old new → (added : List Entry) × (new ≡ old ++ added) × AllByRecursion IsQuiet added
 
 -- The line of a life's opening stands first, and lines of the node's own behind it; only what was broken off may have said nothing.
-abbrev pub BeginsOpened : {F S : Type 0} → (life : ℕ) → List Line → Ended F S → Type 0
+abbrev pub BeginsOpened : {F S : Type 0} → (life : ℕ) → List Entry → Ended F S → Type 0
 BeginsOpened life (Opened its restored ∷ lines) ended = (its ≡ life) × AllByRecursion IsQuiet lines
 BeginsOpened life [] (broken cause) = Unit {0}
 BeginsOpened life lines ended = ⊥
 
 -- SO DOES AN OPENING, behind its first line.
 abbrev pub OpeningsAreQuiet : Type 0 → Type 0
-OpeningsAreQuiet Dir = (c : Fixed Dir) (ended : Ended Fault (Live Dir)) (old new : List Line)
-    → SaysBy (on_devices (opening c)) ended old new → (added : List Line) × (new ≡ old ++ added) × BeginsOpened c.life added ended
+OpeningsAreQuiet Dir = (c : Fixed Dir) (ended : Ended Fault (Live Dir)) (old new : List Entry)
+    → SaysBy (on_devices (opening c)) ended old new → (added : List Entry) × (new ≡ old ++ added) × BeginsOpened c.life added ended

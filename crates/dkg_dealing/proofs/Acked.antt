@@ -10,7 +10,7 @@ use Rattle.dkg_journal.specs.Burn.{Burn}
 use Rattle.dkg_journal.specs.Names.{Files}
 use Rattle.dkg_secrets.specs.Keys.{key_cmp}
 use Rattle.dkg_secrets.specs.Secrets.{Secrets}
-use Rattle.dkg_infos.specs.declared.entry.Entry.{Entry as Line}
+use Rattle.dkg_infos.specs.declared.entry.Entry.{Entry}
 use Rattle.dkg_infos.specs.declared.entry.Entry.TheVariants.{Blocked}
 use Rattle.dkg_infos.specs.declared.fault.Fault.{Fault}
 use Rattle.dkg_infos.specs.declared.fault.Fault.TheVariants.{NoMemory}
@@ -70,7 +70,7 @@ module _ {Dir : Type 0} (round : Round) (d : live.Dealer) (from : ℕ) (ack : Li
   checked_as (Ok passed) = counts_as (is_some (lookup from d.acks)) (is_some (recorded_at st.records.acks round.number from))
 
   -- nothing is said where it passed
-  counted_said : (epoch : ℕ) (counted recorded : Bool) (out : List Line)
+  counted_said : (epoch : ℕ) (counted recorded : Bool) (out : List Entry)
       → Said (acts_of.bind (its_acts epoch (Ok tt) counted recorded) (answered counted recorded)) (went (counted_in counted recorded)) out out
   counted_said epoch true recorded out = record { lines = []; added = sym (append-nil out); by = (refl, refl) }
   counted_said epoch false true out = record { lines = []; added = sym (append-nil out); by = (refl, refl) }
@@ -152,7 +152,7 @@ module _ {Dir : Type 0} (dealer : Dealer) (life : Life Dir) (beside : Beside Dir
               subst (λ (x : Acts Fault (Live Dir)). MakesAt x (went (live_of beside fence new)) files image files_now next old mid) (sym (course_is check))
               (makes_next (answered dealer.round (dealer_of dealer) from ack st counted recorded) first (makes_nothing files_now next mid (acked_live counted recorded counts records)))
 
-          pub ack_said : (out : List Line) → check ≡ Ok tt → Said (on_devices (course check)) (went (live_of beside fence new)) out out
+          pub ack_said : (out : List Entry) → check ≡ Ok tt → Said (on_devices (course check)) (went (live_of beside fence new)) out out
           ack_said out passed =
               subst (λ (x : Live Dir). Said (on_devices (course check)) (went x) out out) (sym (acked_live counted recorded counts records))
               (subst (λ (x : Acts Fault (Live Dir)). Said x (went (counted_in dealer.round (dealer_of dealer) from ack st counted recorded)) out out) (sym (course_is check))
@@ -160,7 +160,7 @@ module _ {Dir : Type 0} (dealer : Dealer) (life : Life Dir) (beside : Beside Dir
               (sym passed) (counted_said dealer.round (dealer_of dealer) from ack st epoch counted recorded out)))
 
     -- IT WAS REFUSED, and the line was told or found no memory
-    module _ (check : Result (Unit {0}) AckError) (why : AckError) (new : Life Dir) (untouched : new ≡ life) (result : Result (Unit {0}) Stop) {mid now : List Line}
+    module _ (check : Result (Unit {0}) AckError) (why : AckError) (new : Life Dir) (untouched : new ≡ life) (result : Result (Unit {0}) Stop) {mid now : List Entry}
         (told : OnOk result (now ≡ mid ++ Blocked from (dealing.why_ack why) ∷ [])) (untold : OnErr result (now ≡ mid)) (memory : IfErr result (λ stop. stop ≡ Faulted NoMemory))
       where
         pub refused_made : {files files_now : Files} {image next : Files → Type 0} {old : Moment} {s : Secrets} {f : Burn}
@@ -206,6 +206,6 @@ module _ {Dir : Type 0} (c : Fixed Dir) (round : Round) (from : ℕ) (ack : List
         → MakesAt (on_devices hears) how files image files_now next old new
     hears_made how {files} {files_now} {image} {next} {old} {new} made = subst (λ (x : Course Dir Fault (Live Dir)). MakesAt (on_devices x) how files image files_now next old new) (sym hears_is) made
 
-    pub hears_said : (how : Ended Fault (Live Dir)) {out now : List Line} → Said (on_devices (dealing.checked_ack dealer.round (dealer_of dealer) from ack (live_of beside fence life) its_check)) how out now
+    pub hears_said : (how : Ended Fault (Live Dir)) {out now : List Entry} → Said (on_devices (dealing.checked_ack dealer.round (dealer_of dealer) from ack (live_of beside fence life) its_check)) how out now
         → Said (on_devices hears) how out now
     hears_said how {out} {now} said = subst (λ (x : Course Dir Fault (Live Dir)). Said (on_devices x) how out now) (sym hears_is) said

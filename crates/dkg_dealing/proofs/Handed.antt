@@ -5,7 +5,7 @@ use Rattle.std.specs.FinMap.{FinMap, get, insert}
 use Rattle.std.specs.Ordering.{nat_cmp}
 use Rattle.dkg_ceremony.specs.declared.ceremony.DealingError.{DealingError}
 use Rattle.dkg_ceremony.specs.declared.round.RoundParts.{RoundParts as Round}
-use Rattle.dkg_infos.specs.declared.entry.Entry.{Entry as Line}
+use Rattle.dkg_infos.specs.declared.entry.Entry.{Entry}
 use Rattle.dkg_infos.specs.declared.entry.Entry.TheVariants.{Recorded}
 use Rattle.dkg_infos.specs.declared.fault.Fault.{Fault}
 use Rattle.dkg_store.specs.Acts.{Acts, went, under}
@@ -31,7 +31,7 @@ module _ (ack_of : ℕ → Round → ℕ → List ℕ → List ℕ) (me : ℕ) (
   its known passed = under fault_of_store (answering (ack_of me round dealer) known passed epoch dealer public private)
 
   -- it answered by an acknowledgement
-  pub handed_said : (ack : List ℕ) (new : Pairs) {out now : List Line} → Acknowledges ack_of me round new epoch dealer ack
+  pub handed_said : (ack : List ℕ) (new : Pairs) {out now : List Entry} → Acknowledges ack_of me round new epoch dealer ack
       → (get pairs (epoch, dealer) ≡ None → check ≡ Ok tt)
       → new ≡ (if is_some (get pairs (epoch, dealer)) then pairs else insert pairs (epoch, dealer) (public, private))
       → now ≡ (if is_some (get pairs (epoch, dealer)) then out else out ++ Recorded epoch dealer public private ∷ [])
@@ -58,7 +58,7 @@ module _ (ack_of : ℕ → Round → ℕ → List ℕ → List ℕ) (me : ℕ) (
           })
 
   -- It refused it.
-  pub refused_said : (e : DealingError) {out now : List Line} → get pairs (epoch, dealer) ≡ None → check ≡ Err e → now ≡ out
+  pub refused_said : (e : DealingError) {out now : List Entry} → get pairs (epoch, dealer) ≡ None → check ≡ Err e → now ≡ out
       → Said (its (get pairs (epoch, dealer)) check) (went (Err e)) out now
   refused_said e {out} {now} none refused same =
       subst (λ (k : Option (List ℕ × ℕ)). Said (its k check) (went (Err e)) out now) (sym none)

@@ -7,7 +7,7 @@ use Rattle.dkg_ceremony.specs.declared.round.RoundParts.{RoundParts as Round}
 use Rattle.dkg_fence.specs.Readiness.{Readiness}
 use Rattle.dkg_journal.specs.Burn.{Burn}
 use Rattle.dkg_journal.specs.Names.{Files}
-use Rattle.dkg_infos.specs.declared.entry.Entry.{Entry as Line}
+use Rattle.dkg_infos.specs.declared.entry.Entry.{Entry}
 use Rattle.dkg_infos.specs.declared.fault.Fault.{Fault}
 use Rattle.dkg_infos.specs.declared.fault.Fault.TheVariants.{NoMemory}
 use Rattle.dkg_store.specs.Acts.{Acts, Moment, moment, went}
@@ -64,7 +64,7 @@ module _ {Dir : Type 0} (dealing_of : DealingOf) (ack_of : AckOf) (its : ℕ) (t
           abbrev new : Life Dir
           new = record old { store = store; player = Some now }
 
-          pub heard_made : {files files_mid : Files} {image between : Files → Type 0} {old_moment : Moment} {mid told : List Line} {s : Secrets} {f : Burn}
+          pub heard_made : {files files_mid : Files} {image between : Files → Type 0} {old_moment : Moment} {mid told : List Entry} {s : Secrets} {f : Burn}
               → MakesAt its_acts (went answer) files image files_mid between old_moment (moment mid s f)
               → OnOk result (told ≡ mid ++ told_by epoch from answer ∷ []) → OnErr result (told ≡ mid) → IfErr result (λ stop. stop ≡ Faulted NoMemory)
               → MakesAt (on_devices course) (ends_in (live_of beside fence new) result) files image files_mid between old_moment (moment told s f)
@@ -73,7 +73,7 @@ module _ {Dir : Type 0} (dealing_of : DealingOf) (ack_of : AckOf) (its : ℕ) (t
               (ends_at c round from public private beside fence old dealing_of ack_of player epoch by.dealing by.ack mine_is its_round of_round.number (ap seat_of is) new refl rest (sym (ap seat_of is)) pairs)
               answer result first line untold memory
 
-          pub heard_said : {out mid told : List Line} → Said its_acts (went answer) out mid
+          pub heard_said : {out mid told : List Entry} → Said its_acts (went answer) out mid
               → OnOk result (told ≡ mid ++ told_by epoch from answer ∷ []) → OnErr result (told ≡ mid) → IfErr result (λ stop. stop ≡ Faulted NoMemory)
               → Said (on_devices course) (ends_in (live_of beside fence new) result) out told
           heard_said first line untold memory =
@@ -86,6 +86,6 @@ module _ {Dir : Type 0} (dealing_of : DealingOf) (ack_of : AckOf) (its : ℕ) (t
       heard_stopped stop first =
           dealing_stopped c round from public private beside fence old dealing_of ack_of player epoch by.dealing by.ack mine_is its_round of_round.number (ap seat_of is) stop first
 
-      pub heard_unsaid : (stop : Stop) {out now : List Line} → Said its_acts (by_stop stop) out now → Said (on_devices course) (by_stop stop) out now
+      pub heard_unsaid : (stop : Stop) {out now : List Entry} → Said its_acts (by_stop stop) out now → Said (on_devices course) (by_stop stop) out now
       heard_unsaid stop first =
           dealing_unsaid c round from public private beside fence old dealing_of ack_of player epoch by.dealing by.ack mine_is its_round of_round.number (ap seat_of is) stop first

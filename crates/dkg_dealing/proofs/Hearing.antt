@@ -8,7 +8,7 @@ use Rattle.dkg_ceremony.specs.declared.round.RoundParts.{RoundParts as Round}
 use Rattle.dkg_fence.specs.Readiness.{Readiness}
 use Rattle.dkg_journal.specs.Burn.{Burn}
 use Rattle.dkg_journal.specs.Names.{Files}
-use Rattle.dkg_infos.specs.declared.entry.Entry.{Entry as Line}
+use Rattle.dkg_infos.specs.declared.entry.Entry.{Entry}
 use Rattle.dkg_infos.specs.declared.fault.Fault.{Fault}
 use Rattle.dkg_infos.specs.declared.fault.Fault.TheVariants.{NoMemory}
 use Rattle.dkg_store.specs.Acts as acts_of
@@ -118,7 +118,7 @@ module _ {Dir : Type 0} (c : Fixed Dir) (round : Round) (from : ℕ) (public : L
 
     -- the player answered, and the line was told or found no memory
     pub dealing_made : (new : Life Dir) → live_of beside fence new ≡ end → (answer : Result (List ℕ) DealingError) (result : Result (Unit {0}) Stop)
-        {files files_mid : Files} {image between : Files → Type 0} {old_moment : Moment} {mid now : List Line} {s : Secrets} {f : Burn}
+        {files files_mid : Files} {image between : Files → Type 0} {old_moment : Moment} {mid now : List Entry} {s : Secrets} {f : Burn}
         → MakesAt its (went answer) files image files_mid between old_moment (moment mid s f)
         → OnOk result (now ≡ mid ++ told_by epoch from answer ∷ []) → OnErr result (now ≡ mid) → IfErr result (λ stop. stop ≡ Faulted NoMemory)
         → MakesAt (on_devices course) (ends_in (live_of beside fence new) result) files image files_mid between old_moment (moment now s f)
@@ -128,7 +128,7 @@ module _ {Dir : Type 0} (c : Fixed Dir) (round : Round) (from : ℕ) (public : L
         (makes_next (λ x. acts_of.Say (told_by epoch from x) (acts_of.Goes end)) first (line_makes (told_by epoch from answer) end result files_mid between s f told untold memory)))
 
     pub dealing_said : (new : Life Dir) → live_of beside fence new ≡ end → (answer : Result (List ℕ) DealingError) (result : Result (Unit {0}) Stop)
-        {out mid now : List Line} → Said its (went answer) out mid
+        {out mid now : List Entry} → Said its (went answer) out mid
         → OnOk result (now ≡ mid ++ told_by epoch from answer ∷ []) → OnErr result (now ≡ mid) → IfErr result (λ stop. stop ≡ Faulted NoMemory)
         → Said (on_devices course) (ends_in (live_of beside fence new) result) out now
     dealing_said new live answer result {out} {mid} {now} first told untold memory =
@@ -144,7 +144,7 @@ module _ {Dir : Type 0} (c : Fixed Dir) (round : Round) (from : ℕ) (public : L
         subst (λ (x : Acts Fault (Live Dir)). MakesAt x (by_stop stop) files image files_now now old_moment new_moment) (sym course_is)
         (makes_early (λ x. acts_of.Say (told_by epoch from x) (acts_of.Goes end)) stop first)
 
-    pub dealing_unsaid : (stop : Stop) {out now : List Line} → Said its (by_stop stop) out now
+    pub dealing_unsaid : (stop : Stop) {out now : List Entry} → Said its (by_stop stop) out now
         → Said (on_devices course) (by_stop stop) out now
     dealing_unsaid stop {out} {now} first =
         subst (λ (x : Acts Fault (Live Dir)). Said x (by_stop stop) out now) (sym course_is)

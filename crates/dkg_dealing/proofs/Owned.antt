@@ -12,7 +12,7 @@ use Rattle.dkg_ceremony.specs.declared.deal.DealError.{DealError}
 use Rattle.dkg_ceremony.specs.declared.round.RoundParts.{RoundParts as Round}
 use Rattle.dkg_fence.specs.Readiness.{Readiness}
 use Rattle.dkg_journal.specs.Names.{Files}
-use Rattle.dkg_infos.specs.declared.entry.Entry.{Entry as Line}
+use Rattle.dkg_infos.specs.declared.entry.Entry.{Entry}
 use Rattle.dkg_infos.specs.declared.fault.Fault.{Fault}
 use Rattle.dkg_infos.specs.declared.fault.Fault.TheVariants.{LocalState, NoMemory}
 use Rattle.dkg_infos.specs.declared.fault.LocalCause.TheVariants.{OwnDealing}
@@ -106,12 +106,12 @@ module _ {Dir : Type 0} (c : Fixed Dir) (round : Round) (public : List ℕ) (pri
   own_as None (Err e) same is = absurd cc
 
 -- what the player answered is the acknowledgement of this dealing
-pub own_answer : (dealing_of : DealingOf) (ack_of : AckOf) (me : ℕ) (round : Round) (known : Option (List ℕ × ℕ)) (epoch from : ℕ) (public : List ℕ) (private : ℕ) (answer : Result (List ℕ) DealingError) {out now : List Line}
+pub own_answer : (dealing_of : DealingOf) (ack_of : AckOf) (me : ℕ) (round : Round) (known : Option (List ℕ × ℕ)) (epoch from : ℕ) (public : List ℕ) (private : ℕ) (answer : Result (List ℕ) DealingError) {out now : List Entry}
     → Said (player_answers dealing_of ack_of me round known epoch from public private) (went answer) out now
     → IfSome known (λ kept. kept.0 ≡ public) → dealing_of round me from public private ≡ Ok tt → answer ≡ Ok (ack_of me round from public)
 own_answer dealing_of ack_of me round known epoch from public private answer said same passed = by_known known (dealing_of round me from public private) same passed said.lines said.by
   where
-    by_known : (k : Option (List ℕ × ℕ)) (check : Result (Unit {0}) DealingError) → IfSome k (λ kept. kept.0 ≡ public) → check ≡ Ok tt → (lines : List Line)
+    by_known : (k : Option (List ℕ × ℕ)) (check : Result (Unit {0}) DealingError) → IfSome k (λ kept. kept.0 ≡ public) → check ≡ Ok tt → (lines : List Entry)
         → SaysAll (player_answers (λ r me d p q. check) ack_of me round k epoch from public private) answer lines → answer ≡ Ok (ack_of me round from public)
     by_known (Some kept) check is ok lines says = says.1 ∙ ap (λ (p : List ℕ). Ok (ack_of me round from p)) is
     by_known None (Ok done) is ok lines says = says.2.1
@@ -193,7 +193,7 @@ module _ {Dir : Type 0} (c : Fixed Dir) (round : Round) (public : List ℕ) (pri
             (makes_next (λ x. on_devices (dealing.own_ack c round public now)) first
             (subst (λ (x : Course Dir Fault (Live Dir)). MakesAt (on_devices x) how files_mid between files_now next mid_moment new_moment) (sym own_is) second))
 
-        pub owned_said : (answer : Result (List ℕ) DealingError) (how : Ended Fault (Live Dir)) {out middle told : List Line} → Said its (went answer) out middle → Said (on_devices handed) how middle told
+        pub owned_said : (answer : Result (List ℕ) DealingError) (how : Ended Fault (Live Dir)) {out middle told : List Entry} → Said its (went answer) out middle → Said (on_devices handed) how middle told
             → Said (on_devices course) how out told
         owned_said answer how {out} {middle} {told} first second =
             subst (λ (x : Acts Fault (Live Dir)). Said x how out told) (sym course_is)
@@ -207,7 +207,7 @@ module _ {Dir : Type 0} (c : Fixed Dir) (round : Round) (public : List ℕ) (pri
         subst (λ (x : Acts Fault (Live Dir)). MakesAt x (by_stop stop) files image files_now next old_moment new_moment) (sym course_is)
         (makes_early (λ x. on_devices (dealing.own_ack c round public now)) stop first)
 
-    pub owned_unsaid : (stop : Stop) {out told : List Line} → Said its (by_stop stop) out told → Said (on_devices course) (by_stop stop) out told
+    pub owned_unsaid : (stop : Stop) {out told : List Entry} → Said its (by_stop stop) out told → Said (on_devices course) (by_stop stop) out told
     owned_unsaid stop {out} {told} first =
         subst (λ (x : Acts Fault (Live Dir)). Said x (by_stop stop) out told) (sym course_is) (said_early (λ x. on_devices (dealing.own_ack c round public now)) stop first)
 
@@ -216,7 +216,7 @@ module _ {Dir : Type 0} (c : Fixed Dir) (round : Round) (public : List ℕ) (pri
 -- It stops by that, or found no memory.
 pub owned_refused : {Dir : Type 0} (c : Fixed Dir) (round : Round) (public : List ℕ) (private : ℕ) (beside : Beside Dir) (fence : Readiness) (old : Life Dir) (player : Player) (me epoch : ℕ)
     → c.me ≡ me → round.number ≡ epoch → old.player ≡ Some player → (kept : List ℕ × ℕ) → get old.store.dealings (epoch, me) ≡ Some kept → (kept.0 ≡ public → ⊥)
-    → (stop : Stop) → stop ≡ Faulted (LocalState (OwnDealing epoch kept.0 public)) → (out : List Line)
+    → (stop : Stop) → stop ≡ Faulted (LocalState (OwnDealing epoch kept.0 public)) → (out : List Entry)
     → Speaks (dealing.offers_to_itself c round public private (live_of beside fence old)) (by_stop stop) out out
 owned_refused {Dir} c round public private beside fence old player me epoch mine number plays kept found differs stop is out =
     gives_speaks (dealing.offers_to_itself c round public private (live_of beside fence old)) stop (LocalState (OwnDealing round.number kept.0 public))
@@ -232,7 +232,7 @@ abbrev pub Refuses : (found : Option (List ℕ × ℕ)) (epoch : ℕ) (public : 
 Refuses found epoch public stop = (stop ≡ Faulted NoMemory) ⊎ IsSomeAnd found (λ kept. (kept.0 ≡ public → ⊥) × (stop ≡ Faulted (LocalState (OwnDealing epoch kept.0 public))))
 
 pub refused_speaks : {Dir : Type 0} (c : Fixed Dir) (round : Round) (public : List ℕ) (private : ℕ) (beside : Beside Dir) (fence : Readiness) (old : Life Dir) (player : Player) (me epoch : ℕ)
-    → c.me ≡ me → round.number ≡ epoch → old.player ≡ Some player → (stop : Stop) → Refuses (get old.store.dealings (epoch, me)) epoch public stop → (out : List Line)
+    → c.me ≡ me → round.number ≡ epoch → old.player ≡ Some player → (stop : Stop) → Refuses (get old.store.dealings (epoch, me)) epoch public stop → (out : List Entry)
     → Speaks (dealing.offers_to_itself c round public private (live_of beside fence old)) (by_stop stop) out out
 refused_speaks {Dir} c round public private beside fence old player me epoch mine number plays stop (inl want) out =
     wants_speaks (dealing.offers_to_itself c round public private (live_of beside fence old)) stop want out out refl
@@ -311,12 +311,12 @@ module _ {Dir : Type 0} (dealing_of : DealingOf) (ack_of : AckOf) (deal_of : Dea
 
     module _ (same : IfSome recorded (λ kept. kept.0 ≡ public)) where
       -- a refusal is none of its answers
-      pub own_unrefused : (e : DealingError) {out now : List Line} → Said its_acts (went (Err e)) out now → ⊥
+      pub own_unrefused : (e : DealingError) {out now : List Entry} → Said its_acts (went (Err e)) out now → ⊥
       own_unrefused e said =
           let no : ◌≡◌ {A = Result (List ℕ) DealingError} (Err e) (Ok (ack_of player.me player.round terms.me public)) =
           own_answer dealing_of ack_of player.me player.round recorded epoch terms.me public private (Err e) said same own_check in cc
 
-      own_given : (given : List ℕ) {out now : List Line} → Said its_acts (went (Ok given)) out now → ack_of player.me player.round terms.me public ≡ given
+      own_given : (given : List ℕ) {out now : List Entry} → Said its_acts (went (Ok given)) out now → ack_of player.me player.round terms.me public ≡ given
       own_given given said =
           let is : ◌≡◌ {A = Result (List ℕ) DealingError} (Ok given) (Ok (ack_of player.me player.round terms.me public)) =
           own_answer dealing_of ack_of player.me player.round recorded epoch terms.me public private (Ok given) said same own_check in cc
@@ -327,7 +327,7 @@ module _ {Dir : Type 0} (dealing_of : DealingOf) (ack_of : AckOf) (deal_of : Dea
 
         module _ (store : Store Dir) (now : Player) (rest : SameRest old.store store)
             (pairs : store.dealings ≡ pairs_after recorded (dealing_of player.round player.me terms.me public private) (epoch, terms.me) (public, private) old.store.dealings)
-            (given : List ℕ) {out mid : List Line} (said : Said its_acts (went (Ok given)) out mid)
+            (given : List ℕ) {out mid : List Entry} (said : Said its_acts (went (Ok given)) out mid)
           where
             abbrev between_of : Life Dir
             between_of = record old { store = store; player = Some now }
@@ -345,7 +345,7 @@ module _ {Dir : Type 0} (dealing_of : DealingOf) (ack_of : AckOf) (deal_of : Dea
                 store now rest pairs (Ok given) how first
                 (subst (λ (x : List ℕ). MakesAt (on_devices (handed_of x)) how files_mid between files_now next mid_moment new_moment) (sym (own_given given said)) second)
 
-            pub given_said : (how : Ended Fault (Live Dir)) {told : List Line} → Said (on_devices (handed_of given)) how mid told → Said (on_devices offered) how out told
+            pub given_said : (how : Ended Fault (Live Dir)) {told : List Entry} → Said (on_devices (handed_of given)) how mid told → Said (on_devices offered) how out told
             given_said how {told} second =
                 owned_said c round public private beside fence old dealing_of ack_of check_ack_of player dealer terms.me epoch by.dealing by.ack by.check_ack of.me sits.sits.me_is (round_is ack_of terms.me its old player sits mine round has)
                 deal.deals.me_is (deals_round deal_of check_ack_of terms.me old dealer deal round has) (dealt_number old epoch round dealt has) plays deals same own_check
@@ -358,7 +358,7 @@ module _ {Dir : Type 0} (dealing_of : DealingOf) (ack_of : AckOf) (deal_of : Dea
             owned_stopped c round public private beside fence old dealing_of ack_of check_ack_of player dealer terms.me epoch by.dealing by.ack by.check_ack of.me sits.sits.me_is (round_is ack_of terms.me its old player sits mine round has)
             deal.deals.me_is (deals_round deal_of check_ack_of terms.me old dealer deal round has) (dealt_number old epoch round dealt has) plays deals same own_check stop first
 
-        pub ungiven_said : (stop : Stop) {out told : List Line} → Said its_acts (by_stop stop) out told → Said (on_devices offered) (by_stop stop) out told
+        pub ungiven_said : (stop : Stop) {out told : List Entry} → Said its_acts (by_stop stop) out told → Said (on_devices offered) (by_stop stop) out told
         ungiven_said stop first =
             owned_unsaid c round public private beside fence old dealing_of ack_of check_ack_of player dealer terms.me epoch by.dealing by.ack by.check_ack of.me sits.sits.me_is (round_is ack_of terms.me its old player sits mine round has)
             deal.deals.me_is (deals_round deal_of check_ack_of terms.me old dealer deal round has) (dealt_number old epoch round dealt has) plays deals same own_check stop first

@@ -5,7 +5,7 @@ use Rattle.dkg_values.specs.Codec.{whole}
 use Rattle.dkg_ceremony.specs.declared.round.RoundParts.{RoundParts as Round}
 use Rattle.dkg_fence.specs.Readiness.{Readiness}
 use Rattle.dkg_journal.specs.Names.{Files}
-use Rattle.dkg_infos.specs.declared.entry.Entry.{Entry as Line}
+use Rattle.dkg_infos.specs.declared.entry.Entry.{Entry}
 use Rattle.dkg_types.specs.MessageCodes.{message_at}
 use Rattle.dkg_infos.specs.declared.fault.Fault.{Fault}
 use Rattle.dkg_types.specs.declared.message.Message.{Message as Channel}
@@ -39,7 +39,7 @@ module _ {Dir : Type 0} (c : Fixed Dir) (from : ℕ) (bytes : List ℕ) (beside 
         let reads = reads_it c from bytes beside fence life epoch dealt in
         subst (λ (x : Course Dir Fault (Live Dir)). MakesAt (on_devices x) how files image files_now now old new) (sym (course_is reads)) (made reads.round reads.has)
 
-    pub message_told : {how : Ended Fault (Live Dir)} {out now : List Line} → ((round : Round) → life.round ≡ Some round → Tells (read_in round) how out now)
+    pub message_told : {how : Ended Fault (Live Dir)} {out now : List Entry} → ((round : Round) → life.round ≡ Some round → Tells (read_in round) how out now)
         → Tells (dealing.hears_peer c from bytes (live_of beside fence life)) how out now
     message_told {how} {out} {now} told =
         let reads = reads_it c from bytes beside fence life epoch dealt in
@@ -51,6 +51,6 @@ pub heard_bytes : {Dir : Type 0} (c : Fixed Dir) (from : ℕ) (its bytes : List 
 heard_bytes c from its bytes st same {how} {files} {files_now} {image} {now} {old} {new} made =
     subst (λ (b : List ℕ). MakesAt (on_devices (dealing.hears_peer c from b st)) how files image files_now now old new) same made
 
-pub heard_told : {Dir : Type 0} (c : Fixed Dir) (from : ℕ) (its bytes : List ℕ) (st : Live Dir) → its ≡ bytes → {how : Ended Fault (Live Dir)} {out now : List Line}
+pub heard_told : {Dir : Type 0} (c : Fixed Dir) (from : ℕ) (its bytes : List ℕ) (st : Live Dir) → its ≡ bytes → {how : Ended Fault (Live Dir)} {out now : List Entry}
     → Tells (dealing.hears_peer c from its st) how out now → Tells (dealing.hears_peer c from bytes st) how out now
 heard_told c from its bytes st same {how} {out} {now} told = subst (λ (b : List ℕ). Tells (dealing.hears_peer c from b st) how out now) same told

@@ -16,7 +16,7 @@ use Rattle.dkg_ceremony.specs.declared.round.RoundParts.{RoundParts as Round}
 use Rattle.dkg_ceremony.specs.Outcomes.{LogMap}
 use Rattle.dkg_fence.specs.Readiness.{Readiness}
 use Rattle.dkg_types.specs.PayloadCodes.{info_payload}
-use Rattle.dkg_infos.specs.declared.entry.Entry.{Entry as Line}
+use Rattle.dkg_infos.specs.declared.entry.Entry.{Entry}
 use Rattle.dkg_infos.specs.declared.fault.Fault.{Fault}
 use Rattle.dkg_artifact.specs.Requested as requested
 use Rattle.dkg_artifact.specs.Requested.{is_other}
@@ -64,7 +64,7 @@ pub record Joins {Dir W : Type 0} (R : Course Dir Fault (Live Dir) → Ended Fau
   pub early : (course : Course Dir Fault (Live Dir)) (f : Live Dir → Course Dir Fault (Live Dir)) (its : Stop) (x y : W) → R course (by_stop its) x y → R (bind course f) (by_stop its) x y
 
 module _ {Dir D X : Type 0} (files : D → Files) (image : D → Files → Type 0) (held : X → Secrets) where
-  abbrev pub MakesOver : Course Dir Fault (Live Dir) → Ended Fault (Live Dir) → Devices D X × List Line → Devices D X × List Line → Type 0
+  abbrev pub MakesOver : Course Dir Fault (Live Dir) → Ended Fault (Live Dir) → Devices D X × List Entry → Devices D X × List Entry → Type 0
   MakesOver course how x y = Makes files image held course how x.0 y.0 x.1 y.1
 
   pub makes_joins : Joins MakesOver
@@ -75,7 +75,7 @@ module _ {Dir D X : Type 0} (files : D → Files) (image : D → Files → Type 
   }
 
 module _ {Dir : Type 0} where
-  abbrev pub TellsOver : Course Dir Fault (Live Dir) → Ended Fault (Live Dir) → List Line → List Line → Type 0
+  abbrev pub TellsOver : Course Dir Fault (Live Dir) → Ended Fault (Live Dir) → List Entry → List Entry → Type 0
   TellsOver course how x y = Tells course how x y
 
   pub tells_joins : Joins TellsOver

@@ -2,7 +2,7 @@
 use Rattle.std.proofs.Common.{◌≡◌, ℕ, List, [], ◌∷◌, ◌++◌, None, refl, sym, ◌∙◌, ap, subst, append_assoc, append-nil}
 use Rattle.std.specs.List.{AllByRecursion}
 use Rattle.std.specs.FinMap.{get}
-use Rattle.dkg_infos.specs.declared.entry.Entry.{Entry as Line}
+use Rattle.dkg_infos.specs.declared.entry.Entry.{Entry}
 use Rattle.dkg_infos.specs.declared.entry.Entry.TheVariants.{Recorded, Ack, Offer}
 use Rattle.dkg_store.specs.Acts.{Held, Operation, OnDisk, World, notes, plan}
 use Rattle.dkg_store.specs.Noted.{noted_ack, noted_log, acks_in, logs_in}
@@ -33,19 +33,19 @@ use Rattle.dkg_laws.proofs.Said.{runs_say}
 use Rattle.dkg_core.proofs.Stepping.{not_included}
 
 module _ {Dir : Type 0} (c : Fixed Dir) (st : Live Dir) where
-  any_past : (past : List (Deed Dir)) (line : Line) → OtherLine c (IsDealtToItself c st) (IsOffered c st) past line → IsLineOfBlock c st line
+  any_past : (past : List (Deed Dir)) (line : Entry) → OtherLine c (IsDealtToItself c st) (IsOffered c st) past line → IsLineOfBlock c st line
   any_past past (Recorded epoch dealer public private) h = h
   any_past past (Ack epoch dealer ack) h = h
   any_past past (Offer epoch player public private) h = h
   any_past past line h = h
 
-  aside_line : (line : Line) → IsAside line → IsLineOfBlock c st line
+  aside_line : (line : Entry) → IsAside line → IsLineOfBlock c st line
   aside_line (Recorded epoch dealer public private) aside = absurd aside
   aside_line (Ack epoch dealer ack) aside = absurd aside
   aside_line (Offer epoch player public private) aside = absurd aside
   aside_line line aside = aside
 
-  with_aside : (lines more : List Line) → AllByRecursion (IsLineOfBlock c st) lines → AllByRecursion IsAside more → AllByRecursion (IsLineOfBlock c st) (lines ++ more)
+  with_aside : (lines more : List Entry) → AllByRecursion (IsLineOfBlock c st) lines → AllByRecursion IsAside more → AllByRecursion (IsLineOfBlock c st) (lines ++ more)
   with_aside [] [] all aside = tt
   with_aside [] (line ∷ more) all aside = (aside_line line aside.0, with_aside [] more tt aside.1)
   with_aside (line ∷ lines) more all aside = (all.0, with_aside lines more all.1 aside)
@@ -111,7 +111,7 @@ blocks_keep {Dir} c block st ended most w new low agreed can run =
     let front = lines_obey law [] (step c message st) behind.half w.out behind.mid.out (others_acknowledge_nothing c st message tt) (runs_say course behind.half w behind.mid behind.run) in
     record {
       lines = deed_lines front.deeds ++ behind.lines;
-      out = behind.out ∙ ap (λ (ls : List Line). ls ++ behind.lines) front.added ∙ append_assoc w.out (deed_lines front.deeds) behind.lines;
+      out = behind.out ∙ ap (λ (ls : List Entry). ls ++ behind.lines) front.added ∙ append_assoc w.out (deed_lines front.deeds) behind.lines;
       said = with_aside c st (deed_lines front.deeds) behind.lines (all_lines law (IsLineOfBlock c st) (any_past c st) [] front.deeds front.obeys) behind.aside;
       whole = subst (λ (h : Held). IsWhole (notes h) h.secrets) (sym behind.held)
           (along_runs (IsKeptFrom (c.rules.ack_of c.me) most w.out) course behind.half w behind.mid

@@ -35,7 +35,7 @@ use Rattle.dkg_core.specs.Core.{step}
 use Rattle.dkg_core.specs.Behind.{IsAside}
 use Rattle.dkg_core.specs.Heard.{recovered_in, Fits}
 use Rattle.dkg_core.specs.Agreeing.{AreAgreed, CanRecord, BringsRecords}
-use Rattle.dkg_infos.specs.declared.entry.Entry.{Entry as Line}
+use Rattle.dkg_infos.specs.declared.entry.Entry.{Entry}
 use Rattle.dkg_infos.specs.declared.entry.Entry.TheVariants.{Ack, Offer}
 use Rattle.dkg_core.specs.Laws.{reach_of}
 use Rattle.dkg_core.specs.Enduring.{OwnAckOf, IsSaidFrom, IsKeptFrom, StepsKeep}
@@ -48,17 +48,17 @@ use Rattle.dkg_core.proofs.Upkeep.{along_if, along_option, tells, silent_done, s
 
 -- A STEP
 
-module _ {Dir : Type 0} (c : Fixed Dir) (most : ℕ) (base : List Line) where
+module _ {Dir : Type 0} (c : Fixed Dir) (most : ℕ) (base : List Entry) where
   abbrev ack_of : OwnAckOf
   ack_of = c.rules.ack_of c.me
 
   abbrev P : World → Type 0
   P w = IsKeptFrom ack_of most base w
 
-  tell : (w : World) (line : Line) → IsSaidFrom ack_of most w.held line → P w → P (says w line)
+  tell : (w : World) (line : Entry) → IsSaidFrom ack_of most w.held line → P w → P (says w line)
   tell w line sound q = tells ack_of most base w line sound q
 
-  told : (w : World) (line : Line) → IsAside line → P w → P (says w line)
+  told : (w : World) (line : Entry) → IsAside line → P w → P (says w line)
   told w line aside q = up.told c ack_of most base w line aside q
 
   prunes : (min : ℕ) → min ≤ most → (st : Live Dir) (w : World) → P w → Throughout P (s.prunes min st) w

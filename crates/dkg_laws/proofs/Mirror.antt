@@ -5,7 +5,7 @@ use Rattle.std.specs.Option.{option_map_or}
 use Rattle.std.specs.FinMap.{put, empty}
 use Rattle.dkg_values.specs.Rising.{with_pair}
 use Rattle.dkg_journal.specs.Records.{SectionEntry}
-use Rattle.dkg_infos.specs.declared.entry.Entry.{Entry as Line}
+use Rattle.dkg_infos.specs.declared.entry.Entry.{Entry}
 use Rattle.dkg_values.specs.declared.name.Name.{Name}
 use Rattle.dkg_values.specs.declared.name.Name.TheVariants.{Plan}
 use Rattle.dkg_journal.specs.Operations.{Opens, Journaled, after_operation, opened_names}
@@ -101,7 +101,7 @@ holding_plan bytes = with_journaled (record { entries = []; plan = Some bytes; n
 
 -- what a course told and did, the number of its calls, what it asked outside, and what it ended in
 pub record Played (Dir F S : Type 0) : Type 0 where
-  pub lines : List Line
+  pub lines : List Entry
   pub operations : List Operation
   pub calls : ℕ
   pub outer : List (Outer Dir)
@@ -118,7 +118,7 @@ played (Stops fault) h = record { lines = []; operations = []; calls = 0; outer 
 
 -- what is compared
 pub record Outcome (F : Type 0) : Type 0 where
-  pub lines : List Line
+  pub lines : List Entry
   pub operations : List Operation
   pub calls : ℕ
   pub fault : Option F

@@ -14,7 +14,7 @@ use Rattle.dkg_ceremony.specs.Outcomes.{LogMap}
 use Rattle.dkg_ceremony.specs.Schedule.{epoch_of}
 use Rattle.dkg_types.specs.Blocks.{Block}
 use Rattle.dkg_types.specs.BlockCodes.{info_of}
-use Rattle.dkg_infos.specs.declared.entry.Entry.{Entry as Line}
+use Rattle.dkg_infos.specs.declared.entry.Entry.{Entry}
 use Rattle.dkg_infos.specs.declared.entry.Why.TheVariants.{Finished}
 use Rattle.dkg_infos.specs.declared.fault.Fault.{Fault}
 use Rattle.dkg_infos.specs.declared.fault.Fault.TheVariants.{HeightRange, MissingEpochInfo, WrongEpoch, LocalState}
@@ -143,7 +143,7 @@ put_keeps Such held most = record { same = put_same Such held; pruned = λ min o
 
 -- A COURSE THAT ONLY SAYS, and what comes behind it over the same devices
 
-idle_behind : {Dir : Type 0} (P : World → Type 0) (quiet : (w : World) (line : Line) → P w → P (says w line)) (L : Line → Type 0) (Q : Live Dir → Type 0) (stops : Fault → Type 0) (first : Live Dir → Option Held → Type 0)
+idle_behind : {Dir : Type 0} (P : World → Type 0) (quiet : (w : World) (line : Entry) → P w → P (says w line)) (L : Entry → Type 0) (Q : Live Dir → Type 0) (stops : Fault → Type 0) (first : Live Dir → Option Held → Type 0)
     (course : Course Dir Fault (Live Dir)) (next : Live Dir → Course Dir Fault (Live Dir)) (w : World) → OnlySays L Q course → ComesOver stops first course (Some w.held) → P w
     → ((end : Live Dir) (at : World) → at.held ≡ w.held → P at → first end (Some at.held) → Throughout P (next end) at) → Throughout P (bind course next) w
 idle_behind P quiet L Q stops first (Say line course) next w only comes q so =
@@ -220,7 +220,7 @@ module _ {Dir : Type 0} (c : Fixed Dir) (form : IsFormThrough c) (stored : OfSha
   abbrev P : World → Type 0
   P w = Q w.held
 
-  abbrev quiet : (w : World) (line : Line) → P w → P (says w line)
+  abbrev quiet : (w : World) (line : Entry) → P w → P (says w line)
   quiet w line q = q
 
   begun : (w : World) → w.held ≡ held → P w

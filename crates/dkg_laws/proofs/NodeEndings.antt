@@ -9,7 +9,7 @@ use Rattle.dkg_values.specs.declared.codec.CodecError.{CodecError}
 use Rattle.dkg_ceremony.specs.declared.ceremony.AckError.{AckError}
 use Rattle.dkg_ceremony.specs.declared.ceremony.DealingError.{DealingError}
 use Rattle.dkg_ceremony.specs.declared.round.RoundParts.{RoundParts as Round}
-use Rattle.dkg_infos.specs.declared.entry.Entry.{Entry as Line}
+use Rattle.dkg_infos.specs.declared.entry.Entry.{Entry}
 use Rattle.dkg_infos.specs.declared.entry.Entry.TheVariants.{Opened, Recorded, Ack, Offer}
 use Rattle.dkg_infos.specs.declared.fault.Fault.{Fault}
 use Rattle.dkg_types.specs.declared.message.Message.{Message as Channel}
@@ -61,29 +61,29 @@ module _ {Dir : Type 0} (c : Fixed Dir) where
 
 -- WHAT THEY SAY
 
-aside_quiet : (line : Line) → IsAside line → IsQuiet line
+aside_quiet : (line : Entry) → IsAside line → IsQuiet line
 aside_quiet (Recorded epoch dealer public private) aside = absurd aside
 aside_quiet (Ack epoch dealer ack) aside = absurd aside
 aside_quiet (Offer epoch player public private) aside = absurd aside
 aside_quiet line aside = aside
 
 -- quiet ones, and behind them lines aside
-all_quiet : (lines more : List Line) → AllByRecursion IsQuiet lines → AllByRecursion IsAside more → AllByRecursion IsQuiet (lines ++ more)
+all_quiet : (lines more : List Entry) → AllByRecursion IsQuiet lines → AllByRecursion IsAside more → AllByRecursion IsQuiet (lines ++ more)
 all_quiet [] [] all aside = tt
 all_quiet [] (line ∷ more) all aside = (aside_quiet line aside.0, all_quiet [] more tt aside.1)
 all_quiet (line ∷ lines) more all aside = (all.0, all_quiet lines more all.1 aside)
 
 -- the line of the opening stands first, whatever comes behind: nothing, where the reshare half has said nothing
-opened_first : {Dir : Type 0} (life : ℕ) (added more : List Line) (its : Ended Fault (Live Dir)) (ended : Ended NodeStop (Live Dir)) → EndsBehind its ended → IfEarly its (more ≡ []) → BeginsOpened life added its
+opened_first : {Dir : Type 0} (life : ℕ) (added more : List Entry) (its : Ended Fault (Live Dir)) (ended : Ended NodeStop (Live Dir)) → EndsBehind its ended → IfEarly its (more ≡ []) → BeginsOpened life added its
     → AllByRecursion IsAside more → BeginsOpened life (added ++ more) ended
 opened_first life (Opened number restored ∷ lines) more its ended ends silent begins aside = (begins.0, all_quiet lines more begins.1 aside)
 opened_first {Dir} life [] more (broken cause) ended ends silent begins aside =
-    subst (λ (ls : List Line). BeginsOpened life ls ended) (sym silent) (subst (λ (e : Ended NodeStop (Live Dir)). BeginsOpened life [] e) (sym ends) tt)
+    subst (λ (ls : List Entry). BeginsOpened life ls ended) (sym silent) (subst (λ (e : Ended NodeStop (Live Dir)). BeginsOpened life [] e) (sym ends) tt)
 opened_first life added more its ended ends silent begins aside = absurd begins
 
 -- lines, and others behind them
-behind : (old mid new added more : List Line) → mid ≡ old ++ added → new ≡ mid ++ more → new ≡ old ++ (added ++ more)
-behind old mid new added more first next = next ∙ ap (λ (ls : List Line). ls ++ more) first ∙ append_assoc old added more
+behind : (old mid new added more : List Entry) → mid ≡ old ++ added → new ≡ mid ++ more → new ≡ old ++ (added ++ more)
+behind old mid new added more first next = next ∙ ap (λ (ls : List Entry). ls ++ more) first ∙ append_assoc old added more
 
 pub node_openings_are_quiet : {Dir : Type 0} → NodeOpeningsAreQuiet Dir
 node_openings_are_quiet c ended old new said =
@@ -166,9 +166,9 @@ module _ {Dir : Type 0} (c : Fixed Dir) (from : ℕ) (bytes : List ℕ) (st : Li
       either true run = done run
       either false run = done (subst (λ (course : Course Dir NodeStop (Live Dir)). EndsSo course (went last) mid new) (asks_nothing c end none) run)
 
-last_line : {Dir : Type 0} (deeds : List (Deed Dir)) (line : Line) → deed_lines (deeds ++ Spoke line ∷ []) ≡ deed_lines deeds ++ line ∷ []
+last_line : {Dir : Type 0} (deeds : List (Deed Dir)) (line : Entry) → deed_lines (deeds ++ Spoke line ∷ []) ≡ deed_lines deeds ++ line ∷ []
 last_line [] line = refl
-last_line (Spoke its ∷ deeds) line = ap (λ (ls : List Line). its ∷ ls) (last_line deeds line)
+last_line (Spoke its ∷ deeds) line = ap (λ (ls : List Entry). its ∷ ls) (last_line deeds line)
 last_line (Did op ∷ deeds) line = last_line deeds line
 last_line (Called outer ∷ deeds) line = last_line deeds line
 
@@ -188,10 +188,10 @@ node_dues_are_answered {Dir} c st end from bytes due w new none run =
       | inr early ↦ absurd (not_early early.0 end early.1)
     ]
   where
-    said : (mid : Live Dir) (now : World) → EndsSo (step c (Sent (Peer from bytes)) st) (went mid) w now → (before : List Line) × (ack : List ℕ) × (now.out ≡ w.out ++ (before ++ Ack due.round.number from ack ∷ []))
+    said : (mid : Live Dir) (now : World) → EndsSo (step c (Sent (Peer from bytes)) st) (went mid) w now → (before : List Entry) × (ack : List ℕ) × (now.out ≡ w.out ++ (before ++ Ack due.round.number from ack ∷ []))
     said mid now run =
         let adds = runs_add_deeds (step c (Sent (Peer from bytes)) st) (went mid) w now run in
         let last = answered c st from bytes due w.held in
         let are = ap deed_lines last.2 ∙ last_line last.0 (Ack due.round.number from last.1) in
-        let all = sym (adds.of_deeds ∙ ap (λ (ls : List Line). adds.added ++ ls) adds.own_end.0 ∙ append-nil adds.added) in
-        (deed_lines last.0, last.1, adds.out ∙ ap (λ (ls : List Line). w.out ++ ls) (all ∙ are))
+        let all = sym (adds.of_deeds ∙ ap (λ (ls : List Entry). adds.added ++ ls) adds.own_end.0 ∙ append-nil adds.added) in
+        (deed_lines last.0, last.1, adds.out ∙ ap (λ (ls : List Entry). w.out ++ ls) (all ∙ are))

@@ -4,7 +4,7 @@ use Rattle.std.specs.List.{AllByRecursion}
 use Rattle.std.specs.FinMap.{get}
 use Rattle.dkg_ceremony.specs.Schedule.{epoch_of}
 use Rattle.dkg_ceremony.specs.declared.round.RoundParts.{RoundParts as Round}
-use Rattle.dkg_infos.specs.declared.entry.Entry.{Entry as Line}
+use Rattle.dkg_infos.specs.declared.entry.Entry.{Entry}
 use Rattle.dkg_infos.specs.declared.entry.Entry.TheVariants.{Opened, Recorded, Ack}
 use Rattle.dkg_infos.specs.declared.entry.Restored.{Restored}
 use Rattle.dkg_infos.specs.declared.fault.Fault.{Fault}
@@ -50,7 +50,7 @@ all_still P R so (x ∷ xs) all = (so x all.0, all_still P R so xs all.1)
 
 -- WHAT AN OPENING LISTS
 
-silent_aside : {Dir : Type 0} (past : List (Deed Dir)) (line : Line) → IsSilent past line → IsAside line
+silent_aside : {Dir : Type 0} (past : List (Deed Dir)) (line : Entry) → IsSilent past line → IsAside line
 silent_aside past (Recorded epoch dealer public private) h = absurd h
 silent_aside past (Ack epoch dealer ack) h = absurd h
 silent_aside past line h = h
@@ -80,11 +80,11 @@ module _ {Dir : Type 0} (c : Fixed Dir) where
     abbrev seen : Seen
     seen = c.seen opened.held
 
-    abbrev first_line : Line
+    abbrev first_line : Entry
     first_line = Opened c.life (map restored_of seen.dealings)
 
     abbrev Lists : Ended Fault (Live Dir) → World → Type 0
-    Lists ended new = (lines : List Line) × (new.out ≡ w.out ++ lines) × BeginsRestored c.life (restored_list (recovered_in w.held)) lines ended
+    Lists ended new = (lines : List Entry) × (new.out ≡ w.out ++ lines) × BeginsRestored c.life (restored_list (recovered_in w.held)) lines ended
 
     -- behind the first line
     listed : (ended : Ended Fault (Live Dir)) (new : World) → EndsSo (opens_in c c.oneshot (begun_life seen)) ended (says opened first_line) new → Lists ended new
@@ -114,11 +114,11 @@ module _ {Dir : Type 0} (c : Fixed Dir) where
     lists (broken cause) new (inr (inr (inr run))) = listed (broken cause) new run
 
 -- with the lines behind it
-with_more : {Dir : Type 0} (life : ℕ) (restored : List Restored) (lines rest : List Line) (half : Ended Fault (Live Dir)) (ended : Ended NodeStop (Live Dir))
+with_more : {Dir : Type 0} (life : ℕ) (restored : List Restored) (lines rest : List Entry) (half : Ended Fault (Live Dir)) (ended : Ended NodeStop (Live Dir))
     → BeginsRestored life restored lines half → EndsBehind half ended → IfEarly half (rest ≡ []) → AllByRecursion IsAside rest → BeginsRestored life restored (lines ++ rest) ended
 with_more life restored (Opened its list ∷ lines) rest half ended begins ends early aside = (begins.0, begins.1, all_of_both IsAside lines rest begins.2 aside)
 with_more life restored [] rest (broken cause) ended begins ends early aside =
-    subst (λ (ls : List Line). BeginsRestored life restored ls ended) (sym early) (subst (BeginsRestored life restored []) (sym ends) tt)
+    subst (λ (ls : List Entry). BeginsRestored life restored ls ended) (sym early) (subst (BeginsRestored life restored []) (sym ends) tt)
 with_more life restored lines rest half ended begins ends early aside = absurd begins
 
 pub node_openings_restore : {Dir : Type 0} → NodeOpeningsRestore Dir
@@ -126,7 +126,7 @@ node_openings_restore c ended w new reads run =
     let b = openings_run_behind c ended w new run in
     let first = lists c reads w b.half b.mid b.run in (
       first.0 ++ b.lines,
-      b.out ∙ ap (λ (ls : List Line). ls ++ b.lines) first.1 ∙ append_assoc w.out first.0 b.lines,
+      b.out ∙ ap (λ (ls : List Entry). ls ++ b.lines) first.1 ∙ append_assoc w.out first.0 b.lines,
       with_more c.life (restored_list (recovered_in w.held)) first.0 b.lines b.half ended first.2 b.ends b.silent b.aside,
     )
 
@@ -170,20 +170,20 @@ node_steps_agree c st end message w new agreed can run =
 
 -- A PEER'S MESSAGE
 
-aside_said : {Dir : Type 0} (c : Fixed Dir) (round : Round) (h : Held) (line : Line) → IsAside line → IsSaid c round h line
+aside_said : {Dir : Type 0} (c : Fixed Dir) (round : Round) (h : Held) (line : Entry) → IsAside line → IsSaid c round h line
 aside_said c round h (Recorded epoch dealer public private) aside = absurd aside
 aside_said c round h (Ack epoch dealer ack) aside = absurd aside
 aside_said c round h line aside = tt
 
-module _ {Dir : Type 0} (c : Fixed Dir) (st : Live Dir) (from : ℕ) (round : Round) (base : List Line) (pairs : Pairs) where
+module _ {Dir : Type 0} (c : Fixed Dir) (st : Live Dir) (from : ℕ) (round : Round) (base : List Entry) (pairs : Pairs) where
   -- lines behind it that are no dealing's
-  kept_behind : (mid new : World) (lines : List Line) → new.held ≡ mid.held → new.out ≡ mid.out ++ lines → AllByRecursion IsAside lines → IsKeptAt c st from round base pairs mid
+  kept_behind : (mid new : World) (lines : List Entry) → new.held ≡ mid.held → new.out ≡ mid.out ++ lines → AllByRecursion IsAside lines → IsKeptAt c st from round base pairs mid
       → IsKeptAt c st from round base pairs new
   kept_behind mid new lines held out aside was = record {
     whole = subst (λ (h : Held). IsWhole (notes h) h.secrets) (sym held) was.whole;
     gives = subst (λ (h : Held). MayHave c st from round pairs (recovered_in h)) (sym held) was.gives;
     added = was.added ++ lines;
-    out = out ∙ ap (λ (ls : List Line). ls ++ lines) was.out ∙ append_assoc base was.added lines;
+    out = out ∙ ap (λ (ls : List Entry). ls ++ lines) was.out ∙ append_assoc base was.added lines;
     said = all_of_both (IsSaid c round new.held) was.added lines (subst (λ (h : Held). AllByRecursion (IsSaid c round h) was.added) (sym held) was.said)
         (all_still IsAside (IsSaid c round new.held) (aside_said c round new.held) lines aside);
   }

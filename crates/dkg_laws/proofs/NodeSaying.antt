@@ -8,7 +8,7 @@ use Rattle.dkg_fence.specs.declared.fence.Waited.TheVariants as waits
 use Rattle.dkg_fence.specs.Fence.{waited}
 use Rattle.dkg_types.specs.Blocks.{Block}
 use Rattle.dkg_types.specs.BlockCodes.{info_of}
-use Rattle.dkg_infos.specs.declared.entry.Entry.{Entry as Line}
+use Rattle.dkg_infos.specs.declared.entry.Entry.{Entry}
 use Rattle.dkg_infos.specs.declared.entry.Entry.TheVariants.{Entered, Halted, Acked}
 use Rattle.dkg_infos.specs.declared.fault.Fault.TheVariants.{MissingEpochInfo, SkippedHeight, WrongEpoch}
 use Rattle.dkg_infos.specs.declared.info.EpochInfo.{EpochInfo}
@@ -26,7 +26,7 @@ use Rattle.dkg_laws.specs.NodeSaying.{IsHalfLine, NodeStepsSayThrough}
 use Rattle.dkg_core.proofs.SayingThrough.{block_so, mail_so, said_so, so_behind, so_if, so_option}
 
 -- to more, and under other names for its faults
-so_as : {Dir F S : Type 0} (P Q : Line → Type 0) (course : Course Dir F S) → ((line : Line) → P line → Q line) → SaysSo P course → SaysSo Q course
+so_as : {Dir F S : Type 0} (P Q : Entry → Type 0) (course : Course Dir F S) → ((line : Entry) → P line → Q line) → SaysSo P course → SaysSo Q course
 so_as P Q (Say line course) more so = (more line so.0, so_as P Q course more so.1)
 so_as P Q (Do op course) more so = so_as P Q course more so
 so_as P Q (Call outer course) more so = so_as P Q course more so
@@ -34,7 +34,7 @@ so_as P Q (Ask f) more so = λ h. so_as P Q (f h) more (so h)
 so_as P Q (Goes end) more so = tt
 so_as P Q (Stops fault) more so = tt
 
-so_under : {Dir F G S : Type 0} (P : Line → Type 0) (name : F → G) (course : Course Dir F S) → SaysSo P course → SaysSo P (under name course)
+so_under : {Dir F G S : Type 0} (P : Entry → Type 0) (name : F → G) (course : Course Dir F S) → SaysSo P course → SaysSo P (under name course)
 so_under P name (Say line course) so = (so.0, so_under P name course so.1)
 so_under P name (Do op course) so = so_under P name course so
 so_under P name (Call outer course) so = so_under P name course so
@@ -44,7 +44,7 @@ so_under P name (Stops fault) so = tt
 
 -- THE ORCHESTRATOR'S HALF
 
-module _ {Dir : Type 0} (c : Fixed Dir) (P : Line → Type 0) (tells : (line : Line) → IsHalfLine line → P line) where
+module _ {Dir : Type 0} (c : Fixed Dir) (P : Entry → Type 0) (tells : (line : Entry) → IsHalfLine line → P line) where
   abbrev Half_so : Course Dir NodeStop (Half Dir) → Type 0
   Half_so course = SaysSo P course
 
@@ -110,14 +110,14 @@ module _ {Dir : Type 0} (c : Fixed Dir) (P : Line → Type 0) (tells : (line : L
 
 pub node_steps_say_through : {Dir : Type 0} → NodeStepsSayThrough Dir
 node_steps_say_through c stored st (Finalized block) ended old new form reads taken live said =
-    let P : Line → Type 0 = λ line. IsLineThrough c stored st (Finalized block) line ⊎ IsHalfLine line in
+    let P : Entry → Type 0 = λ line. IsLineThrough c stored st (Finalized block) line ⊎ IsHalfLine line in
     said_so P (node_step c (event_of (Finalized block)) st) ended old new
     (so_behind P (under Faulted (step c (Finalized block) st))
     (λ now. unless_once c (bind (takes_delivered c block now) (λ left. half.acked_at block.height left.answer left.live)) (Say (Acked block.height) (Goes now)))
     (so_under P Faulted (step c (Finalized block) st) (so_as (IsLineThrough c stored st (Finalized block)) P (step c (Finalized block) st) (λ line is. inl is) (block_so c form stored reads st live block)))
     (λ now. behind_block c P (λ line is. inr is) block now)) said
 node_steps_say_through c stored st (Sent mail) ended old new form reads taken live said =
-    let P : Line → Type 0 = λ line. IsLineThrough c stored st (Sent mail) line ⊎ IsHalfLine line in
+    let P : Entry → Type 0 = λ line. IsLineThrough c stored st (Sent mail) line ⊎ IsHalfLine line in
     said_so P (node_step c (event_of (Sent mail)) st) ended old new
     (so_behind P (under Faulted (step c (Sent mail) st)) (λ now. unless_once c (half.asks_again c now) (Goes now))
     (so_under P Faulted (step c (Sent mail) st) (so_as (IsLineThrough c stored st (Sent mail)) P (step c (Sent mail) st) (λ line is. inl is) (mail_so c form stored reads st live mail taken)))

@@ -1,7 +1,7 @@
 -- Steps and openings say lines of the node's own.
 use Rattle.std.proofs.Common.{◌≡◌, inl, inr, ℕ, List, [], ◌∷◌, ◌++◌, map, Option, refl, sym, subst}
 use Rattle.std.specs.List.{AllByRecursion}
-use Rattle.dkg_infos.specs.declared.entry.Entry.{Entry as Line}
+use Rattle.dkg_infos.specs.declared.entry.Entry.{Entry}
 use Rattle.dkg_infos.specs.declared.entry.Entry.TheVariants.{Opened, Recorded, Ack, Offer}
 use Rattle.dkg_infos.specs.declared.fault.Fault.{Fault}
 use Rattle.dkg_infos.specs.declared.info.EpochInfo.{EpochInfo}
@@ -29,19 +29,19 @@ use Rattle.dkg_core.proofs.Pruning.{setups_prune}
 abbrev quiet_law : {Dir S : Type 0} → Law Dir S
 quiet_law = record { line = λ past line. IsQuiet line; operation = Anything; end = Anything }
 
-silent_quiet : {Dir : Type 0} (past : List (Deed Dir)) (line : Line) → IsSilent past line → IsQuiet line
+silent_quiet : {Dir : Type 0} (past : List (Deed Dir)) (line : Entry) → IsSilent past line → IsQuiet line
 silent_quiet past (Recorded epoch dealer public private) h = absurd h
 silent_quiet past (Ack epoch dealer ack) h = absurd h
 silent_quiet past (Offer epoch player public private) h = tt
 silent_quiet past line h = h
 
-peer_quiet : {Dir : Type 0} (c : Fixed Dir) (st : Live Dir) (from : ℕ) (past : List (Deed Dir)) (line : Line) → PeerLine c st from past line → IsQuiet line
+peer_quiet : {Dir : Type 0} (c : Fixed Dir) (st : Live Dir) (from : ℕ) (past : List (Deed Dir)) (line : Entry) → PeerLine c st from past line → IsQuiet line
 peer_quiet c st from past (Recorded epoch dealer public private) h = tt
 peer_quiet c st from past (Ack epoch dealer ack) h = tt
 peer_quiet c st from past (Offer epoch player public private) h = tt
 peer_quiet c st from past line h = h
 
-other_quiet : {Dir : Type 0} (c : Fixed Dir) (own : OfHalves) (offered : OfOffers) (past : List (Deed Dir)) (line : Line) → OtherLine c own offered past line → IsQuiet line
+other_quiet : {Dir : Type 0} (c : Fixed Dir) (own : OfHalves) (offered : OfOffers) (past : List (Deed Dir)) (line : Entry) → OtherLine c own offered past line → IsQuiet line
 other_quiet c own offered past (Recorded epoch dealer public private) h = tt
 other_quiet c own offered past (Ack epoch dealer ack) h = absurd h
 other_quiet c own offered past (Offer epoch player public private) h = tt
@@ -49,11 +49,11 @@ other_quiet c own offered past line h = h
 
 -- A STEP
 
-module _ {Dir : Type 0} (c : Fixed Dir) (st : Live Dir) (ended : Ended Fault (Live Dir)) (old new : List Line) where
+module _ {Dir : Type 0} (c : Fixed Dir) (st : Live Dir) (ended : Ended Fault (Live Dir)) (old new : List Entry) where
   abbrev AddsQuiet : Type 0
-  AddsQuiet = (added : List Line) × (new ≡ old ++ added) × AllByRecursion IsQuiet added
+  AddsQuiet = (added : List Entry) × (new ≡ old ++ added) × AllByRecursion IsQuiet added
 
-  of_law : (law : Law Dir (Live Dir)) (message : Message Dir) → ((past : List (Deed Dir)) (line : Line) → law.line past line → IsQuiet line) → Holds law [] (step c message st)
+  of_law : (law : Law Dir (Live Dir)) (message : Message Dir) → ((past : List (Deed Dir)) (line : Entry) → law.line past line → IsQuiet line) → Holds law [] (step c message st)
       → SaysBy (on_devices (step c message st)) ended old new → AddsQuiet
   of_law law message so holds said =
       let front = lines_obey law [] (step c message st) ended old new holds said in
@@ -96,21 +96,21 @@ module _ {Dir : Type 0} (c : Fixed Dir) where
   abbrev rest_of : Seen → Course Dir Fault (Live Dir)
   rest_of seen = opens_in c c.oneshot (begun_life seen)
 
-  abbrev first_line : Seen → Line
+  abbrev first_line : Seen → Entry
   first_line seen = Opened c.life (map restored_of seen.dealings)
 
-  rest_quiet : (seen : Seen) (ended : Ended Fault (Live Dir)) (lines : List Line) → said.SaysBy (on_devices (rest_of seen)) ended lines → AllByRecursion IsQuiet lines
+  rest_quiet : (seen : Seen) (ended : Ended Fault (Live Dir)) (lines : List Entry) → said.SaysBy (on_devices (rest_of seen)) ended lines → AllByRecursion IsQuiet lines
   rest_quiet seen ended lines by =
       let front = lines_obey quiet_law [] (rest_of seen) ended [] lines (opens c quiet_law (λ height. Unit {0}) reaching [] c.oneshot (begun_life seen)) (record { lines = lines; added = refl; by = by }) in
       subst (AllByRecursion IsQuiet) (sym front.added) (all_lines {S = Live Dir} quiet_law IsQuiet (λ past line h. h) [] front.deeds front.obeys)
 
-  begins : (seen : Seen) (ended : Ended Fault (Live Dir)) (lines rest : List Line) → lines ≡ first_line seen ∷ rest → said.SaysBy (on_devices (rest_of seen)) ended rest → BeginsOpened c.life lines ended
-  begins seen ended lines rest are by = subst (λ (ls : List Line). BeginsOpened c.life ls ended) (sym are) (refl, rest_quiet seen ended rest by)
+  begins : (seen : Seen) (ended : Ended Fault (Live Dir)) (lines rest : List Entry) → lines ≡ first_line seen ∷ rest → said.SaysBy (on_devices (rest_of seen)) ended rest → BeginsOpened c.life lines ended
+  begins seen ended lines rest are by = subst (λ (ls : List Entry). BeginsOpened c.life ls ended) (sym are) (refl, rest_quiet seen ended rest by)
 
-  none : (lines : List Line) (ended : Ended Fault (Live Dir)) → lines ≡ [] → BeginsOpened c.life [] ended → BeginsOpened c.life lines ended
-  none lines ended are so = subst (λ (ls : List Line). BeginsOpened c.life ls ended) (sym are) so
+  none : (lines : List Entry) (ended : Ended Fault (Live Dir)) → lines ≡ [] → BeginsOpened c.life [] ended → BeginsOpened c.life lines ended
+  none lines ended are so = subst (λ (ls : List Entry). BeginsOpened c.life ls ended) (sym are) so
 
-  openings : (ended : Ended Fault (Live Dir)) (lines : List Line) → said.SaysBy (on_devices (opening c)) ended lines → BeginsOpened c.life lines ended
+  openings : (ended : Ended Fault (Live Dir)) (lines : List Entry) → said.SaysBy (on_devices (opening c)) ended lines → BeginsOpened c.life lines ended
   openings (went end) lines a = begins (c.seen a.0) (went end) lines a.1.0 a.1.1 a.1.2
   openings (stopped fault) lines a = begins (c.seen a.0) (stopped fault) lines a.1.0 a.1.1 a.1.2
   openings (broken cause) lines (inl is) = none lines (broken cause) is tt

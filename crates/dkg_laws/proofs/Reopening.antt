@@ -8,7 +8,7 @@ use Rattle.dkg_values.specs.declared.codec.CodecError.{CodecError}
 use Rattle.dkg_ceremony.specs.Schedule.{epoch_of, last}
 use Rattle.dkg_types.specs.Blocks.{Block}
 use Rattle.dkg_types.specs.BlockCodes.{info_of}
-use Rattle.dkg_infos.specs.declared.entry.Entry.{Entry as Line}
+use Rattle.dkg_infos.specs.declared.entry.Entry.{Entry}
 use Rattle.dkg_infos.specs.declared.entry.Entry.TheVariants.{Opened, Registered}
 use Rattle.dkg_infos.specs.declared.fault.Fault.{Fault}
 use Rattle.dkg_infos.specs.declared.fault.Fault.TheVariants.{HeightRange, StateSyncEpochs, StateSyncMaterial, MissingEpochInfo}
@@ -45,14 +45,14 @@ left_same op j new kept part (inl is) = ap (λ (x : Journaled). x.entries) is
 left_same op j new kept part (inr (inl is)) = ap (λ (x : Journaled). x.entries) is ∙ kept
 left_same op j new kept part (inr (inr is)) = part is
 
-module _ {Dir : Type 0} (c : Fixed Dir) (ack_of : OwnAckOf) (most : ℕ) (base : List Line) (starts : StartsWithin c most) where
+module _ {Dir : Type 0} (c : Fixed Dir) (ack_of : OwnAckOf) (most : ℕ) (base : List Entry) (starts : StartsWithin c most) where
   abbrev P : World → Type 0
   P w = IsKeptFrom ack_of most base w
 
-  tell : (w : World) (line : Line) → IsSaidFrom ack_of most w.held line → P w → P (says w line)
+  tell : (w : World) (line : Entry) → IsSaidFrom ack_of most w.held line → P w → P (says w line)
   tell w line sound q = up.tells ack_of most base w line sound q
 
-  told : (w : World) (line : Line) → IsAside line → P w → P (says w line)
+  told : (w : World) (line : Entry) → IsAside line → P w → P (says w line)
   told w line aside q = up.told c ack_of most base w line aside q
 
   same_entries : (w new : World) → new.out ≡ w.out → notes new.held ≡ notes w.held → new.held.secrets ≡ w.held.secrets → P w → P new

@@ -2,7 +2,7 @@
 use Rattle.std.proofs.Common.{◌≡◌, ◌≤◌, ℕ, List, [], ◌∷◌, Some, refl, sym, subst}
 use Rattle.std.specs.List.{AllByRecursion}
 use Rattle.std.specs.FinMap.{get}
-use Rattle.dkg_infos.specs.declared.entry.Entry.{Entry as Line}
+use Rattle.dkg_infos.specs.declared.entry.Entry.{Entry}
 use Rattle.dkg_infos.specs.declared.entry.Entry.TheVariants.{Recorded}
 use Rattle.dkg_store.specs.Acts.{World, notes}
 use Rattle.dkg_store.specs.Pairs.{IsWhole}
@@ -17,14 +17,14 @@ use Rattle.dkg_laws.proofs.Transcripts.{transcripts_move}
 
 -- a dealing that was told since the beginning is given back
 module _ (ack_of : OwnAckOf) (most : ℕ) (epoch dealer : ℕ) (public : List ℕ) (private : ℕ) where
-  abbrev line : Line
+  abbrev line : Entry
   line = Recorded epoch dealer public private
 
   -- a transcript that begins with it
   pub told : (w : World) → IsWhole (notes w.held) w.held.secrets → get (recovered_in w.held) (epoch, dealer) ≡ Some (public, private) → IsKeptFrom ack_of most [] (with_out (line ∷ []) w)
   told w whole got = record { whole = whole; added = line ∷ []; out = refl; said = (λ above. got, tt) }
 
-  pub given : (w : World) (added : List Line) → IsKeptFrom ack_of most [] (with_out (line ∷ added) w) → most ≤ epoch → get (recovered_in w.held) (epoch, dealer) ≡ Some (public, private)
+  pub given : (w : World) (added : List Entry) → IsKeptFrom ack_of most [] (with_out (line ∷ added) w) → most ≤ epoch → get (recovered_in w.held) (epoch, dealer) ≡ Some (public, private)
   given w added q above = (subst (AllByRecursion (IsSaidFrom ack_of most w.held)) (sym q.out) q.said).0 above
 
 pub steps_give_back : {Dir : Type 0} → StepsGiveBack Dir

@@ -9,7 +9,7 @@ use Rattle.dkg_ceremony.specs.Marks.{mark_of}
 use Rattle.dkg_ceremony.specs.Rounds.{round_of}
 use Rattle.dkg_infos.specs.declared.entry.BlockedWhy.TheVariants as why
 use Rattle.dkg_infos.specs.declared.entry.AnswerLine.TheVariants.{Unavailable}
-use Rattle.dkg_infos.specs.declared.entry.Entry.{Entry as Line}
+use Rattle.dkg_infos.specs.declared.entry.Entry.{Entry}
 use Rattle.dkg_infos.specs.declared.entry.Entry.TheVariants.{Answer, Prepared, Proposed, Verdict, Blocked, Sent, Artifact}
 use Rattle.dkg_infos.specs.declared.entry.PreparedLine.TheVariants.{Wait}
 use Rattle.dkg_infos.specs.declared.entry.Verdict.TheVariants.{Reject, Unresolved}
@@ -73,7 +73,7 @@ certified epoch view = record { epoch = epoch; view = view; parent_view = 0; pay
 abbrev pub latest : (from epoch : ℕ) → Event Dir
 latest from epoch = ProbeReply from (5 ∷ finalization_spelling (certified epoch 0))
 
-abbrev pub to_all_dealers : List Line
+abbrev pub to_all_dealers : List Entry
 to_all_dealers = Sent (Some 1) (4 ∷ []) ∷ Sent (Some 2) (4 ∷ []) ∷ Sent (Some 3) (4 ∷ []) ∷ Sent (Some 4) (4 ∷ []) ∷ []
 
 abbrev pub after_opening : {A : Type 0} → List A → List A

@@ -1,22 +1,22 @@
 -- A run says the lines of its acts.
 use Rattle.std.proofs.Common.{◌≡◌, inl, inr, List, [], ◌∷◌, ◌++◌, refl, sym, ◌∙◌, ap, append_assoc, append-nil}
-use Rattle.dkg_infos.specs.declared.entry.Entry.{Entry as Line}
+use Rattle.dkg_infos.specs.declared.entry.Entry.{Entry}
 use Rattle.dkg_store.specs.Acts.{Acts, Say, Do, Ask, Goes, Stops, World, says, does, Completes, Faults, Breaks, Cause, went, stopped, broken}
 use Rattle.dkg_core.specs.Said.{SaysAll, SaysUpTo, SaysFirst, RunsSay}
 
 -- these lines came to a transcript, and they are so
-record Came (out now : List Line) (P : List Line → Type 0) : Type 0 where
-  lines : List Line
+record Came (out now : List Entry) (P : List Entry → Type 0) : Type 0 where
+  lines : List Entry
   added : now ≡ out ++ lines
   are : P lines
 
-none_came : {out now : List Line} {P : List Line → Type 0} → now ≡ out → P [] → Came out now P
+none_came : {out now : List Entry} {P : List Entry → Type 0} → now ≡ out → P [] → Came out now P
 none_came {out} is p = record { lines = []; added = is ∙ sym (append-nil out); are = p }
 
-one_more : (line : Line) {out now : List Line} {P Q : List Line → Type 0} → Came (out ++ line ∷ []) now P → ((lines : List Line) → P lines → Q (line ∷ lines)) → Came out now Q
+one_more : (line : Entry) {out now : List Entry} {P Q : List Entry → Type 0} → Came (out ++ line ∷ []) now P → ((lines : List Entry) → P lines → Q (line ∷ lines)) → Came out now Q
 one_more line {out} came so = record { lines = line ∷ came.lines; added = came.added ∙ append_assoc out (line ∷ []) came.lines; are = so came.lines came.are }
 
-as_lines : {out now : List Line} {P Q : List Line → Type 0} → Came out now P → ((lines : List Line) → P lines → Q lines) → Came out now Q
+as_lines : {out now : List Entry} {P Q : List Entry → Type 0} → Came out now P → ((lines : List Entry) → P lines → Q lines) → Came out now Q
 as_lines came so = record { lines = came.lines; added = came.added; are = so came.lines came.are }
 
 module _ {F S : Type 0} where

@@ -9,7 +9,7 @@ use Rattle.dkg_ceremony.specs.declared.output.Output.{Output}
 use Rattle.dkg_ceremony.specs.declared.phase.Phase.TheVariants.{Early}
 use Rattle.dkg_types.specs.Blocks.{Block}
 use Rattle.dkg_infos.specs.declared.directory.Unit as directory
-use Rattle.dkg_infos.specs.declared.entry.Entry.{Entry as Line}
+use Rattle.dkg_infos.specs.declared.entry.Entry.{Entry}
 use Rattle.dkg_infos.specs.declared.entry.Entry.TheVariants.{Opened, Committed, Registered, Setup, Recorded, Ack, Entered}
 use Rattle.dkg_infos.specs.declared.entry.Part.TheVariants.{Player}
 use Rattle.dkg_infos.specs.declared.entry.Role.TheVariants.{Member}
@@ -113,7 +113,7 @@ life_of blocks life held = record { given = configured blocks life; sealed = uns
 abbrev pub above : (height : ℕ) → (digest : List ℕ) → Life Dir → Life Dir
 above height digest life = record life { anchor = Some (record { processed = Absent height; block = block_with (100 ∷ []) (height + 1) digest None }) }
 
-abbrev pub says : List Line → Outcome NodeStop
+abbrev pub says : List Entry → Outcome NodeStop
 says lines = record { lines = lines; operations = []; calls = 0; fault = None }
 
 abbrev pub stops : Fault → Outcome NodeStop
@@ -126,7 +126,7 @@ last_of (r ∷ []) = r
 last_of (r ∷ r' ∷ rs) = last_of (r' ∷ rs)
 
 -- what a setup of an epoch says that is new to this member, and its operations
-abbrev pub set_up : (epoch : ℕ) → List Line
+abbrev pub set_up : (epoch : ℕ) → List Entry
 set_up epoch = Committed epoch None ∷ Registered epoch Member ∷ Setup epoch Early Player ∷ Entered epoch ∷ []
 
 abbrev pub of_setup : (epoch min : ℕ) → List Operation

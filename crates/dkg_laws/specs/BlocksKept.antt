@@ -3,7 +3,7 @@ use Rattle.std.specs.Prelude.{◌≡◌, ◌≤◌, ◌++◌, ℕ, List, [], Som
 use Rattle.std.specs.List.{AllByRecursion}
 use Rattle.std.specs.FinMap.{get}
 use Rattle.dkg_types.specs.Blocks.{Block}
-use Rattle.dkg_infos.specs.declared.entry.Entry.{Entry as Line}
+use Rattle.dkg_infos.specs.declared.entry.Entry.{Entry}
 use Rattle.dkg_store.specs.Acts.{World, Ended, notes, plan}
 use Rattle.dkg_store.specs.Noted.{Notes, acks_in, logs_in}
 use Rattle.dkg_store.specs.Pairs.{IsWhole}
@@ -37,12 +37,12 @@ NodeStepsKeepPlans Dir = (c : Fixed Dir) (st : Live Dir) (message : Message Dir)
     → plan new.held ≡ plan w.held
 
 -- Nothing is acknowledged, of dealings this node's own alone is recorded, and what its dealer deals is offered.
-abbrev pub IsLineOfBlock : {Dir : Type 0} → Fixed Dir → Live Dir → Line → Type 0
+abbrev pub IsLineOfBlock : {Dir : Type 0} → Fixed Dir → Live Dir → Entry → Type 0
 IsLineOfBlock c st line = OtherLine c (IsDealtToItself c st) (IsOffered c st) [] line
 
 -- Such lines were added, the devices are whole, and what they gave back of these epochs they give back.
 pub record IsKeptBehind {Dir : Type 0} (c : Fixed Dir) (st : Live Dir) (most : ℕ) (w new : World) : Type 0 where
-  pub lines : List Line
+  pub lines : List Entry
   pub out : new.out ≡ w.out ++ lines
   pub said : AllByRecursion (IsLineOfBlock c st) lines
   pub whole : IsWhole (notes new.held) new.held.secrets

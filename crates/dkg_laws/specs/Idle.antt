@@ -1,7 +1,7 @@
 -- What an event of a request, or of the own log, leaves of a world: it touches no device.
 use Rattle.std.specs.Prelude.{◌≡◌, ◌++◌, List, None}
 use Rattle.std.specs.List.{AllByRecursion}
-use Rattle.dkg_infos.specs.declared.entry.Entry.{Entry as Line}
+use Rattle.dkg_infos.specs.declared.entry.Entry.{Entry}
 use Rattle.dkg_infos.specs.declared.entry.Entry.TheVariants.{Answer, Log}
 use Rattle.dkg_store.specs.Acts.{World, Ended}
 use Rattle.dkg_core.specs.Courses.{EndsSo}
@@ -12,7 +12,7 @@ use Rattle.dkg_core.specs.Laws.{IsOther}
 use Rattle.dkg_core.specs.Endings.{CameTo}
 
 -- what a request is answered
-abbrev pub IsAskedLine : Line → Type 0
+abbrev pub IsAskedLine : Entry → Type 0
 IsAskedLine (Answer request answer) = Unit {0}
 IsAskedLine (Log request log) = Unit {0}
 IsAskedLine line = ⊥
@@ -21,7 +21,7 @@ IsAskedLine line = ⊥
 pub record LeavesIdle {Dir : Type 0} (st : Live Dir) (ended : Ended NodeStop (Live Dir)) (w new : World) : Type 0 where
   pub held : new.held ≡ w.held
   pub fuse : new.fuse ≡ w.fuse
-  pub lines : List Line
+  pub lines : List Entry
   pub out : new.out ≡ w.out ++ lines
   pub says : AllByRecursion IsAskedLine lines
   pub goes : CameTo (λ stop. Unit {0}) (λ end. end ≡ with_inclusion end.inclusion st) ended

@@ -3,7 +3,7 @@ use Rattle.std.specs.Prelude.{ℕ, List, [], ◌∷◌, ◌++◌, ◌≤◌, ◌
 use Rattle.std.specs.List.{AllByRecursion}
 use Rattle.std.specs.FinMap.{get}
 use Rattle.dkg_ceremony.specs.declared.round.RoundParts.{RoundParts as Round}
-use Rattle.dkg_infos.specs.declared.entry.Entry.{Entry as Line}
+use Rattle.dkg_infos.specs.declared.entry.Entry.{Entry}
 use Rattle.dkg_infos.specs.declared.entry.Entry.TheVariants.{Opened}
 use Rattle.dkg_infos.specs.declared.entry.Restored.{Restored}
 use Rattle.dkg_store.specs.Acts.{World, Ended, went, broken, notes}
@@ -22,7 +22,7 @@ use Rattle.dkg_core.specs.Agreeing.{AreAgreed, CanRecord}
 -- AN OPENING
 
 -- The line of a life's opening with this list stands first, and behind it lines that are no dealing's; only what was broken off may have said nothing.
-abbrev pub BeginsRestored : {F S : Type 0} → (life : ℕ) → List Restored → List Line → Ended F S → Type 0
+abbrev pub BeginsRestored : {F S : Type 0} → (life : ℕ) → List Restored → List Entry → Ended F S → Type 0
 BeginsRestored life restored (Opened its listed ∷ lines) ended = (its ≡ life) × (listed ≡ restored) × AllByRecursion IsAside lines
 BeginsRestored life restored [] (broken cause) = Unit {0}
 BeginsRestored life restored lines ended = ⊥
@@ -30,7 +30,7 @@ BeginsRestored life restored lines ended = ⊥
 -- AN OPENING lists first what the devices give back, and tells nothing of dealings behind it.
 abbrev pub NodeOpeningsRestore : Type 0 → Type 0
 NodeOpeningsRestore Dir = (c : Fixed Dir) (ended : Ended NodeStop (Live Dir)) (w new : World) → ReadsRecords c.seen → EndsSo (node_opening c) ended w new
-    → (lines : List Line) × (new.out ≡ w.out ++ lines) × BeginsRestored c.life (restored_list (recovered_in w.held)) lines ended
+    → (lines : List Entry) × (new.out ≡ w.out ++ lines) × BeginsRestored c.life (restored_list (recovered_in w.held)) lines ended
 
 -- It keeps every dealing of the epoch that it starts in and of the one before, and whole devices stay whole.
 abbrev pub NodeOpeningsKeep : Type 0 → Type 0

@@ -4,7 +4,7 @@ use Rattle.dkg_values.specs.Rising.{lookup}
 use Rattle.dkg_ceremony.specs.Schedule.{last}
 use Rattle.dkg_types.specs.Blocks.{Block}
 use Rattle.dkg_types.specs.BlockCodes.{info_of}
-use Rattle.dkg_infos.specs.declared.entry.Entry.{Entry as Line}
+use Rattle.dkg_infos.specs.declared.entry.Entry.{Entry}
 use Rattle.dkg_infos.specs.declared.info.EpochInfo.{EpochInfo}
 use Rattle.dkg_store.specs.Acts.{Held, World, Ended}
 use Rattle.dkg_core.specs.Courses.{on_devices, EndsSo}
@@ -79,7 +79,7 @@ NodeStepsComeThrough Dir = (c : Fixed Dir) (stored : OfShares) → NodeStepsCome
 
 -- .. whatever is read
 abbrev pub NodeStepsLeadThrough : Type 0 → Type 0
-NodeStepsLeadThrough Dir = (c : Fixed Dir) (st : Live Dir) (message : Message Dir) (ended : Ended NodeStop (Live Dir)) (old new : List Line) → IsFormThrough c → LacksNobody c
+NodeStepsLeadThrough Dir = (c : Fixed Dir) (st : Live Dir) (message : Message Dir) (ended : Ended NodeStop (Live Dir)) (old new : List Entry) → IsFormThrough c → LacksNobody c
     → IsTakenThrough c message st → IsLiveThrough c (read_somewhere c) st → IsActiveThrough st → Said (on_devices (node_step c (event_of message) st)) ended old new
     → CameTo (IsFaultBy (IsStopThrough c (read_somewhere c) st message None)) (λ end. IsNodeThrough c (read_somewhere c) st message None end None) ended
 

@@ -5,7 +5,7 @@ use Rattle.dkg_journal.specs.Burn.{Burn}
 use Rattle.dkg_journal.specs.Fuse.{Reached}
 use Rattle.dkg_journal.specs.Names.{Files}
 use Rattle.dkg_journal.proofs.Steps.{not_reached}
-use Rattle.dkg_infos.specs.declared.entry.Entry.{Entry as Line}
+use Rattle.dkg_infos.specs.declared.entry.Entry.{Entry}
 use Rattle.dkg_infos.specs.declared.fault.Fault.{Fault}
 use Rattle.dkg_infos.specs.declared.fault.Fault.TheVariants as fault
 use Rattle.dkg_store.specs.Acts as acts_of
@@ -135,12 +135,12 @@ module _ {S : Type 0} {acts : Acts StoreError S} {files files_now : Files} {imag
   }
 
 -- no device touched
-pub speaks_makes : {Dir S : Type 0} (course : Course Dir Fault S) (how : Ended Fault S) (files : Files) (image : Files → Type 0) {out now : List Line} {s : Secrets} {f : Burn} → Speaks course how out now
+pub speaks_makes : {Dir S : Type 0} (course : Course Dir Fault S) (how : Ended Fault S) (files : Files) (image : Files → Type 0) {out now : List Entry} {s : Secrets} {f : Burn} → Speaks course how out now
     → MakesAt (on_devices course) how files image files image (moment out s f) (moment now s f)
 speaks_makes course how files image {f = f} speaks = record { made = speaks_made course how files image speaks; burns = burns_none how f }
 
 -- a line
-pub line_makes : {S : Type 0} (line : Line) (end : S) {out now : List Line} (result : Result (Unit {0}) Stop) (files : Files) (image : Files → Type 0) (s : Secrets) (f : Burn)
+pub line_makes : {S : Type 0} (line : Entry) (end : S) {out now : List Entry} (result : Result (Unit {0}) Stop) (files : Files) (image : Files → Type 0) (s : Secrets) (f : Burn)
     → OnOk result (now ≡ out ++ line ∷ []) → OnErr result (now ≡ out) → IfErr result (λ stop. stop ≡ Faulted fault.NoMemory)
     → MakesAt (acts_of.Say line (acts_of.Goes end)) (ends_in end result) files image files image (moment out s f) (moment now s f)
 line_makes line end result files image s f told untold memory = record { made = line_made line end result files image s f told untold memory; burns = burns_none (ends_in end result) f }

@@ -1,7 +1,7 @@
 -- One course behind another, over the devices and in what is said.
 use Rattle.std.proofs.Common.{List, sym, subst}
 use Rattle.dkg_journal.specs.Names.{Files}
-use Rattle.dkg_infos.specs.declared.entry.Entry.{Entry as Line}
+use Rattle.dkg_infos.specs.declared.entry.Entry.{Entry}
 use Rattle.dkg_infos.specs.declared.fault.Fault.{Fault}
 use Rattle.dkg_store.specs.Acts.{Acts, Ended, Moment, went}
 use Rattle.dkg_core.specs.Courses.{Course, bind, on_devices}
@@ -25,10 +25,10 @@ module _ {Dir S T : Type 0} (course : Course Dir Fault S) (next : S → Course D
   early_makes stop {files} {files_now} {image} {now} {old} {new} first =
       subst (λ (x : Acts Fault T). MakesAt x (by_stop stop) files image files_now now old new) (sym (on_bind course next)) (makes_early (λ s. on_devices (next s)) stop first)
 
-  pub then_told : (end : S) (how : Ended Fault T) {out mid now : List Line} → Tells course (went end) out mid → Tells (next end) how mid now → Tells (bind course next) how out now
+  pub then_told : (end : S) (how : Ended Fault T) {out mid now : List Entry} → Tells course (went end) out mid → Tells (next end) how mid now → Tells (bind course next) how out now
   then_told end how {out} {mid} {now} first second =
       subst (λ (x : Acts Fault T). Said x how out now) (sym (on_bind course next)) (said_next (λ s. on_devices (next s)) first second)
 
-  pub early_told : (stop : Stop) {out now : List Line} → Tells course (by_stop stop) out now → Tells (bind course next) (by_stop stop) out now
+  pub early_told : (stop : Stop) {out now : List Entry} → Tells course (by_stop stop) out now → Tells (bind course next) (by_stop stop) out now
   early_told stop {out} {now} first =
       subst (λ (x : Acts Fault T). Said x (by_stop stop) out now) (sym (on_bind course next)) (said_early (λ s. on_devices (next s)) stop first)

@@ -1,7 +1,7 @@
 -- A commit and a registration: what they leave known.
 use Rattle.std.proofs.Common.{◌≡◌, List, [], Result, Ok, Err, refl, sym, subst, append-nil}
 use Rattle.std.specs.Prelude.{IfErr, OnOk}
-use Rattle.dkg_infos.specs.declared.entry.Entry.{Entry as Line}
+use Rattle.dkg_infos.specs.declared.entry.Entry.{Entry}
 use Rattle.dkg_infos.specs.declared.fault.Fault.{Fault}
 use Rattle.dkg_infos.specs.declared.fault.Fault.TheVariants.{NoMemory}
 use Rattle.dkg_journal.specs.Names.{Files}
@@ -23,7 +23,7 @@ in_any (Ok x) a = a
 in_any (Err e) a = tt
 
 -- It goes on at once, and says nothing.
-pub goes_told : (Dir : Type 0) {S : Type 0} (end : S) (out : List Line) → Tells {Dir = Dir} {F = Fault} (Goes end) (went end) out out
+pub goes_told : (Dir : Type 0) {S : Type 0} (end : S) (out : List Entry) → Tells {Dir = Dir} {F = Fault} (Goes end) (went end) out out
 goes_told Dir end out = record { lines = []; added = sym (append-nil out); by = (refl, refl) }
 
 -- THE SAME COURSE
@@ -32,5 +32,5 @@ module _ {Dir S : Type 0} {course its : Course Dir Fault S} (same : its ≡ cour
   pub same_made : {files files_now : Files} {image now : Files → Type 0} {old new : Moment} → MakesAt (on_devices course) how files image files_now now old new → MakesAt (on_devices its) how files image files_now now old new
   same_made {files} {files_now} {image} {now} {old} {new} made = subst (λ (x : Course Dir Fault S). MakesAt (on_devices x) how files image files_now now old new) (sym same) made
 
-  pub same_told : {out now : List Line} → Tells course how out now → Tells its how out now
+  pub same_told : {out now : List Entry} → Tells course how out now → Tells its how out now
   same_told {out} {now} told = subst (λ (x : Course Dir Fault S). Tells x how out now) (sym same) told

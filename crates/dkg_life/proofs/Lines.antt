@@ -3,7 +3,7 @@ use Rattle.std.proofs.Common.{◌≡◌, List, [], ◌∷◌, ◌++◌, Result, 
 use Rattle.std.specs.Prelude.{OnOk, OnErr, IfErr}
 use Rattle.dkg_journal.specs.Burn.{Burn}
 use Rattle.dkg_journal.specs.Names.{Files}
-use Rattle.dkg_infos.specs.declared.entry.Entry.{Entry as Line}
+use Rattle.dkg_infos.specs.declared.entry.Entry.{Entry}
 use Rattle.dkg_infos.specs.declared.fault.Fault.{Fault}
 use Rattle.dkg_infos.specs.declared.fault.Fault.TheVariants.{NoMemory}
 use Rattle.dkg_store.specs.Acts as acts_of
@@ -15,7 +15,7 @@ use Rattle.dkg_life.specs.declared.stop.Stop.TheVariants.{Fault as Faulted}
 use Rattle.dkg_life.specs.Ends.{by_stop, ends_in}
 use Rattle.dkg_core.specs.Said.{Said}
 
-module _ {S : Type 0} (line : Line) (end : S) {out now : List Line} where
+module _ {S : Type 0} (line : Entry) (end : S) {out now : List Entry} where
   -- over the devices, which it doesn't touch
   pub line_made : (result : Result (Unit {0}) Stop) (files : Files) (image : Files → Type 0) (s : Secrets) (f : Burn)
       → OnOk result (now ≡ out ++ line ∷ []) → OnErr result (now ≡ out) → IfErr result (λ stop. stop ≡ Faulted NoMemory)

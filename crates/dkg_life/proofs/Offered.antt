@@ -10,7 +10,7 @@ use Rattle.dkg_values.specs.Rising.{lookup}
 use Rattle.dkg_ceremony.specs.declared.round.RoundParts.{RoundParts as Round}
 use Rattle.dkg_fence.specs.Readiness.{Readiness}
 use Rattle.dkg_journal.specs.Names.{Files}
-use Rattle.dkg_infos.specs.declared.entry.Entry.{Entry as Line}
+use Rattle.dkg_infos.specs.declared.entry.Entry.{Entry}
 use Rattle.dkg_infos.specs.declared.entry.Entry.TheVariants.{Offer}
 use Rattle.dkg_infos.specs.declared.fault.Fault.{Fault}
 use Rattle.dkg_store.specs.Acts.{Ended, Moment, went}
@@ -95,7 +95,7 @@ module _ {Dir : Type 0} (c : Fixed Dir) (round : Round) (public : List ℕ) wher
     own_made {files} {files_now} {image} {next} {old} {new} made =
         subst (λ (x : Course Dir Fault (Live Dir)). MakesAt (on_devices x) how files image files_now next old new) (sym (offers_own player private mine st)) made
 
-    pub own_told : {out now : List Line} → Tells (dealing.offers_to_itself c round public private st) how out now → Tells (offers ((player, private) ∷ []) st) how out now
+    pub own_told : {out now : List Entry} → Tells (dealing.offers_to_itself c round public private st) how out now → Tells (offers ((player, private) ∷ []) st) how out now
     own_told {out} {now} told = subst (λ (x : Course Dir Fault (Live Dir)). Tells x how out now) (sym (offers_own player private mine st)) told
 
   -- SOME, AND ONE MORE
@@ -115,7 +115,7 @@ module _ {Dir : Type 0} (c : Fixed Dir) (round : Round) (public : List ℕ) wher
         (then_makes (offers done start) (λ s. offers (one ∷ []) s) mid how first
         (subst (λ (x : Course Dir Fault (Live Dir)). MakesAt (on_devices x) how files_mid between files_now next middle new) more_is second))
 
-    pub more_told : (how : Ended Fault (Live Dir)) {out middle now : List Line} → Tells (offers done start) (went mid) out middle → Tells one_more how middle now
+    pub more_told : (how : Ended Fault (Live Dir)) {out middle now : List Entry} → Tells (offers done start) (went mid) out middle → Tells one_more how middle now
         → Tells (offers (done ++ one ∷ []) start) how out now
     more_told how {out} {middle} {now} first second =
         subst (λ (x : Course Dir Fault (Live Dir)). Tells x how out now) (sym (offers_split done (one ∷ []) start))
@@ -135,7 +135,7 @@ module _ {Dir : Type 0} (c : Fixed Dir) (round : Round) (public : List ℕ) wher
           subst (λ (x : Course Dir Fault (Live Dir)). MakesAt (on_devices x) (by_stop stop) files image files_now next old new) (sym whole)
           (early_makes (offers (done ++ one ∷ []) start) (λ s. offers rest s) stop (more_makes (by_stop stop) first second))
 
-      pub end_told : (stop : Stop) {out middle now : List Line} → Tells (offers done start) (went mid) out middle → Tells one_more (by_stop stop) middle now
+      pub end_told : (stop : Stop) {out middle now : List Entry} → Tells (offers done start) (went mid) out middle → Tells one_more (by_stop stop) middle now
           → Tells (offers all start) (by_stop stop) out now
       end_told stop {out} {middle} {now} first second =
           subst (λ (x : Course Dir Fault (Live Dir)). Tells x (by_stop stop) out now) (sym whole)
@@ -224,7 +224,7 @@ module _ {Dir : Type 0} (c : Fixed Dir) (round : Round) (dealer : Dealer) (besid
         subst (λ (l : List (ℕ × ℕ)). MakesAt (on_devices (dealing.offers c round dealer.public l (live_of beside fence start))) how files image files_now next old new) (sym (halves_more done (player, public, private)))
         (more_makes c round dealer.public (private_halves_of done) (player, private) (live_of beside fence start) (live_of beside fence here) public same how first second)
 
-    pub turn_said : (how : Ended Fault (Live Dir)) {out middle now : List Line} → Tells before (went (live_of beside fence here)) out middle → Tells turn_of how middle now
+    pub turn_said : (how : Ended Fault (Live Dir)) {out middle now : List Entry} → Tells before (went (live_of beside fence here)) out middle → Tells turn_of how middle now
         → Tells (dealing.offers c round dealer.public (private_halves_of (done ++ (player, public, private) ∷ [])) (live_of beside fence start)) how out now
     turn_said how {out} {middle} {now} first second =
         subst (λ (l : List (ℕ × ℕ)). Tells (dealing.offers c round dealer.public l (live_of beside fence start)) how out now) (sym (halves_more done (player, public, private)))
@@ -240,7 +240,7 @@ module _ {Dir : Type 0} (c : Fixed Dir) (round : Round) (dealer : Dealer) (besid
       turn_broken stop first second =
           end_makes c round dealer.public (private_halves_of done) (player, private) (live_of beside fence start) (live_of beside fence here) public same (private_halves_of rest) (private_halves_of all) are_halves stop first second
 
-      pub turn_unsaid : (stop : Stop) {out middle now : List Line} → Tells before (went (live_of beside fence here)) out middle → Tells turn_of (by_stop stop) middle now
+      pub turn_unsaid : (stop : Stop) {out middle now : List Entry} → Tells before (went (live_of beside fence here)) out middle → Tells turn_of (by_stop stop) middle now
           → Tells (dealing.offers c round dealer.public (private_halves_of all) (live_of beside fence start)) (by_stop stop) out now
       turn_unsaid stop first second =
           end_told c round dealer.public (private_halves_of done) (player, private) (live_of beside fence start) (live_of beside fence here) public same (private_halves_of rest) (private_halves_of all) are_halves stop first second
@@ -251,7 +251,7 @@ module _ {Dir : Type 0} (c : Fixed Dir) (round : Round) (public : List ℕ) (st 
       → MakesAt (on_devices (dealing.offers c round public (private_halves_of all) st)) how files image files_now next old new
   all_made {files} {files_now} {image} {next} {old} {new} made = subst (λ (l : List (ℕ × List ℕ × ℕ)). MakesAt (on_devices (dealing.offers c round public (private_halves_of l) st)) how files image files_now next old new) same made
 
-  pub all_told : {out now : List Line} → Tells (dealing.offers c round public (private_halves_of done) st) how out now → Tells (dealing.offers c round public (private_halves_of all) st) how out now
+  pub all_told : {out now : List Entry} → Tells (dealing.offers c round public (private_halves_of done) st) how out now → Tells (dealing.offers c round public (private_halves_of all) st) how out now
   all_told {out} {now} told = subst (λ (l : List (ℕ × List ℕ × ℕ)). Tells (dealing.offers c round public (private_halves_of l) st) how out now) same told
 
 -- WHERE THIS NODE DEALS
@@ -297,7 +297,7 @@ module _ {Dir : Type 0} (c : Fixed Dir) (beside : Beside Dir) (fence : Readiness
           → MakesAt (on_devices (dealing.offers c round dealer.public (private_halves_of sent) st)) how files image files_now next old new → MakesAt (on_devices (dealing.deals c st)) how files image files_now next old new
       deals_made how {files} {files_now} {image} {next} {old} {new} made = subst (λ (x : Course Dir Fault (Live Dir)). MakesAt (on_devices x) how files image files_now next old new) (sym deals_as) made
 
-      pub deals_told : (how : Ended Fault (Live Dir)) {out now : List Line} → Tells (dealing.offers c round dealer.public (private_halves_of sent) st) how out now → Tells (dealing.deals c st) how out now
+      pub deals_told : (how : Ended Fault (Live Dir)) {out now : List Entry} → Tells (dealing.offers c round dealer.public (private_halves_of sent) st) how out now → Tells (dealing.deals c st) how out now
       deals_told how {out} {now} told = subst (λ (x : Course Dir Fault (Live Dir)). Tells x how out now) (sym deals_as) told
 
 pub sent_halves : {Dir : Type 0} (life : Life Dir) (dealer : Dealer) → life.dealer ≡ Some dealer → (sent : List (ℕ × List ℕ × ℕ)) → sent ≡ with_public dealer.public (unsent dealer.acks dealer.privates dealer.round.players)
@@ -311,5 +311,5 @@ module _ {Dir : Type 0} (course : Course Dir Fault (Live Dir)) (st : Live Dir) (
   pub passes_made : (files : Files) (image : Files → Type 0) (m : Moment) → MakesAt (on_devices course) (went st) files image files image m m
   passes_made files image m = subst (λ (x : Course Dir Fault (Live Dir)). MakesAt (on_devices x) (went st) files image files image m m) (sym is) (makes_nothing files image m refl)
 
-  pub passes_told : (out : List Line) → Tells course (went st) out out
+  pub passes_told : (out : List Entry) → Tells course (went st) out out
   passes_told out = subst (λ (x : Course Dir Fault (Live Dir)). Tells x (went st) out out) (sym is) (record { lines = []; added = sym (append-nil out); by = (refl, refl) })

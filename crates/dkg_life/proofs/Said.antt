@@ -2,7 +2,7 @@
 use Rattle.std.proofs.Common.{◌≡◌, inl, inr, ℕ, List, [], ◌∷◌, ◌++◌, Option, Some, None, refl, sym, ◌∙◌, ap, subst, append_assoc, append-nil}
 use Rattle.std.specs.FinMap.{empty}
 use Rattle.dkg_journal.specs.Burn.{Burn}
-use Rattle.dkg_infos.specs.declared.entry.Entry.{Entry as Line}
+use Rattle.dkg_infos.specs.declared.entry.Entry.{Entry}
 use Rattle.dkg_store.specs.Acts as acts_of
 use Rattle.dkg_infos.specs.declared.fault.Fault.{Fault}
 use Rattle.dkg_store.specs.Acts.{Acts, Held, held_in, World, says, does, Completes, Faults, Breaks, Runs, Cause, Ended, went, stopped, broken, bind}
@@ -21,29 +21,29 @@ use Rattle.dkg_core.specs.Said.{SaysAll, SaysUpTo, SaysFirst, SaysBy, Said}
 
 module _ {F S T : Type 0} (next : S → Acts F T) where
   -- all lines of the first, and then those of the next
-  says_next : (how : Ended F T) (acts : Acts F S) (end : S) (lines more : List Line) → SaysAll acts end lines → SaysBy (next end) how more → SaysBy (bind acts next) how (lines ++ more)
-  says_next (went last) (acts_of.Say line acts) end lines more a b = (a.0 ++ more, ap (λ (l : List Line). l ++ more) a.1, says_next (went last) acts end a.0 more a.2 b)
+  says_next : (how : Ended F T) (acts : Acts F S) (end : S) (lines more : List Entry) → SaysAll acts end lines → SaysBy (next end) how more → SaysBy (bind acts next) how (lines ++ more)
+  says_next (went last) (acts_of.Say line acts) end lines more a b = (a.0 ++ more, ap (λ (l : List Entry). l ++ more) a.1, says_next (went last) acts end a.0 more a.2 b)
   says_next (went last) (acts_of.Do op acts) end lines more a b = says_next (went last) acts end lines more a b
   says_next (went last) (acts_of.Ask f) end lines more a b = (a.0, says_next (went last) (f a.0) end lines more a.1 b)
   says_next (went last) (acts_of.Goes its) end lines more a b =
-      subst (λ (l : List Line). SaysAll (next its) last (l ++ more)) (sym a.0) (subst (λ (s : S). SaysAll (next s) last more) a.1 b)
+      subst (λ (l : List Entry). SaysAll (next its) last (l ++ more)) (sym a.0) (subst (λ (s : S). SaysAll (next s) last more) a.1 b)
   says_next (went last) (acts_of.Stops fault) end lines more a b = absurd a
-  says_next (stopped its) (acts_of.Say line acts) end lines more a b = (a.0 ++ more, ap (λ (l : List Line). l ++ more) a.1, says_next (stopped its) acts end a.0 more a.2 b)
+  says_next (stopped its) (acts_of.Say line acts) end lines more a b = (a.0 ++ more, ap (λ (l : List Entry). l ++ more) a.1, says_next (stopped its) acts end a.0 more a.2 b)
   says_next (stopped its) (acts_of.Do op acts) end lines more a b = says_next (stopped its) acts end lines more a b
   says_next (stopped its) (acts_of.Ask f) end lines more a b = (a.0, says_next (stopped its) (f a.0) end lines more a.1 b)
   says_next (stopped its) (acts_of.Goes e) end lines more a b =
-      subst (λ (l : List Line). SaysUpTo (next e) its (l ++ more)) (sym a.0) (subst (λ (s : S). SaysUpTo (next s) its more) a.1 b)
+      subst (λ (l : List Entry). SaysUpTo (next e) its (l ++ more)) (sym a.0) (subst (λ (s : S). SaysUpTo (next s) its more) a.1 b)
   says_next (stopped its) (acts_of.Stops fault) end lines more a b = absurd a
   says_next (broken cause) (acts_of.Say line acts) end lines more a b =
-      inr (a.0 ++ more, ap (λ (l : List Line). l ++ more) a.1, says_next (broken cause) acts end a.0 more a.2 b)
+      inr (a.0 ++ more, ap (λ (l : List Entry). l ++ more) a.1, says_next (broken cause) acts end a.0 more a.2 b)
   says_next (broken cause) (acts_of.Do op acts) end lines more a b = inr (says_next (broken cause) acts end lines more a b)
   says_next (broken cause) (acts_of.Ask f) end lines more a b = inr (a.0, says_next (broken cause) (f a.0) end lines more a.1 b)
   says_next (broken cause) (acts_of.Goes e) end lines more a b =
-      subst (λ (l : List Line). SaysFirst (next e) (l ++ more)) (sym a.0) (subst (λ (s : S). SaysFirst (next s) more) a.1 b)
+      subst (λ (l : List Entry). SaysFirst (next e) (l ++ more)) (sym a.0) (subst (λ (s : S). SaysFirst (next s) more) a.1 b)
   says_next (broken cause) (acts_of.Stops fault) end lines more a b = absurd a
 
   -- the first lines of the first
-  says_first : (acts : Acts F S) (lines : List Line) → SaysFirst acts lines → SaysFirst (bind acts next) lines
+  says_first : (acts : Acts F S) (lines : List Entry) → SaysFirst acts lines → SaysFirst (bind acts next) lines
   says_first (acts_of.Say line acts) lines (inl none) = inl none
   says_first (acts_of.Say line acts) lines (inr more) = inr (more.0, more.1, says_first acts more.0 more.2)
   says_first (acts_of.Do op acts) lines (inl none) = inl none
@@ -60,10 +60,10 @@ module _ {F S T : Type 0} (next : S → Acts F T) where
       none_first (acts_of.Stops fault) = refl
   says_first (acts_of.Stops fault) lines a = a
 
-  pub said_next : {acts : Acts F S} {how : Ended F T} {end : S} {out mid now : List Line} → Said acts (went end) out mid → Said (next end) how mid now → Said (bind acts next) how out now
+  pub said_next : {acts : Acts F S} {how : Ended F T} {end : S} {out mid now : List Entry} → Said acts (went end) out mid → Said (next end) how mid now → Said (bind acts next) how out now
   said_next {acts = acts} {how = how} {end = end} {out = out} first second = record {
     lines = first.lines ++ second.lines;
-    added = second.added ∙ ap (λ (l : List Line). l ++ second.lines) first.added ∙ append_assoc out first.lines second.lines;
+    added = second.added ∙ ap (λ (l : List Entry). l ++ second.lines) first.added ∙ append_assoc out first.lines second.lines;
     by = says_next how acts end first.lines second.lines first.by second.by;
   }
 
@@ -76,7 +76,7 @@ none_first (acts_of.Goes its) = refl
 none_first (acts_of.Stops fault) = refl
 
 -- An error from outside at which nothing was said.
-pub said_none : {S : Type 0} (acts : Acts Fault S) (e : StoreError) → IsOfPruning e → {out now : List Line} → now ≡ out → Said acts (by_stop (stop_of e)) out now
+pub said_none : {S : Type 0} (acts : Acts Fault S) (e : StoreError) → IsOfPruning e → {out now : List Entry} → now ≡ out → Said acts (by_stop (stop_of e)) out now
 said_none acts Disk is {out} same = record { lines = []; added = same ∙ sym (append-nil out); by = none_first acts }
 said_none acts SecretsFailed is {out} same = record { lines = []; added = same ∙ sym (append-nil out); by = none_first acts }
 said_none acts (Corrupt name place) is {out} same = record { lines = []; added = same ∙ sym (append-nil out); by = none_first acts }
@@ -107,11 +107,11 @@ pruning_of_due record_at disk secrets cut want Cut due = tt
 pruning_of_due record_at disk secrets cut want NoMemory due = tt
 
 -- A stop ends all that stands behind it.
-module _ {S T : Type 0} {acts : Acts Fault S} (next : S → Acts Fault T) {out now : List Line} where
+module _ {S T : Type 0} {acts : Acts Fault S} (next : S → Acts Fault T) {out now : List Entry} where
   stopped_early : (its : Fault) → Said acts (stopped its) out now → Said (bind acts next) (stopped its) out now
   stopped_early its said = record { lines = said.lines; added = said.added; by = says_up_to acts said.lines said.by }
     where
-      says_up_to : (acts : Acts Fault S) (lines : List Line) → SaysUpTo acts its lines → SaysUpTo (bind acts next) its lines
+      says_up_to : (acts : Acts Fault S) (lines : List Entry) → SaysUpTo acts its lines → SaysUpTo (bind acts next) its lines
       says_up_to (acts_of.Say line acts) lines a = (a.0, a.1, says_up_to acts a.0 a.2)
       says_up_to (acts_of.Do op acts) lines a = says_up_to acts lines a
       says_up_to (acts_of.Ask f) lines a = (a.0, says_up_to (f a.0) lines a.1)
@@ -133,18 +133,18 @@ module _ {S T : Type 0} {acts : Acts Fault S} (next : S → Acts Fault T) {out n
 -- WHAT RAN, SAID ITS LINES
 
 -- these lines came to a transcript, and they are so
-pub record Came (out now : List Line) (P : List Line → Type 0) : Type 0 where
-  pub lines : List Line
+pub record Came (out now : List Entry) (P : List Entry → Type 0) : Type 0 where
+  pub lines : List Entry
   pub added : now ≡ out ++ lines
   pub are : P lines
 
-none_came : {out now : List Line} {P : List Line → Type 0} → now ≡ out → P [] → Came out now P
+none_came : {out now : List Entry} {P : List Entry → Type 0} → now ≡ out → P [] → Came out now P
 none_came {out} is p = record { lines = []; added = is ∙ sym (append-nil out); are = p }
 
-one_more : (line : Line) {out now : List Line} {P Q : List Line → Type 0} → Came (out ++ line ∷ []) now P → ((lines : List Line) → P lines → Q (line ∷ lines)) → Came out now Q
+one_more : (line : Entry) {out now : List Entry} {P Q : List Entry → Type 0} → Came (out ++ line ∷ []) now P → ((lines : List Entry) → P lines → Q (line ∷ lines)) → Came out now Q
 one_more line {out} came so = record { lines = line ∷ came.lines; added = came.added ∙ append_assoc out (line ∷ []) came.lines; are = so came.lines came.are }
 
-as_lines : {out now : List Line} {P Q : List Line → Type 0} → Came out now P → ((lines : List Line) → P lines → Q lines) → Came out now Q
+as_lines : {out now : List Entry} {P Q : List Entry → Type 0} → Came out now P → ((lines : List Entry) → P lines → Q lines) → Came out now Q
 as_lines came so = record { lines = came.lines; added = came.added; are = so came.lines came.are }
 
 module _ {F S : Type 0} where
@@ -181,7 +181,7 @@ pub nothing_held : Held
 nothing_held = held_in empty (record { shares = empty; seeds = empty; privates = empty })
 
 -- .. and so did a course that touches no device.
-pub speaks_tells : {Dir S : Type 0} (course : Course Dir Fault S) (how : Ended Fault S) {out now : List Line} → Speaks course how out now → Tells course how out now
+pub speaks_tells : {Dir S : Type 0} (course : Course Dir Fault S) (how : Ended Fault S) {out now : List Entry} → Speaks course how out now → Tells course how out now
 speaks_tells course how {out} {now} speaks =
     let f : Burn = record { call = 0; pick = 0; spent = 0 } in
     said_of_runs (on_devices course) how (record { out = out; held = nothing_held; fuse = f }) (record { out = now; held = nothing_held; fuse = f }) (speaks nothing_held f)

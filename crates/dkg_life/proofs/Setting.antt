@@ -9,7 +9,7 @@ use Rattle.dkg_values.specs.Rising.{lookup}
 use Rattle.dkg_fence.specs.Readiness.{Readiness}
 use Rattle.dkg_journal.specs.Burn.{Burn}
 use Rattle.dkg_journal.specs.Names.{Files}
-use Rattle.dkg_infos.specs.declared.entry.Entry.{Entry as Line}
+use Rattle.dkg_infos.specs.declared.entry.Entry.{Entry}
 use Rattle.dkg_infos.specs.declared.entry.Entry.TheVariants.{Committed}
 use Rattle.dkg_infos.specs.declared.fault.Fault.{Fault}
 use Rattle.dkg_infos.specs.declared.fault.Fault.TheVariants.{NoMemory}
@@ -90,7 +90,7 @@ module _ {Dir : Type 0} (info : EpochInfo Dir) (seed : List ℕ) (share : Option
   then_tells done = acts_of.Say (Committed info.epoch share) (acts_of.Goes with_info)
 
   -- whatever the devices tell
-  pub commit_said : (end : Live Dir) → end ≡ with_info → (result : Result (Unit {0}) Stop) {out told : List Line}
+  pub commit_said : (end : Live Dir) → end ≡ with_info → (result : Result (Unit {0}) Stop) {out told : List Entry}
       → OnOk result (told ≡ out ++ Committed info.epoch share ∷ []) → OnErr result (told ≡ out) → IfErr result (λ stop. stop ≡ Faulted NoMemory)
       → Said (on_devices (setup.commits info seed share st)) (ends_in end result) out told
   commit_said end is (Ok done) {out} {told} told_it untold memory = record { lines = Committed info.epoch share ∷ []; added = told_it; by = says share }
@@ -103,7 +103,7 @@ module _ {Dir : Type 0} (info : EpochInfo Dir) (seed : List ℕ) (share : Option
       (said_none (on_devices (setup.commits info seed share st)) StoreWant tt untold)
 
   module _ {files files_now : Files} {image now : Files → Type 0} where
-    pub commit_made : (end : Live Dir) → end ≡ with_info → (result : Result (Unit {0}) Stop) {old : Moment} {out told : List Line} {s : Secrets} {f : Burn}
+    pub commit_made : (end : Live Dir) → end ≡ with_info → (result : Result (Unit {0}) Stop) {old : Moment} {out told : List Entry} {s : Secrets} {f : Burn}
         → MadeAt (committing info.epoch seed share) (went tt) files image files_now now old (moment out s f) → Burns {F = StoreError} {S = Unit {0}} (went tt) old.fuse f
         → OnOk result (told ≡ out ++ Committed info.epoch share ∷ []) → OnErr result (told ≡ out) → IfErr result (λ stop. stop ≡ Faulted NoMemory)
         → MakesAt (on_devices (setup.commits info seed share st)) (ends_in end result) files image files_now now old (moment told s f)
@@ -143,6 +143,6 @@ pruned_live min beside fence life store records current = λ i. record (live_of 
 }
 
 -- It says nothing.
-pub prune_said : {Dir : Type 0} (min : ℕ) (st end : Live Dir) → end ≡ record st { records = setup.records_from min st.records } → (out : List Line)
+pub prune_said : {Dir : Type 0} (min : ℕ) (st end : Live Dir) → end ≡ record st { records = setup.records_from min st.records } → (out : List Entry)
     → Said (on_devices (setup.prunes min st)) (went end) out out
 prune_said min st end is out = record { lines = []; added = sym (append-nil out); by = (refl, is) }

@@ -11,7 +11,7 @@ use Rattle.std.proofs.lemmas.Cmp.{nat_cmp_total}
 use Rattle.dkg_values.specs.Rising.{lookup}
 use Rattle.dkg_journal.specs.Burn.{Burn}
 use Rattle.dkg_journal.specs.Names.{Files}
-use Rattle.dkg_infos.specs.declared.entry.Entry.{Entry as Line}
+use Rattle.dkg_infos.specs.declared.entry.Entry.{Entry}
 use Rattle.dkg_infos.specs.declared.fault.Fault.{Fault}
 use Rattle.dkg_infos.specs.declared.info.EpochInfo.{EpochInfo}
 use Rattle.dkg_infos.specs.contracts.outcome.EpochOutcome.{the_type}
@@ -135,7 +135,7 @@ none_found epoch = newest_none empty epoch (λ j below. get-empty nat_cmp j)
 -- BOTH ARE READ
 
 -- acts that left the disk and the fuse as they were
-pub still_makes : {D S : Type 0} (files : D → Files) (image : D → Files → Type 0) (acts : Acts Fault S) (how : Ended Fault S) {old new : D} {out : List Line} {s t : Secrets} {f g : Burn} → new ≡ old → g ≡ f
+pub still_makes : {D S : Type 0} (files : D → Files) (image : D → Files → Type 0) (acts : Acts Fault S) (how : Ended Fault S) {old new : D} {out : List Entry} {s t : Secrets} {f g : Burn} → new ≡ old → g ≡ f
     → MadeAt acts how (files old) (image old) (files old) (image old) (moment out s f) (moment out t f)
     → MakesAt acts how (files old) (image old) (files new) (image new) (moment out s f) (moment out t g)
 still_makes {D} files image acts how {old} {new} {out} {s} {t} {f} {g} same still made =
@@ -143,7 +143,7 @@ still_makes {D} files image acts how {old} {new} {out} {s} {t} {f} {g} same stil
     (subst (λ (x : Burn). MakesAt acts how (files old) (image old) (files old) (image old) (moment out s f) (moment out t x)) (sym still)
     (record { made = made; burns = burns_still how refl }))
 
-none_read : {S : Type 0} (acts : Acts Fault S) (files : Files) (image : Files → Type 0) (secrets want : Type 0) (e : StoreError) → ErrorIsDue e ⊥ secrets ⊥ want → {out : List Line} {s t : Secrets} {f : Burn} → t ≡ s
+none_read : {S : Type 0} (acts : Acts Fault S) (files : Files) (image : Files → Type 0) (secrets want : Type 0) (e : StoreError) → ErrorIsDue e ⊥ secrets ⊥ want → {out : List Entry} {s t : Secrets} {f : Burn} → t ≡ s
     → MadeAt acts (by_stop (stop_of e)) files image files image (moment out s f) (moment out t f)
 none_read acts files image secrets want Disk due same = absurd due
 none_read acts files image secrets want SecretsFailed due same = made_none_held files image acts by_secrets tt same refl
@@ -156,7 +156,7 @@ none_read acts files image secrets want NoMemory due same = made_none_held files
 
 -- a call that only read, and failed
 pub read_fails : {D S : Type 0} (files : D → Files) (image : D → Files → Type 0) (acts : Acts Fault S) (secrets want : Type 0) (e : StoreError) → ErrorIsDue e ⊥ secrets ⊥ want
-    → {old new : D} {out : List Line} {s t : Secrets} {f g : Burn} → new ≡ old → t ≡ s → g ≡ f
+    → {old new : D} {out : List Entry} {s t : Secrets} {f g : Burn} → new ≡ old → t ≡ s → g ≡ f
     → MakesAt acts (by_stop (stop_of e)) (files old) (image old) (files new) (image new) (moment out s f) (moment out t g)
 read_fails files image acts secrets want e due {old} same kept still =
     still_makes files image acts (by_stop (stop_of e)) same still (none_read acts (files old) (image old) secrets want e due kept)
@@ -166,7 +166,7 @@ module _ {Dir : Type 0} (c : Fixed Dir) (info : EpochInfo Dir) (share : Option �
   both_in h = (setup.recovered_share c (c.seen h) info, setup.seed_for c info.epoch (lookup info.epoch (c.seen h).seeds))
 
   pub both_read : {D : Type 0} (files : D → Files) (image : D → Files → Type 0) → ReadsPlanless c
-      → {old new : D} {out : List Line} {s t : Secrets} {f g : Burn} → new ≡ old → t ≡ s → g ≡ f
+      → {old new : D} {out : List Entry} {s t : Secrets} {f g : Burn} → new ≡ old → t ≡ s → g ≡ f
       → ((seen : Seen) → seen.shares ≡ maps.entries s.shares → setup.recovered_share c seen info ≡ share) → setup.seed_for c info.epoch (get s.seeds info.epoch) ≡ seed
       → MakesAt (on_devices (reads_secrets c info)) (went (share, seed)) (files old) (image old) (files new) (image new) (moment out s f) (moment out t g)
   both_read files image reads {old} {s = s} same kept still shared seeded =
@@ -194,7 +194,7 @@ module _ {Dir : Type 0} (c : Fixed Dir) (info : EpochInfo Dir) (seed : List ℕ)
   seed_in h = setup.seed_for c info.epoch (lookup info.epoch (c.seen h).seeds)
 
   pub seed_read : {D : Type 0} (files : D → Files) (image : D → Files → Type 0) → ReadsPlanless c
-      → {old new : D} {out : List Line} {s t : Secrets} {f g : Burn} → new ≡ old → t ≡ s → g ≡ f → setup.seed_for c info.epoch (get s.seeds info.epoch) ≡ seed
+      → {old new : D} {out : List Entry} {s t : Secrets} {f g : Burn} → new ≡ old → t ≡ s → g ≡ f → setup.seed_for c info.epoch (get s.seeds info.epoch) ≡ seed
       → MakesAt (on_devices (reads_seed c info)) (went seed) (files old) (image old) (files new) (image new) (moment out s f) (moment out t g)
   seed_read files image reads {old} {s = s} same kept still seeded =
       let h = held_in (files old) s in

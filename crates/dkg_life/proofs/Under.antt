@@ -2,7 +2,7 @@
 use Rattle.std.proofs.Common.{◌≡◌, inl, inr, List, Option, Some, None, refl, sym, ap, subst}
 use Rattle.dkg_journal.specs.Burn.{Burn}
 use Rattle.dkg_journal.specs.Names.{Files}
-use Rattle.dkg_infos.specs.declared.entry.Entry.{Entry as Line}
+use Rattle.dkg_infos.specs.declared.entry.Entry.{Entry}
 use Rattle.dkg_infos.specs.declared.fault.Fault.{Fault}
 use Rattle.dkg_store.specs.Acts as acts_of
 use Rattle.dkg_store.specs.Acts.{Acts, World, says, does, held_in, at, moment, Moment, Stands, MadeAt, Runs, Completes, Faults, Breaks, Cause, Ended, went, stopped, broken, IfWent}
@@ -107,7 +107,7 @@ module _ {S T : Type 0} {acts : Acts Fault S} (next : S → Acts Fault T) {files
 -- NO DEVICE TOUCHED: what runs over anything that is held runs over these devices
 
 module _ {Dir S : Type 0} (course : Course Dir Fault S) where
-  pub speaks_made : (how : Ended Fault S) (files : Files) (image : Files → Type 0) {out now : List Line} {s : Secrets} {f : Burn} → Speaks course how out now
+  pub speaks_made : (how : Ended Fault S) (files : Files) (image : Files → Type 0) {out now : List Entry} {s : Secrets} {f : Burn} → Speaks course how out now
       → MadeAt (on_devices course) how files image files image (moment out s f) (moment now s f)
   speaks_made how files image {out} {now} {s} {f} speaks = record {
     made = λ stands c here. subst (λ (x : Files). Runs (on_devices course) how (at (moment out s f) files) (at (moment now s f) x)) (sym (stands.lands.only c here)) (speaks (held_in files s) f);

@@ -13,7 +13,7 @@ use Rattle.dkg_core.specs.Seen.{Seen}
 use Rattle.dkg_store.specs.Corrupt.{IsAlien}
 use Rattle.dkg_store.specs.Recorded.{restored_of}
 use Rattle.dkg_secrets.specs.Secrets.{Secrets}
-use Rattle.dkg_infos.specs.declared.entry.Entry.{Entry as Line}
+use Rattle.dkg_infos.specs.declared.entry.Entry.{Entry}
 use Rattle.dkg_infos.specs.declared.entry.Entry.TheVariants.{Opened}
 use Rattle.dkg_infos.specs.declared.fault.Fault.{Fault}
 use Rattle.dkg_core.specs.Courses.{Course, Say, Do, Ask, Goes}
@@ -63,7 +63,7 @@ pub record StaysShut (image next : Files → Type 0) (held held_now : Secrets) :
   pub same : held_now ≡ held
 
 -- A journal that is not in its grammar is not opened: nothing is told then, and all stays.
-pub record OpensReadable {T : Type 0} (Readable : Type 0) (result : Result T Stop) (out now : List Line) (image next : Files → Type 0) (held held_now : Secrets) : Type 0 where
+pub record OpensReadable {T : Type 0} (Readable : Type 0) (result : Result T Stop) (out now : List Entry) (image next : Files → Type 0) (held held_now : Secrets) : Type 0 where
   pub ok : OnOk result Readable
   pub untold : (Readable → ⊥) → now ≡ out
   pub shut : (Readable → ⊥) → StaysShut image next held held_now

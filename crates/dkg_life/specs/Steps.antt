@@ -18,7 +18,7 @@ use Rattle.dkg_infos.specs.declared.info.EpochInfo.{EpochInfo}
 use Rattle.dkg_infos.specs.declared.participants.ParticipantsError.{ParticipantsError}
 use Rattle.dkg_ceremony.specs.declared.ceremony.DealingError.{DealingError}
 use Rattle.dkg_infos.specs.Validation.{validation}
-use Rattle.dkg_infos.specs.declared.entry.Entry.{Entry as Line}
+use Rattle.dkg_infos.specs.declared.entry.Entry.{Entry}
 use Rattle.dkg_infos.specs.declared.entry.Entry.TheVariants.{Ack, Blocked}
 use Rattle.dkg_values.specs.Rising.{lookup}
 use Rattle.dkg_core.specs.Courses.{Course, Goes, Stops}
@@ -93,7 +93,7 @@ abbrev pub StandsIn : {Dir : Type 0} → Fixed Dir → Live Dir → Phase → Ty
 StandsIn c st phase = phase ≡ phase_of c (awaited_height st)
 
 -- the line that answers a dealing
-abbrev pub told_by : (epoch dealer : ℕ) → Result (List ℕ) DealingError → Line
+abbrev pub told_by : (epoch dealer : ℕ) → Result (List ℕ) DealingError → Entry
 told_by epoch dealer (Ok ack) = Ack epoch dealer ack
 told_by epoch dealer (Err e) = Blocked dealer (why_dealing e)
 

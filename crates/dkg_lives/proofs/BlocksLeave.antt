@@ -9,7 +9,7 @@ use Rattle.dkg_values.specs.Rising.{lookup}
 use Rattle.dkg_ceremony.specs.declared.signed_log.SignedDealerLog.{SignedDealerLog}
 use Rattle.dkg_ceremony.specs.Schedule.{epoch_of, midpoint}
 use Rattle.dkg_types.specs.Blocks.{Block}
-use Rattle.dkg_infos.specs.declared.entry.Entry.{Entry as Line}
+use Rattle.dkg_infos.specs.declared.entry.Entry.{Entry}
 use Rattle.dkg_infos.specs.declared.entry.Entry.TheVariants.{Recorded}
 use Rattle.dkg_infos.specs.declared.fault.Fault.{Fault}
 use Rattle.dkg_infos.specs.declared.fault.Fault.TheVariants.{HeightRange, ConflictingBlock, SkippedHeight, DetachedBlock, OutOfWindow}
@@ -57,7 +57,7 @@ went_broken : {F S : Type 0} (end : S) (cause : Cause) → ◌≡◌ {A = Ended 
 went_broken end cause e = cc
 
 -- each dealing that is given back was so before, or was told
-abbrev pub AreTold : (m0 : Pairs) (base : List Line) → World → Type 0
+abbrev pub AreTold : (m0 : Pairs) (base : List Entry) → World → Type 0
 AreTold m0 base w = (key : ℕ × ℕ) (pair : List ℕ × ℕ) → get (recovered_in w.held) key ≡ Some pair → (get m0 key ≡ Some pair) ⊎ IsToldSince base w key pair
 
 -- a log that is recorded is silent of dealings
@@ -79,7 +79,7 @@ module _ {Dir : Type 0} (c : Fixed Dir) (st : Live Dir) (block : Block Dir) (w :
     abbrev P : World → Type 0
     P x = IsNoOther m0 own x
 
-    told : (x : World) (line : Line) → IsAside line → P x → P (says x line)
+    told : (x : World) (line : Entry) → IsAside line → P x → P (says x line)
     told x line aside q = record { whole = q.whole; gives = q.gives }
 
     abbrev reach : ℕ
@@ -115,12 +115,12 @@ module _ {Dir : Type 0} (c : Fixed Dir) (st : Live Dir) (block : Block Dir) (w :
   -- A BLOCK THAT ISN'T APPLIED says nothing of dealings
 
   abbrev A : World → Type 0
-  A x = (lines : List Line) × (x.out ≡ w.out ++ lines) × AllByRecursion IsAside lines
+  A x = (lines : List Entry) × (x.out ≡ w.out ++ lines) × AllByRecursion IsAside lines
 
-  aside_more : (x : World) (line : Line) → IsAside line → A x → A (says x line)
-  aside_more x line aside q = (q.0 ++ line ∷ [], ap (λ (ls : List Line). ls ++ line ∷ []) q.1 ∙ append_assoc w.out q.0 (line ∷ []), all_and_one q.0 q.2)
+  aside_more : (x : World) (line : Entry) → IsAside line → A x → A (says x line)
+  aside_more x line aside q = (q.0 ++ line ∷ [], ap (λ (ls : List Entry). ls ++ line ∷ []) q.1 ∙ append_assoc w.out q.0 (line ∷ []), all_and_one q.0 q.2)
     where
-      all_and_one : (xs : List Line) → AllByRecursion IsAside xs → AllByRecursion IsAside (xs ++ line ∷ [])
+      all_and_one : (xs : List Entry) → AllByRecursion IsAside xs → AllByRecursion IsAside (xs ++ line ∷ [])
       all_and_one [] all = (aside, tt)
       all_and_one (y ∷ xs) all = (all.0, all_and_one xs all.1)
 
@@ -190,8 +190,8 @@ module _ {Dir : Type 0} (c : Fixed Dir) (st : Live Dir) (block : Block Dir) (w :
       | inr its ↦ inr (record {
         front = its.front;
         back = its.back ++ behind.lines;
-        out = behind.out ∙ ap (λ (ls : List Line). ls ++ behind.lines) its.out ∙ append_assoc w.out (its.front ++ Recorded key.0 key.1 pair.0 pair.1 ∷ its.back) behind.lines
-            ∙ ap (λ (ls : List Line). w.out ++ ls) (append_assoc its.front (Recorded key.0 key.1 pair.0 pair.1 ∷ its.back) behind.lines);
+        out = behind.out ∙ ap (λ (ls : List Entry). ls ++ behind.lines) its.out ∙ append_assoc w.out (its.front ++ Recorded key.0 key.1 pair.0 pair.1 ∷ its.back) behind.lines
+            ∙ ap (λ (ls : List Entry). w.out ++ ls) (append_assoc its.front (Recorded key.0 key.1 pair.0 pair.1 ∷ its.back) behind.lines);
       })
     ]
 
@@ -219,14 +219,14 @@ module _ {Dir : Type 0} (c : Fixed Dir) (st : Live Dir) (block : Block Dir) (w :
         let q : IsNoOther m0 (λ k v. ⊥) behind.mid = along_runs (IsNoOther m0 (λ k v. ⊥)) (on_devices (step c (Finalized block) st)) behind.half w behind.mid (walks (λ k v. ⊥) (λ judged is. absurd (not judged))) behind.run in
         elim (q.gives key pair (subst (λ (h : Held). get (recovered_in h) key ≡ Some pair) behind.held got)) [ inl was ↦ was | inr none ↦ absurd none ]
 
-    all_joined : (xs ys : List Line) → AllByRecursion IsAside xs → AllByRecursion IsAside ys → AllByRecursion IsAside (xs ++ ys)
+    all_joined : (xs ys : List Entry) → AllByRecursion IsAside xs → AllByRecursion IsAside ys → AllByRecursion IsAside (xs ++ ys)
     all_joined [] ys front back = back
     all_joined (x ∷ xs) ys front back = (front.0, all_joined xs ys front.1 back)
 
-    pub says_aside : (judged_block c block st ≡ Applied → ⊥) → (lines : List Line) × (new.out ≡ w.out ++ lines) × AllByRecursion IsAside lines
+    pub says_aside : (judged_block c block st ≡ Applied → ⊥) → (lines : List Entry) × (new.out ≡ w.out ++ lines) × AllByRecursion IsAside lines
     says_aside not =
         let front : A behind.mid = along_runs A (on_devices (step c (Finalized block) st)) behind.half w behind.mid (unapplied not) behind.run in
-        (front.0 ++ behind.lines, behind.out ∙ ap (λ (ls : List Line). ls ++ behind.lines) front.1 ∙ append_assoc w.out front.0 behind.lines, all_joined front.0 behind.lines front.2 behind.aside)
+        (front.0 ++ behind.lines, behind.out ∙ ap (λ (ls : List Entry). ls ++ behind.lines) front.1 ∙ append_assoc w.out front.0 behind.lines, all_joined front.0 behind.lines front.2 behind.aside)
 
     -- .. and where the step went to its end, that was told
     pub tells_own : IfWentTo ended (λ end. AreTold m0 w.out new)

@@ -11,7 +11,7 @@ use Rattle.dkg_fence.specs.declared.fence.Waited.{Waited}
 use Rattle.dkg_types.specs.BlockCodes.{info_of}
 use Rattle.dkg_types.specs.Blocks.{Block}
 use Rattle.dkg_infos.specs.declared.entry.Entry.TheVariants.{Acked, Entered, Halted}
-use Rattle.dkg_infos.specs.declared.entry.Entry.{Entry as Line}
+use Rattle.dkg_infos.specs.declared.entry.Entry.{Entry}
 use Rattle.dkg_infos.specs.declared.fault.Fault.TheVariants.{HeightRange, MissingEpochInfo, SkippedHeight, WrongEpoch}
 use Rattle.dkg_infos.specs.declared.info.EpochInfo.{EpochInfo}
 use Rattle.dkg_types.specs.declared.scheme.SchemeInfo.{SchemeInfo}
@@ -26,7 +26,7 @@ use Rattle.dkg_core.specs.SayingThrough.{SaysSo}
 use Rattle.dkg_core.specs.Setup as s
 use Rattle.dkg_core.proofs.SayingThrough.{so_behind, so_if, so_option}
 
-module _ {Dir : Type 0} (c : Fixed Dir) (P : Line → Type 0) (entered : (epoch : ℕ) → P (Entered epoch)) (halted : P Halted) (acked : (height : ℕ) → P (Acked height)) where
+module _ {Dir : Type 0} (c : Fixed Dir) (P : Entry → Type 0) (entered : (epoch : ℕ) → P (Entered epoch)) (halted : P Halted) (acked : (height : ℕ) → P (Acked height)) where
   abbrev Half_so : Course Dir NodeStop (Half Dir) → Type 0
   Half_so course = SaysSo P course
 

@@ -21,7 +21,7 @@ use Rattle.dkg_journal.proofs.Order.{Above, placed_above}
 use Rattle.dkg_types.specs.Blocks.{Block}
 use Rattle.dkg_types.specs.MessageCodes.{message_at}
 use Rattle.dkg_types.specs.PayloadCodes.{its_log}
-use Rattle.dkg_infos.specs.declared.entry.Entry.{Entry as Line}
+use Rattle.dkg_infos.specs.declared.entry.Entry.{Entry}
 use Rattle.dkg_infos.specs.declared.entry.Entry.TheVariants as lines
 use Rattle.dkg_infos.specs.declared.fault.Fault.{Fault}
 use Rattle.dkg_infos.specs.declared.fault.Fault.TheVariants.{ConflictingBlock, DetachedBlock, HeightRange, LocalState, OutOfWindow, SkippedHeight}
@@ -222,7 +222,7 @@ module _ (given : Held) (asked : List Pair) where
   lands_to stops goes (Stops fault) next h l comes more = l
 
   -- .. and of one that touches no device, and changes only what the life has of requests
-  pub lands_asked : {Dir : Type 0} (line : Line → Type 0) (base : Live Dir) (course : Course Dir Fault (Live Dir)) (h : Held) → asked ≡ base.records.dealings → IsKnown base h
+  pub lands_asked : {Dir : Type 0} (line : Entry → Type 0) (base : Live Dir) (course : Course Dir Fault (Live Dir)) (h : Held) → asked ≡ base.records.dealings → IsKnown base h
       → OnlySays line (λ end. end ≡ with_inclusion end.inclusion base) course → Lands course h
   lands_asked line base (Say one course) h is_asked a only = lands_asked line base course h is_asked a only.1
   lands_asked line base (Do op course) h is_asked a only = absurd only

@@ -19,7 +19,7 @@ use Rattle.dkg_secrets.specs.Secrets.{Secrets, Tries}
 use Rattle.dkg_secrets.specs.Secrets as of_secrets
 use Rattle.dkg_secrets.specs.declared.secrets.SecretOp.{SecretOp}
 use Rattle.dkg_secrets.specs.declared.secrets.SecretOp.TheVariants.{PutShare, PutSeed, PutDealing, Prune}
-use Rattle.dkg_infos.specs.declared.entry.Entry.{Entry as Line}
+use Rattle.dkg_infos.specs.declared.entry.Entry.{Entry}
 use Rattle.dkg_infos.specs.declared.entry.Entry.TheVariants.{Recorded, Offer}
 use Rattle.dkg_infos.specs.declared.fault.Fault.{Fault}
 use Rattle.dkg_infos.specs.declared.fault.Fault.TheVariants.{LocalState}
@@ -101,7 +101,7 @@ module _ (m0 : Pairs) (own : ℕ × ℕ → List ℕ × ℕ → Type 0) where
     ];
   }
 
-  said : (w : World) (line : Line) → Q w → Q (says w line)
+  said : (w : World) (line : Entry) → Q w → Q (says w line)
   said w line q = record { whole = q.whole; gives = q.gives }
 
   -- the same entries and secrets
@@ -281,30 +281,30 @@ end_is G (Stops fault) w new end a done = absurd done
 
 -- WHAT WAS TOLD since these lines
 
-pub record IsToldSince (base : List Line) (w : World) (key : ℕ × ℕ) (pair : List ℕ × ℕ) : Type 0 where
-  pub front : List Line
-  pub back : List Line
+pub record IsToldSince (base : List Entry) (w : World) (key : ℕ × ℕ) (pair : List ℕ × ℕ) : Type 0 where
+  pub front : List Entry
+  pub back : List Entry
   pub out : w.out ≡ base ++ (front ++ Recorded key.0 key.1 pair.0 pair.1 ∷ back)
 
 -- each dealing that is given back was so before, or was told
-abbrev pub TellsAll : (m0 : Pairs) (base : List Line) → World → Type 0
-TellsAll m0 base w = (added : List Line) × (w.out ≡ base ++ added)
+abbrev pub TellsAll : (m0 : Pairs) (base : List Entry) → World → Type 0
+TellsAll m0 base w = (added : List Entry) × (w.out ≡ base ++ added)
     × ((key : ℕ × ℕ) (pair : List ℕ × ℕ) → get (recovered_in w.held) key ≡ Some pair → (get m0 key ≡ Some pair) ⊎ IsToldSince base w key pair)
 
-told_more : (base : List Line) (w : World) (line : Line) (key : ℕ × ℕ) (pair : List ℕ × ℕ) → IsToldSince base w key pair → IsToldSince base (says w line) key pair
+told_more : (base : List Entry) (w : World) (line : Entry) (key : ℕ × ℕ) (pair : List ℕ × ℕ) → IsToldSince base w key pair → IsToldSince base (says w line) key pair
 told_more base w line key pair told = record {
   front = told.front;
   back = told.back ++ line ∷ [];
-  out = ap (λ (ls : List Line). ls ++ line ∷ []) told.out ∙ append_assoc base (told.front ++ Recorded key.0 key.1 pair.0 pair.1 ∷ told.back) (line ∷ [])
-      ∙ ap (λ (ls : List Line). base ++ ls) (append_assoc told.front (Recorded key.0 key.1 pair.0 pair.1 ∷ told.back) (line ∷ []));
+  out = ap (λ (ls : List Entry). ls ++ line ∷ []) told.out ∙ append_assoc base (told.front ++ Recorded key.0 key.1 pair.0 pair.1 ∷ told.back) (line ∷ [])
+      ∙ ap (λ (ls : List Entry). base ++ ls) (append_assoc told.front (Recorded key.0 key.1 pair.0 pair.1 ∷ told.back) (line ∷ []));
 }
 
-module _ (m0 : Pairs) (base : List Line) where
+module _ (m0 : Pairs) (base : List Entry) where
   abbrev T : World → Type 0
   T w = TellsAll m0 base w
 
-  pub tells_line : (w : World) (line : Line) → T w → T (says w line)
-  tells_line w line t = (t.0 ++ line ∷ [], ap (λ (ls : List Line). ls ++ line ∷ []) t.1 ∙ append_assoc base t.0 (line ∷ []), λ key pair got. elim (t.2 key pair got) [ inl was ↦ inl was | inr told ↦ inr (told_more base w line key pair told) ])
+  pub tells_line : (w : World) (line : Entry) → T w → T (says w line)
+  tells_line w line t = (t.0 ++ line ∷ [], ap (λ (ls : List Entry). ls ++ line ∷ []) t.1 ∙ append_assoc base t.0 (line ∷ []), λ key pair got. elim (t.2 key pair got) [ inl was ↦ inl was | inr told ↦ inr (told_more base w line key pair told) ])
 
   -- devices that give the same back
   tells_same : (w new : World) → new.out ≡ w.out → ((key : ℕ × ℕ) → get (recovered_in new.held) key ≡ get (recovered_in w.held) key) → T w → T new
@@ -330,7 +330,7 @@ pub record IsOwnDealt {Dir : Type 0} (c : Fixed Dir) (st : Live Dir) (key : ℕ 
   pub private : lookup c.me dealer.privates ≡ Some pair.1
   pub plays : IsAmong c.me round.players
 
-module _ {Dir : Type 0} (c : Fixed Dir) (m0 : Pairs) (own : ℕ × ℕ → List ℕ × ℕ → Type 0) (base : List Line) where
+module _ {Dir : Type 0} (c : Fixed Dir) (m0 : Pairs) (own : ℕ × ℕ → List ℕ × ℕ → Type 0) (base : List Entry) where
   abbrev P : World → Type 0
   P w = IsNoOther m0 own w
 
@@ -402,17 +402,17 @@ module _ {Dir : Type 0} (c : Fixed Dir) (m0 : Pairs) (own : ℕ × ℕ → List 
       itself_end private st None w none a t =
           let fresh = fresh_at st w a none in
           let entry : SectionEntry = (round.number, event_spelling (events.Dealing c.me public)) in
-          let line : Line = Recorded round.number c.me public private in
+          let line : Entry = Recorded round.number c.me public private in
           let behind : World = says (does (does w (Changes (PutDealing round.number c.me private))) (OnDisk (Appends entry))) line in
           let both = record_one round.number c.me private public is (recovered_in w.held) fresh w.held.secrets (notes w.held) a.whole refl in
           own_end round public (d.with_dealing_of round.number c.me public private st) behind (
             t.0 ++ line ∷ [],
-            ap (λ (ls : List Line). ls ++ line ∷ []) t.1 ∙ append_assoc base t.0 (line ∷ []),
+            ap (λ (ls : List Entry). ls ++ line ∷ []) t.1 ∙ append_assoc base t.0 (line ∷ []),
             λ key pair got. elim (inserted (recovered_in w.held) (round.number, c.me) (public, private) key pair (sym (ap (λ (m : Pairs). get m key) both.1) ∙ got)) [
               | inl new ↦ inr (record {
                 front = t.0;
                 back = [];
-                out = ap (λ (ls : List Line). ls ++ line ∷ []) t.1 ∙ append_assoc base t.0 (line ∷ []) ∙ ap (λ (l : Line). base ++ (t.0 ++ l ∷ [])) (line_is key pair new.0 new.1);
+                out = ap (λ (ls : List Entry). ls ++ line ∷ []) t.1 ∙ append_assoc base t.0 (line ∷ []) ∙ ap (λ (l : Entry). base ++ (t.0 ++ l ∷ [])) (line_is key pair new.0 new.1);
               })
               | inr was ↦ elim (t.2 key pair was) [
                 | inl old ↦ inl old
@@ -482,7 +482,7 @@ module _ {Dir : Type 0} (c : Fixed Dir) (st : Live Dir) (w : World) (fits_own : 
       (λ dealer of_dealer. offers c m0 (IsOwnDealt c st) w.out fits_own round dealer.public (fits dealer of_dealer) (s.unsent_of_round round dealer) st w
       (fine_of c st round dealer of_epoch of_dealer (s.unsent_of_round round dealer) (are_unsent dealer.acks dealer.privates round.players)) a q) (λ e. q)) (λ e. q)
 
-  pub deals_end : (base : List Line) → TellsAll m0 base w → AtEnd (TellsAll m0 base) (d.deals c st) w
+  pub deals_end : (base : List Entry) → TellsAll m0 base w → AtEnd (TellsAll m0 base) (d.deals c st) w
   deals_end base t =
       end_option (TellsAll m0 base) w st.participation.round (λ round. option_map_or (λ dealer. d.offers c round dealer.public (s.unsent_of_round round dealer) st) st.participation.dealer (Goes st)) (Goes st)
       (λ round of_epoch. end_option (TellsAll m0 base) w st.participation.dealer (λ dealer. d.offers c round dealer.public (s.unsent_of_round round dealer) st) (Goes st)

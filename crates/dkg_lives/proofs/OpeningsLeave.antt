@@ -16,7 +16,7 @@ use Rattle.dkg_secrets.specs.declared.secrets.SecretOp.TheVariants.{PutShare}
 use Rattle.dkg_store.specs.Noted.{Notes, logs_in}
 use Rattle.dkg_store.specs.declared.recorded_log.RecordedLog.{RecordedLog}
 use Rattle.dkg_store.proofs.Pruned.{logs_from}
-use Rattle.dkg_infos.specs.declared.entry.Entry.{Entry as Line}
+use Rattle.dkg_infos.specs.declared.entry.Entry.{Entry}
 use Rattle.dkg_infos.specs.declared.entry.Entry.TheVariants.{Opened}
 use Rattle.dkg_infos.specs.declared.fault.Fault.{Fault}
 use Rattle.dkg_infos.specs.declared.fault.Fault.TheVariants.{HeightRange}
@@ -54,7 +54,7 @@ left_same op j new kept part (inr (inl is)) = ap (λ (x : Journaled). x.entries)
 left_same op j new kept part (inr (inr is)) = part is
 
 -- ALONG AN OPENING of the form: what its one setup keeps, and what the same entries and secrets keep
-module _ {Dir : Type 0} (c : Fixed Dir) (form : IsForm c) (P : World → Type 0) (said : (w : World) (line : Line) → P w → P (says w line))
+module _ {Dir : Type 0} (c : Fixed Dir) (form : IsForm c) (P : World → Type 0) (said : (w : World) (line : Entry) → P w → P (says w line))
     (same : (w new : World) → notes new.held ≡ notes w.held → new.held.secrets ≡ w.held.secrets → P w → P new)
     (sets_up : (st : Live Dir) (w : World) → epoch_of c.blocks_per_epoch (awaited_height st) ≡ first_epoch c → P w → Throughout P (s.setup c None st) w) where
   behind : (op : of_journal.JournalOperation) → ((j : Journaled) → (of_journal.after_operation op j).entries ≡ j.entries) → ((j new : Journaled) → InPart op j new → new.entries ≡ j.entries)
@@ -84,7 +84,7 @@ module _ {Dir : Type 0} (c : Fixed Dir) (form : IsForm c) (P : World → Type 0)
       behind Bars (λ j. refl) (λ j new part. absurd part) (Do (OnDisk (Opens c.opening_calls)) restores) w q (λ q.
       behind (Opens c.opening_calls) (λ j. refl) (λ j new part. part.0) restores (does w (OnDisk Bars)) q (λ q.
       let at : World = does (does w (OnDisk Bars)) (OnDisk (Opens c.opening_calls)) in
-      let line : Line = Opened c.life (map restored_of (c.seen at.held).dealings) in
+      let line : Entry = Opened c.life (map restored_of (c.seen at.held).dealings) in
       (q, opens (begun_life (c.seen at.held)) (says at line) (said at line q))))
 
 module _ {Dir : Type 0} (c : Fixed Dir) (form : IsForm c) (w : World) where
@@ -187,10 +187,10 @@ module _ {Dir : Type 0} (c : Fixed Dir) (form : IsForm c) (w : World) where
       less a b is = omega (arith, is)
 
   -- AN OPENING THAT SAID NOTHING left what the devices give back
-  longer : (x : Line) (front back : List Line) → w.out ≡ (front ++ x ∷ []) ++ back → front ≡ w.out → ⊥
-  longer x front back is same = no_more x back (append_cancel_left w.out (x ∷ back) [] (sym (is ∙ append_assoc front (x ∷ []) back ∙ ap (λ (ls : List Line). ls ++ (x ∷ back)) same) ∙ sym (append-nil w.out)))
+  longer : (x : Entry) (front back : List Entry) → w.out ≡ (front ++ x ∷ []) ++ back → front ≡ w.out → ⊥
+  longer x front back is same = no_more x back (append_cancel_left w.out (x ∷ back) [] (sym (is ∙ append_assoc front (x ∷ []) back ∙ ap (λ (ls : List Entry). ls ++ (x ∷ back)) same) ∙ sym (append-nil w.out)))
     where
-      no_more : (x : Line) (xs : List Line) → x ∷ xs ≡ [] → ⊥
+      no_more : (x : Entry) (xs : List Entry) → x ∷ xs ≡ [] → ⊥
       no_more x xs e = cc
 
   abbrev opened : World
@@ -199,7 +199,7 @@ module _ {Dir : Type 0} (c : Fixed Dir) (form : IsForm c) (w : World) where
   abbrev seen : Seen
   seen = c.seen opened.held
 
-  abbrev first_line : Line
+  abbrev first_line : Entry
   first_line = Opened c.life (map restored_of seen.dealings)
 
   said_more : (half : Ended Fault (Live Dir)) (new : World) → EndsSo (opens_in c c.oneshot (begun_life seen)) half (says opened first_line) new → new.out ≡ w.out → ⊥
@@ -258,12 +258,12 @@ module _ {Dir : Type 0} (c : Fixed Dir) (form : IsForm c) (w : World) where
     opening_unsaid silent =
         let adds : AddsDeeds (opening c) half.half w half.mid = runs_add_deeds (opening c) half.half w half.mid half.run in
         ap (λ (h : Held). recovered_in h) half.held ∙ unsaid half.half half.mid half.run
-        (adds.out ∙ ap (λ (ls : List Line). w.out ++ ls) (none_of adds.added half.lines (append_cancel_left w.out (adds.added ++ half.lines) []
-        (sym (half.out ∙ ap (λ (ls : List Line). ls ++ half.lines) adds.out ∙ append_assoc w.out adds.added half.lines) ∙ silent ∙ sym (append-nil w.out)))) ∙ append-nil w.out)
+        (adds.out ∙ ap (λ (ls : List Entry). w.out ++ ls) (none_of adds.added half.lines (append_cancel_left w.out (adds.added ++ half.lines) []
+        (sym (half.out ∙ ap (λ (ls : List Entry). ls ++ half.lines) adds.out ∙ append_assoc w.out adds.added half.lines) ∙ silent ∙ sym (append-nil w.out)))) ∙ append-nil w.out)
       where
-        none_of : (xs ys : List Line) → xs ++ ys ≡ [] → xs ≡ []
+        none_of : (xs ys : List Entry) → xs ++ ys ≡ [] → xs ≡ []
         none_of [] ys e = refl
         none_of (x ∷ xs) ys e = absurd (no_more x (xs ++ ys) e)
           where
-            no_more : (x : Line) (zs : List Line) → x ∷ zs ≡ [] → ⊥
+            no_more : (x : Entry) (zs : List Entry) → x ∷ zs ≡ [] → ⊥
             no_more x zs e = cc

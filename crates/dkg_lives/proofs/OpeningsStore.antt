@@ -11,7 +11,7 @@ use Rattle.std.specs.Cmp.{nat_cmp_total}
 use Rattle.dkg_values.specs.Rising.{lookup}
 use Rattle.dkg_journal.specs.Operations as of_journal
 use Rattle.dkg_journal.specs.Operations.{Bars, Opens}
-use Rattle.dkg_infos.specs.declared.entry.Entry.{Entry as Line}
+use Rattle.dkg_infos.specs.declared.entry.Entry.{Entry}
 use Rattle.dkg_infos.specs.declared.entry.Entry.TheVariants.{Offer, Opened}
 use Rattle.dkg_infos.specs.declared.fault.Fault.{Fault}
 use Rattle.dkg_infos.specs.declared.fault.Fault.TheVariants.{HeightRange}
@@ -46,11 +46,11 @@ some_is a b e = cc
 
 -- LINES that offer nothing
 
-abbrev pub IsUnoffered : Line → Type 0
+abbrev pub IsUnoffered : Entry → Type 0
 IsUnoffered (Offer epoch player public private) = ⊥
 IsUnoffered line = Unit {0}
 
-pub aside_unoffered : (line : Line) → IsAside line → IsUnoffered line
+pub aside_unoffered : (line : Entry) → IsAside line → IsUnoffered line
 aside_unoffered (Offer epoch player public private) aside = aside
 aside_unoffered line aside = tt
 
@@ -58,7 +58,7 @@ pub all_joined : {A : Type 0} (P : A → Type 0) (xs ys : List A) → AllByRecur
 all_joined P [] ys front back = back
 all_joined P (x ∷ xs) ys front back = (front.0, all_joined P xs ys front.1 back)
 
-all_aside : (lines : List Line) → AllByRecursion IsAside lines → AllByRecursion IsUnoffered lines
+all_aside : (lines : List Entry) → AllByRecursion IsAside lines → AllByRecursion IsUnoffered lines
 all_aside [] all = tt
 all_aside (line ∷ lines) all = (aside_unoffered line all.0, all_aside lines all.1)
 
@@ -101,23 +101,23 @@ module _ {Dir : Type 0} (c : Fixed Dir) (reads : ReadsSecrets c.seen) (most : �
   pub record IsUpkept (w : World) : Type 0 where
     pub seeds_held : KeepsSeeds most from.held w
     pub shares_held : KeepsShares most from.held w
-    pub lines : List Line
+    pub lines : List Entry
     pub out : w.out ≡ from.out ++ lines
     pub unoffered : AllByRecursion IsUnoffered lines
 
   pub nothing_lost : IsUpkept from
   nothing_lost = record { seeds_held = λ epoch seed above got. got; shares_held = λ epoch share above got. got; lines = []; out = sym (append-nil from.out); unoffered = tt }
 
-  says_so : (w : World) (line : Line) → IsUnoffered line → IsUpkept w → IsUpkept (says w line)
+  says_so : (w : World) (line : Entry) → IsUnoffered line → IsUpkept w → IsUpkept (says w line)
   says_so w line none q = record {
     seeds_held = q.seeds_held;
     shares_held = q.shares_held;
     lines = q.lines ++ line ∷ [];
-    out = ap (λ (xs : List Line). xs ++ line ∷ []) q.out ∙ append_assoc from.out q.lines (line ∷ []);
+    out = ap (λ (xs : List Entry). xs ++ line ∷ []) q.out ∙ append_assoc from.out q.lines (line ∷ []);
     unoffered = all_joined IsUnoffered q.lines (line ∷ []) q.unoffered (none, tt);
   }
 
-  tell : (w : World) (line : Line) → IsAside line → IsUpkept w → IsUpkept (says w line)
+  tell : (w : World) (line : Entry) → IsAside line → IsUpkept w → IsUpkept (says w line)
   tell w line aside q = says_so w line (aside_unoffered line aside) q
 
   -- these are the secrets now
@@ -222,7 +222,7 @@ module _ {Dir : Type 0} (c : Fixed Dir) (reads : ReadsSecrets c.seen) (most : �
         behind Bars (Do (OnDisk (Opens c.opening_calls)) restores) from nothing_lost (λ q.
         behind (Opens c.opening_calls) restores (does from (OnDisk Bars)) q (λ q.
         let at : World = does (does from (OnDisk Bars)) (OnDisk (Opens c.opening_calls)) in
-        let line : Line = Opened c.life (map restored_of (c.seen at.held).dealings) in
+        let line : Entry = Opened c.life (map restored_of (c.seen at.held).dealings) in
         (q, opens (begun_life (c.seen at.held)) (says at line) (says_so at line tt q))))
 
     -- A NODE'S OPENING, wherever it ends
@@ -234,6 +234,6 @@ module _ {Dir : Type 0} (c : Fixed Dir) (reads : ReadsSecrets c.seen) (most : �
           seeds_held = λ epoch seed above got. ap (λ (h : Held). get h.secrets.seeds epoch) its.held ∙ mid.seeds_held epoch seed above got;
           shares_held = λ epoch share above got. ap (λ (h : Held). get h.secrets.shares epoch) its.held ∙ mid.shares_held epoch share above got;
           lines = mid.lines ++ its.lines;
-          out = its.out ∙ ap (λ (xs : List Line). xs ++ its.lines) mid.out ∙ append_assoc from.out mid.lines its.lines;
+          out = its.out ∙ ap (λ (xs : List Entry). xs ++ its.lines) mid.out ∙ append_assoc from.out mid.lines its.lines;
           unoffered = all_joined IsUnoffered mid.lines its.lines mid.unoffered (all_aside its.lines its.aside);
         }

@@ -16,7 +16,7 @@ use Rattle.dkg_fence.specs.declared.fence.Waited.TheVariants as waits
 use Rattle.dkg_fence.specs.Fence.{waited}
 use Rattle.dkg_types.specs.BlockCodes.{info_of}
 use Rattle.dkg_types.specs.Blocks.{Block}
-use Rattle.dkg_infos.specs.declared.entry.Entry.{Entry as Line}
+use Rattle.dkg_infos.specs.declared.entry.Entry.{Entry}
 use Rattle.dkg_infos.specs.declared.entry.Entry.TheVariants.{Acked, Answer, Entered, Halted}
 use Rattle.dkg_infos.specs.declared.fault.Fault.{Fault}
 use Rattle.dkg_infos.specs.declared.fault.Fault.TheVariants.{HeightRange, MissingEpochInfo, SkippedHeight, StateSyncEpochs, StateSyncMaterial, WrongEpoch}
@@ -49,12 +49,12 @@ use Rattle.dkg_core.proofs.Applied.{judged_is}
 use Rattle.dkg_core.proofs.SayingThrough.{said_so, so_behind, so_if, so_option}
 
 -- no answer of a final block's request
-abbrev pub IsUnanswered : Line → Type 0
+abbrev pub IsUnanswered : Entry → Type 0
 IsUnanswered (Answer number answer) = ⊥
 IsUnanswered line = Unit {0}
 
 -- to more, and under other names for faults
-so_as : {Dir F S : Type 0} (P Q : Line → Type 0) (course : Course Dir F S) → ((line : Line) → P line → Q line) → SaysSo P course → SaysSo Q course
+so_as : {Dir F S : Type 0} (P Q : Entry → Type 0) (course : Course Dir F S) → ((line : Entry) → P line → Q line) → SaysSo P course → SaysSo Q course
 so_as P Q (Say line course) more so = (more line so.0, so_as P Q course more so.1)
 so_as P Q (Do op course) more so = so_as P Q course more so
 so_as P Q (Call outer course) more so = so_as P Q course more so
@@ -62,7 +62,7 @@ so_as P Q (Ask f) more so = λ h. so_as P Q (f h) more (so h)
 so_as P Q (Goes end) more so = tt
 so_as P Q (Stops fault) more so = tt
 
-so_under : {Dir F G S : Type 0} (P : Line → Type 0) (name : F → G) (course : Course Dir F S) → SaysSo P course → SaysSo P (under name course)
+so_under : {Dir F G S : Type 0} (P : Entry → Type 0) (name : F → G) (course : Course Dir F S) → SaysSo P course → SaysSo P (under name course)
 so_under P name (Say line course) so = (so.0, so_under P name course so.1)
 so_under P name (Do op course) so = so_under P name course so
 so_under P name (Call outer course) so = so_under P name course so
@@ -71,7 +71,7 @@ so_under P name (Goes end) so = tt
 so_under P name (Stops fault) so = tt
 
 -- what holds of every line
-so_any : {Dir F S : Type 0} (P : Line → Type 0) → ((line : Line) → P line) → (course : Course Dir F S) → SaysSo P course
+so_any : {Dir F S : Type 0} (P : Entry → Type 0) → ((line : Entry) → P line) → (course : Course Dir F S) → SaysSo P course
 so_any P so (Say line course) = (so line, so_any P so course)
 so_any P so (Do op course) = so_any P so course
 so_any P so (Call outer course) = so_any P so course
@@ -80,7 +80,7 @@ so_any P so (Goes end) = tt
 so_any P so (Stops fault) = tt
 
 -- THE ORCHESTRATOR'S HALF says its own lines.
-module _ {Dir : Type 0} (c : Fixed Dir) (P : Line → Type 0) (tells : (line : Line) → IsHalfLine line → P line) where
+module _ {Dir : Type 0} (c : Fixed Dir) (P : Entry → Type 0) (tells : (line : Entry) → IsHalfLine line → P line) where
   starts : (o : Orchestrator Dir) (w : Waiting Dir) (found : Option SchemeInfo) (st : Live Dir) → SaysSo P (half.starts_engine o w found st)
   starts o w None st = tt
   starts o w (Some scheme) st = stopped o.entered
@@ -149,8 +149,8 @@ module _ {Dir : Type 0} (c : Fixed Dir) (P : Line → Type 0) (tells : (line : L
       (λ left. acked block.height left.answer left.live))
 
 -- A BLOCK says the lines of that half, and others where it is applied.
-pub block_lines : {Dir : Type 0} (c : Fixed Dir) (block : Block Dir) (st : Live Dir) (ended : Ended NodeStop (Live Dir)) (old new : List Line) → Said (on_devices (node_step c (event_of (Finalized block)) st)) ended old new
-    → (added : List Line) × (new ≡ old ++ added) × AllByRecursion (λ line. (judged_block c block st ≡ Applied) ⊎ IsHalfLine line) added
+pub block_lines : {Dir : Type 0} (c : Fixed Dir) (block : Block Dir) (st : Live Dir) (ended : Ended NodeStop (Live Dir)) (old new : List Entry) → Said (on_devices (node_step c (event_of (Finalized block)) st)) ended old new
+    → (added : List Entry) × (new ≡ old ++ added) × AllByRecursion (λ line. (judged_block c block st ≡ Applied) ⊎ IsHalfLine line) added
 block_lines {Dir} c block st ended old new said =
     said_so P (node_step c (event_of (Finalized block)) st) ended old new
     (so_behind P (under Faulted (step c (Finalized block) st))
@@ -159,13 +159,13 @@ block_lines {Dir} c block st ended old new said =
     (judged_is c block st (λ course. SaysSo P course) (λ t x y one other. so_if P t x y one other) (λ fault is. tt) (λ is. tt) (λ is. so_any {Dir = Dir} {F = Fault} {S = Live Dir} P (λ line. inl is) (b.applies c block st)) (λ is. tt)))
     (λ now. behind_block c P (λ line is. inr is) block now)) said
   where
-    P : Line → Type 0
+    P : Entry → Type 0
     P line = (judged_block c block st ≡ Applied) ⊎ IsHalfLine line
 
 -- AN OPENING
 
 module _ {Dir : Type 0} (c : Fixed Dir) (reshare : c.oneshot ≡ None) where
-  abbrev No : Line → Type 0
+  abbrev No : Entry → Type 0
   No = IsUnanswered
 
   abbrev Quiet : Course Dir Fault (Live Dir) → Type 0
@@ -272,7 +272,7 @@ module _ {Dir : Type 0} (c : Fixed Dir) (reshare : c.oneshot ≡ None) where
   opening_so : Quiet (opening c)
   opening_so = λ h. (tt, subst (λ (o : Option (OneShot Dir)). Quiet (opens_in c o (begun_life (c.seen h)))) (sym reshare) (finds (begun_life (c.seen h)) c.material))
 
-  half_line : (line : Line) → IsHalfLine line → No line
+  half_line : (line : Entry) → IsHalfLine line → No line
   half_line (Answer number answer) is = absurd is
   half_line line is = tt
 
@@ -284,5 +284,5 @@ module _ {Dir : Type 0} (c : Fixed Dir) (reshare : c.oneshot ≡ None) where
       (opens_half c No half_line (option_and_then (λ bytes. result_ok (whole (plans.material_at c bytes))) (c.seen h).plan) end) (λ left. tt)))
 
   -- it says no answer
-  pub opening_lines : (ended : Ended NodeStop (Live Dir)) (old new : List Line) → Said (on_devices (node_opening c)) ended old new → (added : List Line) × (new ≡ old ++ added) × AllByRecursion IsUnanswered added
+  pub opening_lines : (ended : Ended NodeStop (Live Dir)) (old new : List Entry) → Said (on_devices (node_opening c)) ended old new → (added : List Entry) × (new ≡ old ++ added) × AllByRecursion IsUnanswered added
   opening_lines ended old new said = said_so No (node_opening c) ended old new node_opening_so said

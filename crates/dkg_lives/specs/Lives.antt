@@ -3,7 +3,7 @@ use Rattle.std.specs.Prelude.{ℕ, ◌+◌, ◌==◌, ◌≡◌, ◌⊎◌, ◌�
 use Rattle.dkg_journal.specs.Burn.{Burn}
 use Rattle.dkg_journal.specs.Names.{Files}
 use Rattle.dkg_infos.specs.declared.directory.Unit as directory
-use Rattle.dkg_infos.specs.declared.entry.Entry.{Entry as Line}
+use Rattle.dkg_infos.specs.declared.entry.Entry.{Entry}
 use Rattle.dkg_infos.specs.declared.entry.Entry.TheVariants as entry
 use Rattle.dkg_infos.specs.declared.fault.Fault.{Fault}
 use Rattle.dkg_infos.specs.declared.fault.Fault.TheVariants.{NoMemory}
@@ -45,7 +45,7 @@ abbrev pub Wants : {W : Type 0} → Result (Unit {0}) Stop → W → W → Type 
 Wants how w new = (how ≡ Err (FaultOf NoMemory)) × (new ≡ w)
 
 -- ONE STEP with its fuse, where the script lets it begin. It is told once it is complete; `next` is what comes then.
-abbrev pub Steps : {W : Type 0} → Way W → Line → Option Burn → Course directory.Unit NodeStop (Live directory.Unit) → W → Result (Unit {0}) Stop → W
+abbrev pub Steps : {W : Type 0} → Way W → Entry → Option Burn → Course directory.Unit NodeStop (Live directory.Unit) → W → Result (Unit {0}) Stop → W
     → (next : Live directory.Unit → W → Type 0) → Type 0
 Steps way line None course w how new next = (how ≡ Err Cut) × (new ≡ w)
 Steps {W} way line (Some f) course w how new next =

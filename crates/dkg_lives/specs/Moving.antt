@@ -4,7 +4,7 @@ use Rattle.dkg_journal.specs.DeviceCall.{DeviceCall}
 use Rattle.dkg_journal.specs.Disk.{Rose}
 use Rattle.dkg_journal.specs.Names.{Files}
 use Rattle.dkg_journal.specs.declared.disk.Op.{Op}
-use Rattle.dkg_infos.specs.declared.entry.Entry.{Entry as Line}
+use Rattle.dkg_infos.specs.declared.entry.Entry.{Entry}
 use Rattle.dkg_infos.specs.declared.fault.Fault.{Fault}
 use Rattle.dkg_store.specs.Acts.{World, at, moment}
 use Rattle.dkg_secrets.specs.Secrets.{Secrets}
@@ -16,7 +16,7 @@ use Rattle.dkg_lives.specs.Causes.{HasDeviceCause, StopHasCause}
 use Rattle.dkg_lives.specs.Stopped.{Stopped}
 
 -- where these devices stand, with this image of the disk
-abbrev pub world_of : {D X : Type 0} → (X → Secrets) → Devices D X → List Line → Files → World
+abbrev pub world_of : {D X : Type 0} → (X → Secrets) → Devices D X → List Entry → Files → World
 world_of held devices out files = at (moment out (held devices.secrets.now) devices.fuse) files
 
 -- The same devices are lent still, and no count fell. Where the disk tells, both stopped between two calls just with these picks.

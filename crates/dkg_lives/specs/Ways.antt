@@ -3,7 +3,7 @@ use Rattle.std.specs.Prelude.{ℕ, ◌<◌, ◌≡◌, ◌++◌, ◌∷◌, [], 
 use Rattle.dkg_journal.specs.Burn.{Burn}
 use Rattle.dkg_journal.specs.Names.{Files}
 use Rattle.dkg_infos.specs.declared.directory.Unit as directory
-use Rattle.dkg_infos.specs.declared.entry.Entry.{Entry as Line}
+use Rattle.dkg_infos.specs.declared.entry.Entry.{Entry}
 use Rattle.dkg_store.specs.Acts.{Cause, Ended, Held, World, by_cut, broken, notes, plan, says}
 use Rattle.dkg_journal.specs.Operations.{journaled}
 use Rattle.dkg_core.specs.Courses.{Course, EndsSo, on_devices}
@@ -19,7 +19,7 @@ use Rattle.dkg_lives.specs.Ended.{by_node_stop}
 -- begins with, and how an opening goes whose journal isn't in its grammar.
 pub record Way (W : Type 0) : Type 1 where
   pub goes : Course directory.Unit NodeStop (Live directory.Unit) → Ended NodeStop (Live directory.Unit) → Burn → W → W → Type 0
-  pub says : W → Line → W
+  pub says : W → Entry → W
   pub stops : W → (pick : ℕ) → W
   pub reads : (Held → Seen) → Type 0
   pub begins : Files → W → Type 0
@@ -55,10 +55,10 @@ pub record ReadsSomething (seen : Held → Seen) : Type 0 where
 
 -- a transcript, and the picks with which both devices have stopped
 pub record Trace : Type 0 where
-  pub out : List Line
+  pub out : List Entry
   pub picks : List ℕ
 
-abbrev pub trace : List Line → (picks : List ℕ) → Trace
+abbrev pub trace : List Entry → (picks : List ℕ) → Trace
 trace out picks = record { out = out; picks = picks }
 
 -- over lines alone, of any devices: a cut is the fuse's

@@ -2,7 +2,7 @@
 use Rattle.std.proofs.Common.{◌≡◌, inl, inr, List, Option, Some, None, refl, sym, ◌∙◌, ap, subst}
 use Rattle.dkg_journal.specs.Burn.{Burn}
 use Rattle.dkg_journal.specs.Names.{Files}
-use Rattle.dkg_infos.specs.declared.entry.Entry.{Entry as Line}
+use Rattle.dkg_infos.specs.declared.entry.Entry.{Entry}
 use Rattle.dkg_infos.specs.declared.fault.Fault.{Fault}
 use Rattle.dkg_store.specs.Acts as acts_of
 use Rattle.dkg_store.specs.Acts.{Acts, World, says, does, at, Moment, Stands, MadeAt, Runs, Completes, Faults, Breaks, Cause, Ended, went, stopped, broken, IfWent}
@@ -85,21 +85,21 @@ module _ {S : Type 0} where
     burns = burns_named how its.burns;
   }
 
-  says_all_named : (acts : Acts Fault S) (end : S) (lines : List Line) → SaysAll acts end lines → SaysAll (acts_of.under Faulted acts) end lines
+  says_all_named : (acts : Acts Fault S) (end : S) (lines : List Entry) → SaysAll acts end lines → SaysAll (acts_of.under Faulted acts) end lines
   says_all_named (acts_of.Say line acts) end lines a = (a.0, a.1, says_all_named acts end a.0 a.2)
   says_all_named (acts_of.Do op acts) end lines a = says_all_named acts end lines a
   says_all_named (acts_of.Ask f) end lines a = (a.0, says_all_named (f a.0) end lines a.1)
   says_all_named (acts_of.Goes its) end lines a = a
   says_all_named (acts_of.Stops fault) end lines a = absurd a
 
-  says_up_to_named : (acts : Acts Fault S) (fault : Fault) (lines : List Line) → SaysUpTo acts fault lines → SaysUpTo (acts_of.under Faulted acts) (Faulted fault) lines
+  says_up_to_named : (acts : Acts Fault S) (fault : Fault) (lines : List Entry) → SaysUpTo acts fault lines → SaysUpTo (acts_of.under Faulted acts) (Faulted fault) lines
   says_up_to_named (acts_of.Say line acts) fault lines a = (a.0, a.1, says_up_to_named acts fault a.0 a.2)
   says_up_to_named (acts_of.Do op acts) fault lines a = says_up_to_named acts fault lines a
   says_up_to_named (acts_of.Ask f) fault lines a = (a.0, says_up_to_named (f a.0) fault lines a.1)
   says_up_to_named (acts_of.Goes end) fault lines a = absurd a
   says_up_to_named (acts_of.Stops its) fault lines a = (a.0, ap Faulted a.1)
 
-  says_first_named : (acts : Acts Fault S) (lines : List Line) → SaysFirst acts lines → SaysFirst (acts_of.under Faulted acts) lines
+  says_first_named : (acts : Acts Fault S) (lines : List Entry) → SaysFirst acts lines → SaysFirst (acts_of.under Faulted acts) lines
   says_first_named (acts_of.Say line acts) lines (inl none) = inl none
   says_first_named (acts_of.Say line acts) lines (inr a) = inr (a.0, a.1, says_first_named acts a.0 a.2)
   says_first_named (acts_of.Do op acts) lines (inl none) = inl none
@@ -109,7 +109,7 @@ module _ {S : Type 0} where
   says_first_named (acts_of.Goes end) lines a = a
   says_first_named (acts_of.Stops fault) lines a = a
 
-  said_named : (acts : Acts Fault S) (how : Ended Fault S) {out now : List Line} → Said acts how out now → Said (acts_of.under Faulted acts) (fault_named Faulted how) out now
+  said_named : (acts : Acts Fault S) (how : Ended Fault S) {out now : List Entry} → Said acts how out now → Said (acts_of.under Faulted acts) (fault_named Faulted how) out now
   said_named acts (went end) its = record { lines = its.lines; added = its.added; by = says_all_named acts end its.lines its.by }
   said_named acts (stopped fault) its = record { lines = its.lines; added = its.added; by = says_up_to_named acts fault its.lines its.by }
   said_named acts (broken cause) its = record { lines = its.lines; added = its.added; by = says_first_named acts its.lines its.by }
@@ -141,7 +141,7 @@ module _ {S T : Type 0} {acts : Acts NodeStop S} (next : S → Acts NodeStop T) 
   makes_early its first = record { made = stop_made its first.made; burns = stop_burns its first.burns }
 
 module _ {S T : Type 0} (next : S → Acts NodeStop T) where
-  first_behind : (acts : Acts NodeStop S) (lines : List Line) → SaysFirst acts lines → SaysFirst (acts_of.bind acts next) lines
+  first_behind : (acts : Acts NodeStop S) (lines : List Entry) → SaysFirst acts lines → SaysFirst (acts_of.bind acts next) lines
   first_behind (acts_of.Say line acts) lines (inl none) = inl none
   first_behind (acts_of.Say line acts) lines (inr a) = inr (a.0, a.1, first_behind acts a.0 a.2)
   first_behind (acts_of.Do op acts) lines (inl none) = inl none
@@ -151,14 +151,14 @@ module _ {S T : Type 0} (next : S → Acts NodeStop T) where
   first_behind (acts_of.Goes end) lines a = subst (SaysFirst (next end)) (sym a) (none_first (next end))
   first_behind (acts_of.Stops fault) lines a = a
 
-  up_to_behind : (acts : Acts NodeStop S) (its : NodeStop) (lines : List Line) → SaysUpTo acts its lines → SaysUpTo (acts_of.bind acts next) its lines
+  up_to_behind : (acts : Acts NodeStop S) (its : NodeStop) (lines : List Entry) → SaysUpTo acts its lines → SaysUpTo (acts_of.bind acts next) its lines
   up_to_behind (acts_of.Say line acts) its lines a = (a.0, a.1, up_to_behind acts its a.0 a.2)
   up_to_behind (acts_of.Do op acts) its lines a = up_to_behind acts its lines a
   up_to_behind (acts_of.Ask f) its lines a = (a.0, up_to_behind (f a.0) its lines a.1)
   up_to_behind (acts_of.Goes end) its lines a = absurd a
   up_to_behind (acts_of.Stops fault) its lines a = a
 
-  said_early : {acts : Acts NodeStop S} {out now : List Line} (its : Stop) → Said acts (by_node_stop its) out now → Said (acts_of.bind acts next) (by_node_stop its) out now
+  said_early : {acts : Acts NodeStop S} {out now : List Entry} (its : Stop) → Said acts (by_node_stop its) out now → Said (acts_of.bind acts next) (by_node_stop its) out now
   said_early {acts} {out} {now} (stop.Fault its) said = in_cause (cause_in its) its said
     where
       in_cause : (cause : Option Cause) (its : Fault) → Said acts (fault_named Faulted (by_cause cause its)) out now → Said (acts_of.bind acts next) (fault_named Faulted (by_cause cause its)) out now
@@ -183,12 +183,12 @@ module _ {Dir S T : Type 0} (course : Course Dir Fault S) (next : S → Course D
   node_ends its first = subst (λ (a : Acts NodeStop T). MakesAt a (by_node_stop its) files image files_now now old new) (behind course next)
       (makes_early (λ s. on_devices (next s)) its (makes_named (on_devices course) (by_stop its) first))
 
-module _ {Dir S T : Type 0} (course : Course Dir Fault S) (next : S → Course Dir NodeStop T) {out mid now : List Line} where
+module _ {Dir S T : Type 0} (course : Course Dir Fault S) (next : S → Course Dir NodeStop T) {out mid now : List Entry} where
   pub node_says : {end : S} {how : Ended NodeStop T} → Said (on_devices course) (went end) out mid → Said (on_devices (next end)) how mid now
       → Said (on_devices (bind (under Faulted course) next)) how out now
   node_says {end} {how} first second = subst (λ (a : Acts NodeStop T). Said a how out now) (behind course next) (said_next (λ s. on_devices (next s)) (said_named (on_devices course) (went end) first) second)
 
-module _ {Dir S T : Type 0} (course : Course Dir Fault S) (next : S → Course Dir NodeStop T) {out now : List Line} where
+module _ {Dir S T : Type 0} (course : Course Dir Fault S) (next : S → Course Dir NodeStop T) {out now : List Entry} where
   pub node_says_early : (its : Stop) → Said (on_devices course) (by_stop its) out now → Said (on_devices (bind (under Faulted course) next)) (by_node_stop its) out now
   node_says_early its first = subst (λ (a : Acts NodeStop T). Said a (by_node_stop its) out now) (behind course next)
       (said_early (λ s. on_devices (next s)) its (said_named (on_devices course) (by_stop its) first))

@@ -12,7 +12,7 @@ use Rattle.dkg_fence.specs.Readiness.{Readiness}
 use Rattle.dkg_journal.specs.Burn.{Burn}
 use Rattle.dkg_journal.specs.Names.{Files}
 use Rattle.dkg_infos.specs.declared.directory.Unit as directory
-use Rattle.dkg_infos.specs.declared.entry.Entry.{Entry as Line}
+use Rattle.dkg_infos.specs.declared.entry.Entry.{Entry}
 use Rattle.dkg_infos.specs.declared.fault.Fault.TheVariants as fault
 use Rattle.dkg_types.specs.declared.scheme.SchemeInfo.{SchemeInfo}
 use Rattle.dkg_text.specs.declared.script.Life.{Life}
@@ -167,7 +167,7 @@ module _ (script : Script) (number : ℕ) (life : Life) (source : HeldBlocks) (f
         went_to view = lives_went view n.actor.state living
 
         -- its lines, of what was read
-        module _ {out mid : List Line} {Given : Seen → Type 0}
+        module _ {out mid : List Entry} {Given : Seen → Type 0}
             (said : HasRead Given (λ s. EndsBeside nothing_beside Took (λ now. Tells (opening (reading s its)) (lives (live_of now fence) n.actor.state (Ok tt)) out mid)))
           where
             abbrev now_is : Beside directory.Unit
@@ -191,7 +191,7 @@ module _ (script : Script) (number : ℕ) (life : Life) (source : HeldBlocks) (f
             enters : MayEnter (at_step (life_with (λ h. said.seen)) 0) fence (live_of now_is fence living.life)
             enters = may_enter (life_with (λ h. said.seen)) (here_with (λ h. said.seen) reads_it) now_is fence living.life said.so.orchestrator lines_are
 
-            pub opened_lines : IfIncluding n.actor.state (λ life its. IsSeen its no_inclusion) → (out_now : List Line) (Asked : Seen → Type 0) → ((s : Seen) → Given s → Asked s)
+            pub opened_lines : IfIncluding n.actor.state (λ life its. IsSeen its no_inclusion) → (out_now : List Entry) (Asked : Seen → Type 0) → ((s : Seen) → Given s → Asked s)
                 → ((c : Fixed directory.Unit) (st : Live directory.Unit) → IsHalfGiven (non_zero_u64_get terms.blocks_per_epoch) answers c → MayEnter c fence st
                 → Speaks (kept_material c st) (ends_half n.fence st (Ok n.half)) mid out_now)
                 → HasRead Asked (λ s. ViewedNew (Ok n) (λ ended. Tells (node_opening (at_step (life_with (λ h. s)) 0)) ended out out_now))
@@ -204,7 +204,7 @@ module _ (script : Script) (number : ℕ) (life : Life) (source : HeldBlocks) (f
                   (speaks (at_step (life_with (λ h. said.seen)) 0) (live_of now_is fence living.life) (given_with (λ h. said.seen) reads_it) enters);
             }
 
-            pub halted_lines : (stop : Stop) (out_now : List Line) (half_fence : Readiness) (Asked : Seen → Type 0) → ((s : Seen) → Given s → Asked s)
+            pub halted_lines : (stop : Stop) (out_now : List Entry) (half_fence : Readiness) (Asked : Seen → Type 0) → ((s : Seen) → Given s → Asked s)
                 → ((c : Fixed directory.Unit) (st : Live directory.Unit) → IsHalfGiven (non_zero_u64_get terms.blocks_per_epoch) answers c → MayEnter c fence st
                 → Speaks (kept_material c st) (ends_half half_fence st (Err stop)) mid out_now)
                 → HasRead Asked (λ s. Tells (node_opening (at_step (life_with (λ h. s)) 0)) (by_node_stop stop) out out_now)
@@ -218,7 +218,7 @@ module _ (script : Script) (number : ℕ) (life : Life) (source : HeldBlocks) (f
             }
 
         -- .. over the devices
-        module _ {files_now : Files} {image between : Files → Type 0} {old : Moment} {mid : List Line} {s : Secrets} {f : Burn}
+        module _ {files_now : Files} {image between : Files → Type 0} {old : Moment} {mid : List Entry} {s : Secrets} {f : Burn}
             (made : EndsBeside nothing_beside Took (λ now. MakesAt (on_devices (opening its)) (lives (live_of now fence) n.actor.state (Ok tt)) files image files_now between old (moment mid s f)))
           where
             abbrev end_is : Live directory.Unit
@@ -233,7 +233,7 @@ module _ (script : Script) (number : ℕ) (life : Life) (source : HeldBlocks) (f
             enters_made : Stands files image → MayEnter its fence end_is
             enters_made stands = may_enter_made (life_with seen_planless) (here_with seen_planless reads_planless) made.now fence living.life made.orchestrator stands acts_are
 
-            pub opened_acts : IfIncluding n.actor.state (λ life its. IsSeen its no_inclusion) → (out : List Line)
+            pub opened_acts : IfIncluding n.actor.state (λ life its. IsSeen its no_inclusion) → (out : List Entry)
                 → ((c : Fixed directory.Unit) (st : Live directory.Unit) → IsHalfGiven (non_zero_u64_get terms.blocks_per_epoch) answers c → MayEnter c fence st
                 → Speaks (kept_material c st) (ends_half n.fence st (Ok n.half)) mid out)
                 → ViewedNew (Ok n) (λ ended. MakesAt (on_devices (node_opening its)) ended files image files_now between old (moment out s f))
@@ -245,7 +245,7 @@ module _ (script : Script) (number : ℕ) (life : Life) (source : HeldBlocks) (f
                       opened_made n its (at_oneshot (life_with seen_planless) 0) made.now fence living.life (seen_empty (made.now).inclusion made.inclusion n.actor.state living empty) (living_there n.actor.state living) acts_are (speaks its end_is given_is (enters_made stands))),
                 )
 
-            pub halted_acts : (stop : Stop) (out : List Line) (half_fence : Readiness)
+            pub halted_acts : (stop : Stop) (out : List Entry) (half_fence : Readiness)
                 → ((c : Fixed directory.Unit) (st : Live directory.Unit) → IsHalfGiven (non_zero_u64_get terms.blocks_per_epoch) answers c → MayEnter c fence st
                 → Speaks (kept_material c st) (ends_half half_fence st (Err stop)) mid out)
                 → MakesAt (on_devices (node_opening its)) (by_node_stop stop) files image files_now between old (moment out s f)
@@ -262,7 +262,7 @@ module _ (script : Script) (number : ℕ) (life : Life) (source : HeldBlocks) (f
         ended_acts {files_now} {image} {between} {old} {new} made =
             ended_makes its stop (subst (λ (how : Ended _ _). MakesAt (on_devices (opening its)) how files image files_now between old new) (lives_err (live_of made.now fence) state stop) made.holds)
 
-        pub ended_lines : {out new : List Line} {Given : Seen → Type 0} (Asked : Seen → Type 0) → ((s : Seen) → Given s → Asked s)
+        pub ended_lines : {out new : List Entry} {Given : Seen → Type 0} (Asked : Seen → Type 0) → ((s : Seen) → Given s → Asked s)
             → HasRead Given (λ s. EndsBeside nothing_beside Took (λ now. Tells (opening (reading s its)) (lives (live_of now fence) state (Err stop)) out new))
             → HasRead Asked (λ s. Tells (node_opening (at_step (life_with (λ h. s)) 0)) (by_node_stop stop) out new)
         ended_lines {out} {new} Asked so said = record {

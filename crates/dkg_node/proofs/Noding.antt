@@ -25,7 +25,7 @@ use Rattle.dkg_journal.specs.Names.{Files}
 use Rattle.dkg_infos.specs.declared.directory.Unit as directory
 use Rattle.dkg_types.specs.Blocks.{Block}
 use Rattle.dkg_infos.specs.Units.{unit_spelling}
-use Rattle.dkg_infos.specs.declared.entry.Entry.{Entry as Line}
+use Rattle.dkg_infos.specs.declared.entry.Entry.{Entry}
 use Rattle.dkg_infos.specs.declared.entry.Entry.TheVariants.{Acked}
 use Rattle.dkg_infos.specs.declared.fault.Fault.{Fault}
 use Rattle.dkg_infos.specs.declared.fault.Fault.TheVariants as fault
@@ -153,7 +153,7 @@ goes_on c st reshare unawaited = unless_reshare c (asks_again c st) (Goes st) re
 
 module _ {S : Type 0} (course : Course directory.Unit NodeStop S) where
   -- what touches no device, as acts over both
-  pub speaks_makes : (how : Ended NodeStop S) (files : Files) (image : Files → Type 0) {out now : List Line} {s : Secrets} {f : Burn} → Speaks course how out now
+  pub speaks_makes : (how : Ended NodeStop S) (files : Files) (image : Files → Type 0) {out now : List Entry} {s : Secrets} {f : Burn} → Speaks course how out now
       → MakesAt (on_devices course) how files image files image (moment out s f) (moment now s f)
   speaks_makes how files image {out} {now} {s} {f} speaks = record {
     made = record {
@@ -169,10 +169,10 @@ module _ {S : Type 0} (course : Course directory.Unit NodeStop S) where
       stood (broken cause) = tt
 
   -- .. and its lines
-  pub speaks_says : (how : Ended NodeStop S) {out now : List Line} → Speaks course how out now → Tells course how out now
+  pub speaks_says : (how : Ended NodeStop S) {out now : List Entry} → Speaks course how out now → Tells course how out now
   speaks_says how {out} {now} speaks = said_of_runs (on_devices course) how (record { out = out; held = nothing_held; fuse = never }) (record { out = now; held = nothing_held; fuse = never }) (speaks nothing_held never)
 
-says_nothing : {st : Live directory.Unit} (out : List Line) → Tells {Dir = directory.Unit} {F = NodeStop} (Goes st) (went st) out out
+says_nothing : {st : Live directory.Unit} (out : List Entry) → Tells {Dir = directory.Unit} {F = NodeStop} (Goes st) (went st) out out
 says_nothing out = record { lines = []; added = sym (append-nil out); by = (refl, refl) }
 
 -- ACTS BEHIND OTHERS
@@ -267,7 +267,7 @@ module _ (n : Node) (c : Fixed directory.Unit) (beside : Beside directory.Unit) 
         → Viewed n result (λ ended. MakesAt (on_devices (node_step c (Reshare mail) st)) ended files image files_now now old new)
     heard result P ends seen made = heard_in n.actor.state refl result P ends seen made
 
-  module _ (out now : List Line) where
+  module _ (out now : List Entry) where
     said_in : (state : NodeState) → n.actor.state ≡ state → (result : Result (Unit {0}) Stop) (P : reshare.Life directory.Unit → Type 0) → EndsAt state result P → OnOk result (Shows state beside.inclusion)
         → Tells (step c (Sent mail) st) (lives (live_of beside n.fence) state result) out now → Viewed n result (λ ended. Tells (node_step c (Reshare mail) st) ended out now)
     said_in (Living life its) is (Ok done) P ends seen said = (
@@ -345,24 +345,24 @@ module _ (n : Node) (half_was : Half) (fence_was : Readiness) (c : Fixed directo
   refused_made New stop P ends made = node_ends (step c (Finalized b) st) next_behind stop made
   refused_made HadFailed stop P ends made = node_ends (step c (Finalized b) st) next_behind stop made
 
-  pub refused_said : {out now : List Line} (state : NodeState) (stop : Stop) (P : reshare.Life directory.Unit → Type 0) → EndsAt state (Err stop) P
+  pub refused_said : {out now : List Entry} (state : NodeState) (stop : Stop) (P : reshare.Life directory.Unit → Type 0) → EndsAt state (Err stop) P
       → Tells (step c (Finalized b) st) (lives (live_of beside fence_was) state (Err stop)) out now → Tells (node_step c (Delivers b) st) (by_node_stop stop) out now
   refused_said (Living life its) stop P ends said = node_says_early (step c (Finalized b) st) next_behind stop said
   refused_said New stop P ends said = node_says_early (step c (Finalized b) st) next_behind stop said
   refused_said HadFailed stop P ends said = node_says_early (step c (Finalized b) st) next_behind stop said
 
   -- .. or it went there, to such a life that its lines say, and the other half answered
-  abbrev pub Answers : (Live directory.Unit → Type 0) → Result (Unit {0}) Stop → (mid now : List Line) → Type 0
+  abbrev pub Answers : (Live directory.Unit → Type 0) → Result (Unit {0}) Stop → (mid now : List Entry) → Type 0
   Answers Led result mid now = (end : Live directory.Unit) → HasOrchestratorHalf half_was end → end.orchestrator.fence ≡ fence_was → Led end → Speaks (answered end) (ends_node (with_orchestrator_half n.half n.fence end) result) mid now
 
   abbrev pub Leads : (Live directory.Unit → Type 0) → Type 0
-  Leads Led = (end : Live directory.Unit) → end.orchestrator.fence ≡ fence_was → (out now : List Line) → Said (on_devices (step c (Finalized b) st)) (went end) out now → Led end
+  Leads Led = (end : Live directory.Unit) → end.orchestrator.fence ≡ fence_was → (out now : List Entry) → Said (on_devices (step c (Finalized b) st)) (went end) out now → Led end
 
   mid_has : (life : reshare.Life directory.Unit) → HasOrchestratorHalf half_was (mid_of life)
   mid_has life = record { entered = has.entered; halted = has.halted; unawaited = has.unawaited }
 
   module _ (Led : Live directory.Unit → Type 0) (leads : Leads Led) where
-    module _ (files files_now : Files) (image now : Files → Type 0) (old : Moment) (mid_out out : List Line) (s : Secrets) (f : Burn) where
+    module _ (files files_now : Files) (image now : Files → Type 0) (old : Moment) (mid_out out : List Entry) (s : Secrets) (f : Burn) where
       pub taken_in : (state : NodeState) → n.actor.state ≡ state → (P : reshare.Life directory.Unit → Type 0) → EndsAt state (Ok tt) P → Shows state beside.inclusion
           → MakesAt (on_devices (step c (Finalized b) st)) (lives (live_of beside fence_was) state (Ok tt)) files image files_now now old (moment mid_out s f)
           → (result : Result (Unit {0}) Stop) → Answers Led result mid_out out
@@ -381,7 +381,7 @@ module _ (n : Node) (half_was : Half) (fence_was : Readiness) (c : Fixed directo
       taken_in New is P ends seen made result speaks = absurd ends
       taken_in HadFailed is P ends seen made result speaks = absurd ends
 
-    module _ (out mid_out now : List Line) where
+    module _ (out mid_out now : List Entry) where
       pub told_in : (state : NodeState) → n.actor.state ≡ state → (P : reshare.Life directory.Unit → Type 0) → EndsAt state (Ok tt) P → Shows state beside.inclusion
           → Tells (step c (Finalized b) st) (lives (live_of beside fence_was) state (Ok tt)) out mid_out
           → (result : Result (Unit {0}) Stop) → Answers Led result mid_out now
@@ -560,7 +560,7 @@ module _ (before n : Node) (g : Lived) (number : ℕ) (st : Live directory.Unit)
   viewed_as its = λ i. step given_at its (sym view.is i)
 
   -- WHAT A BLOCK LEAVES is what a step of the form leaves
-  module _ (b : Block directory.Unit) (end : Live directory.Unit) (out now : List Line) (said : Said (on_devices (step given_at (Finalized b) st)) (went end) out now) where
+  module _ (b : Block directory.Unit) (end : Live directory.Unit) (out now : List Entry) (said : Said (on_devices (step given_at (Finalized b) st)) (went end) out now) where
     next_said : IsNextThrough given_at any_shares st (Finalized b) None end None
     next_said =
         came_to (IsStopThrough given_at any_shares st (Finalized b) None) (λ end. IsNextThrough given_at any_shares st (Finalized b) None end None) (step given_at (Finalized b) st) (went end) out now
@@ -614,7 +614,7 @@ module _ (before n : Node) (g : Lived) (number : ℕ) (st : Live directory.Unit)
             (subst (λ (a : Course directory.Unit Fault (Live directory.Unit)). MakesAt (on_devices a) (lives (live_of e.now n.fence) n.actor.state result) files image files_now next old new)
             (viewed_as (message_of its) ∙ ap (λ (m : Message directory.Unit). step given_at m st) sent.1) e.so))
 
-      module _ (out now : List Line) where
+      module _ (out now : List Entry) where
         abbrev Told : reshare.Life directory.Unit → Beside directory.Unit → Type 0
         Told life beside = Tells (step given_at (message_of its) (live_of view.beside before.fence life)) (lives (live_of beside n.fence) n.actor.state result) out now
 
@@ -644,7 +644,7 @@ module _ (before n : Node) (g : Lived) (number : ℕ) (st : Live directory.Unit)
           let e = behind Includes includes IsNow Took (MadeBy (Err stop)) made in
           refused_made n before.half fence given_at e.now e.has (at_oneshot g number) b st n.actor.state stop P ends (made_as (Err stop) e.now e.so)
 
-    module _ (out now : List Line) where
+    module _ (out now : List Entry) where
       abbrev ToldBy : Result (Unit {0}) Stop → reshare.Life directory.Unit → Beside directory.Unit → Type 0
       ToldBy result life beside = Tells (step given_at (Finalized b) (live_of view.beside before.fence life)) (lives (live_of beside fence) n.actor.state result) out now
 
@@ -676,15 +676,15 @@ module _ (before n : Node) (g : Lived) (number : ℕ) (st : Live directory.Unit)
     abbrev pub MayGo : Live directory.Unit → Type 0
     MayGo end = (epoch : ℕ) → before.half.halted ≡ false → before.half.entered ≡ Some epoch → MayGoOn given_at fence b epoch end
 
-    abbrev pub Speaking : Result (Unit {0}) Stop → (mid now : List Line) → Type 0
+    abbrev pub Speaking : Result (Unit {0}) Stop → (mid now : List Entry) → Type 0
     Speaking result mid now = (end : Live directory.Unit) → HasOrchestratorHalf before.half end → end.orchestrator.fence ≡ fence → MayGo end
         → Speaks (bind (takes_delivered given_at b end) (λ half. acked_at b.height half.answer half.live)) (ends_node (with_orchestrator_half n.half n.fence end) result) mid now
 
-    leads_on : (end : Live directory.Unit) → end.orchestrator.fence ≡ fence → (out now : List Line) → Said (on_devices (step given_at (Finalized b) st)) (went end) out now → MayGo end
+    leads_on : (end : Live directory.Unit) → end.orchestrator.fence ≡ fence → (out now : List Entry) → Said (on_devices (step given_at (Finalized b) st)) (went end) out now → MayGo end
     leads_on end is out now said = may_go_on b end out now said fence is
 
     module _ (P : reshare.Life directory.Unit → Type 0) (ends : EndsAt n.actor.state (Ok tt) P) (result : Result (Unit {0}) Stop) where
-      pub takes : (files files_now : Files) (image next : Files → Type 0) (old : Moment) (mid_out out : List Line) (s : Secrets) (f : Burn)
+      pub takes : (files files_now : Files) (image next : Files → Type 0) (old : Moment) (mid_out out : List Entry) (s : Secrets) (f : Burn)
           → Promises Includes (λ i. Shows n.actor.state i) Took (MadeBy files files_now image next old (moment mid_out s f) (Ok tt)) → Speaking result mid_out out
           → Viewed n result (λ ended. MakesAt (on_devices (node_step given_at (Delivers b) st)) ended files image files_now next old (moment out s f))
       takes files files_now image next old mid_out out s f made speaks =
@@ -692,14 +692,14 @@ module _ (before n : Node) (g : Lived) (number : ℕ) (st : Live directory.Unit)
           taken_in n before.half fence given_at e.now e.has (at_oneshot g number) b st MayGo leads_on files files_now image next old mid_out out s f n.actor.state refl P ends e.such
           (made_as files files_now image next old (moment mid_out s f) (Ok tt) e.now e.so) result speaks
 
-      pub takes_said : (out mid now : List Line) → Promises Includes (λ i. Shows n.actor.state i) Took (ToldBy out mid (Ok tt)) → Speaking result mid now
+      pub takes_said : (out mid now : List Entry) → Promises Includes (λ i. Shows n.actor.state i) Took (ToldBy out mid (Ok tt)) → Speaking result mid now
           → Viewed n result (λ ended. Tells (node_step given_at (Delivers b) st) ended out now)
       takes_said out mid now said speaks =
           let e = behind Includes includes (λ i. Shows n.actor.state i) Took (ToldBy out mid (Ok tt)) said in
           told_in n before.half fence given_at e.now e.has (at_oneshot g number) b st MayGo leads_on out mid now n.actor.state refl P ends e.such (told_as out mid (Ok tt) e.now e.so) result speaks
 
 -- nothing is said where nothing was found
-pub unsaid : {S : Type 0} (acts : Acts NodeStop S) (cause : Cause) (out : List Line) → Said acts (broken cause) out out
+pub unsaid : {S : Type 0} (acts : Acts NodeStop S) (cause : Cause) (out : List Entry) → Said acts (broken cause) out out
 unsaid acts cause out = record { lines = []; added = sym (append-nil out); by = none_first acts }
 
 -- want of memory, in what was made so far
@@ -773,7 +773,7 @@ module _ (g : Lived) (number n : ℕ) (st : Live directory.Unit) (b : Block dire
       feed_made request its =
           subst (λ (a : Course directory.Unit NodeStop (Live directory.Unit)). Viewed node result (λ ended. MakesAt (on_devices a) ended files image files_now now old new)) (feed_step request) its
 
-    module _ (out now : List Line) where
+    module _ (out now : List Entry) where
       pub block_said : Viewed node result (λ ended. Tells (node_step (at_step g number) (Delivers b) st) ended out now)
           → Viewed node result (λ ended. Tells (step_of g number (event.Final n) st) ended out now)
       block_said its =

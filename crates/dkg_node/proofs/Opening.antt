@@ -13,7 +13,7 @@ use Rattle.dkg_types.specs.Blocks.{Block}
 use Rattle.dkg_types.specs.BlockCodes.{info_of}
 use Rattle.dkg_infos.specs.declared.directory.Unit as directory
 use Rattle.dkg_journal.specs.Opening.{open_calls}
-use Rattle.dkg_infos.specs.declared.entry.Entry.{Entry as Line}
+use Rattle.dkg_infos.specs.declared.entry.Entry.{Entry}
 use Rattle.dkg_infos.specs.declared.fault.Fault.{Fault}
 use Rattle.dkg_infos.specs.declared.info.EpochInfo.{EpochInfo}
 use Rattle.dkg_types.specs.declared.scheme.SchemeInfo.{SchemeInfo}
@@ -139,7 +139,7 @@ module _ (n : Node) (c : Fixed directory.Unit) (reshare_is : c.oneshot ≡ None)
     entered_as : next_opening (live_of now fence life) ≡ kept_material c (live_of now fence life)
     entered_as = unless_reshare c (kept_material c (live_of now fence life)) (Goes (live_of now fence life)) reshare_is
 
-    pub opened_made : {files files_now : Files} {image next : Files → Type 0} {old : Moment} {mid_out out : List Line} {s : Secrets} {f : Burn}
+    pub opened_made : {files files_now : Files} {image next : Files → Type 0} {old : Moment} {mid_out out : List Entry} {s : Secrets} {f : Burn}
         → MakesAt (on_devices (opening c)) (went (live_of now fence life)) files image files_now next old (moment mid_out s f)
         → Speaks (kept_material c (live_of now fence life)) (went end_of) mid_out out
         → MakesAt (on_devices (node_opening c)) (went end_of) files image files_now next old (moment out s f)
@@ -148,7 +148,7 @@ module _ (n : Node) (c : Fixed directory.Unit) (reshare_is : c.oneshot ≡ None)
         (subst (λ (a : Course directory.Unit NodeStop (Live directory.Unit)). MakesAt (on_devices a) (went end_of) files_now next files_now next (moment mid_out s f) (moment out s f)) (sym entered_as)
         (speaks_makes (kept_material c (live_of now fence life)) (went end_of) files_now next speaks))
 
-    pub opened_says : {out mid_out new : List Line} → Said (on_devices (opening c)) (went (live_of now fence life)) out mid_out
+    pub opened_says : {out mid_out new : List Entry} → Said (on_devices (opening c)) (went (live_of now fence life)) out mid_out
         → Speaks (kept_material c (live_of now fence life)) (went end_of) mid_out new → ViewedNew (Ok n) (λ ended. Tells (node_opening c) ended out new)
     opened_says {mid_out = mid_out} {new = new} said speaks = (
       end_of,
@@ -159,7 +159,7 @@ module _ (n : Node) (c : Fixed directory.Unit) (reshare_is : c.oneshot ≡ None)
 
 -- .. or the second has found no memory: an orchestrator's half that stops, over any node
 module _ (c : Fixed directory.Unit) (reshare_is : c.oneshot ≡ None) (st : Live directory.Unit) (stop : Stop) where
-  pub halted_makes : {files files_now : Files} {image next : Files → Type 0} {old : Moment} {mid_out out : List Line} {s : Secrets} {f : Burn}
+  pub halted_makes : {files files_now : Files} {image next : Files → Type 0} {old : Moment} {mid_out out : List Entry} {s : Secrets} {f : Burn}
       → MakesAt (on_devices (opening c)) (went st) files image files_now next old (moment mid_out s f) → Speaks (kept_material c st) (by_node_stop stop) mid_out out
       → MakesAt (on_devices (node_opening c)) (by_node_stop stop) files image files_now next old (moment out s f)
   halted_makes {files_now = files_now} {next = next} {mid_out = mid_out} {out = out} {s = s} {f = f} made speaks =
@@ -167,7 +167,7 @@ module _ (c : Fixed directory.Unit) (reshare_is : c.oneshot ≡ None) (st : Live
       (subst (λ (a : Course directory.Unit NodeStop (Live directory.Unit)). MakesAt (on_devices a) (by_node_stop stop) files_now next files_now next (moment mid_out s f) (moment out s f))
       (sym (unless_reshare c (kept_material c st) (Goes st) reshare_is)) (speaks_makes (kept_material c st) (by_node_stop stop) files_now next speaks))
 
-  pub halted_says : {out mid_out new : List Line} → Said (on_devices (opening c)) (went st) out mid_out → Speaks (kept_material c st) (by_node_stop stop) mid_out new → Tells (node_opening c) (by_node_stop stop) out new
+  pub halted_says : {out mid_out new : List Entry} → Said (on_devices (opening c)) (went st) out mid_out → Speaks (kept_material c st) (by_node_stop stop) mid_out new → Tells (node_opening c) (by_node_stop stop) out new
   halted_says {mid_out = mid_out} {new = new} said speaks =
       node_says (opening c) (λ st. unless_once c (kept_material c st) (Goes st)) said
       (subst (λ (a : Course directory.Unit NodeStop (Live directory.Unit)). Tells a (by_node_stop stop) mid_out new)
@@ -179,7 +179,7 @@ module _ (c : Fixed directory.Unit) (stop : Stop) where
       → MakesAt (on_devices (node_opening c)) (by_node_stop stop) files image files_now next old new
   ended_makes made = node_ends (opening c) (λ st. unless_once c (kept_material c st) (Goes st)) stop made
 
-  pub ended_says : {out new : List Line} → Said (on_devices (opening c)) (by_stop stop) out new → Tells (node_opening c) (by_node_stop stop) out new
+  pub ended_says : {out new : List Entry} → Said (on_devices (opening c)) (by_stop stop) out new → Tells (node_opening c) (by_node_stop stop) out new
   ended_says said = node_says_early (opening c) (λ st. unless_once c (kept_material c st) (Goes st)) stop said
 
 -- HOW AN OPENING OF THE ACTOR ENDED
@@ -275,15 +275,15 @@ module _ (g : Lived) (here : IsLifeInForm g) (now : Beside directory.Unit) (fenc
     abbrev behind : Live directory.Unit
     behind = live_of now fence life
 
-    opened_behind : {out new : List Line} → Said (on_devices (opening (at_step g 0))) (went behind) out new → (seen : Seen) × (k : Held) × IsOpened (at_step g 0) seen k behind
+    opened_behind : {out new : List Entry} → Said (on_devices (opening (at_step g 0))) (went behind) out new → (seen : Seen) × (k : Held) × IsOpened (at_step g 0) seen k behind
     opened_behind {out} {new} said =
         let came = openings_lead (at_step g 0) (went behind) out new (form_at g here 0) said in
         ((at_step g 0).seen came.0, came.1, came.2)
 
-    pub fence_ready : {out new : List Line} → Said (on_devices (opening (at_step g 0))) (went behind) out new → IsFenceReady (at_step g 0) fence
+    pub fence_ready : {out new : List Entry} → Said (on_devices (opening (at_step g 0))) (went behind) out new → IsFenceReady (at_step g 0) fence
     fence_ready said = let its = opened_behind said in ready_behind (at_step g 0) its.0 its.1 behind its.2
 
-    pub may_enter : {out new : List Line} → Said (on_devices (opening (at_step g 0))) (went behind) out new → MayEnter (at_step g 0) fence behind
+    pub may_enter : {out new : List Entry} → Said (on_devices (opening (at_step g 0))) (went behind) out new → MayEnter (at_step g 0) fence behind
     may_enter said =
         let its = opened_behind said in
         record {

@@ -6,7 +6,7 @@ use Rattle.dkg_journal.specs.Records.{SectionEntry, entries}
 use Rattle.dkg_journal.specs.Steps.{Keeps}
 use Rattle.dkg_values.specs.declared.name.Name.{Name}
 use Rattle.dkg_infos.specs.declared.directory.Unit as directory
-use Rattle.dkg_infos.specs.declared.entry.Entry.{Entry as Line}
+use Rattle.dkg_infos.specs.declared.entry.Entry.{Entry}
 use Rattle.dkg_infos.specs.declared.fault.Fault.{Fault}
 use Rattle.dkg_infos.specs.declared.fault.Fault.TheVariants as fault
 use Rattle.dkg_store.specs.Acts.{Ended, Stands, by_cut, by_disk, by_secrets, by_want, held_in, stopped}
@@ -31,11 +31,11 @@ shut_none : (image : Files → Type 0) (held : Secrets) → StaysShut image imag
 shut_none image held = record { images = record { each = λ c here. (c, here, record { plan = refl; same = refl }) }; same = refl }
 
 -- no journal was opened
-pub unopened : (T Readable : Type 0) (stop : Stop) (out : List Line) (image : Files → Type 0) (held : Secrets) → OpensReadable {T = T} Readable (Err stop) out out image image held held
+pub unopened : (T Readable : Type 0) (stop : Stop) (out : List Entry) (image : Files → Type 0) (held : Secrets) → OpensReadable {T = T} Readable (Err stop) out out image image held held
 unopened T Readable stop out image held = record { ok = tt; untold = λ no. refl; shut = λ no. shut_none image held }
 
 -- .. or its opening ended so
-pub readable_ended : (T U : Type 0) (limit most : ℕ) → limit ≡ most → (files : Files) (stop : Stop) {out now : List Line} {image next : Files → Type 0} {held held_now : Secrets}
+pub readable_ended : (T U : Type 0) (limit most : ℕ) → limit ≡ most → (files : Files) (stop : Stop) {out now : List Entry} {image next : Files → Type 0} {held held_now : Secrets}
     → OpensReadable {T = T} (IsInGrammar limit files) (Err stop) out now image next held held_now → OpensReadable {T = U} (IsInGrammar most files) (Err stop) out now image next held held_now
 readable_ended T U limit most same files stop {out} {now} {image} {next} {held} {held_now} its =
     subst (λ (n : ℕ). OpensReadable {T = U} (IsInGrammar n files) (Err stop) out now image next held held_now) same (record { ok = tt; untold = its.untold; shut = its.shut })
@@ -70,7 +70,7 @@ grammar_or limit files = by_broken (broken files) refl (events_or limit (entries
 
 -- THE STOP of an opening that said nothing came from outside
 
-ends_none : (old added : List Line) → old ≡ old ++ added → added ≡ []
+ends_none : (old added : List Entry) → old ≡ old ++ added → added ≡ []
 ends_none [] added is = sym is
 ends_none (x ∷ old) added is = ends_none old added (rest is)
   where
@@ -84,14 +84,14 @@ broken_outside fault.Secrets is = record { cause = by_secrets; by = refl }
 broken_outside (fault.Corrupt name place) is = record { cause = by_disk; by = refl }
 broken_outside its is = absurd is
 
-module _ (c : Fixed directory.Unit) (out now : List Line) (untold : now ≡ out) where
+module _ (c : Fixed directory.Unit) (out now : List Entry) (untold : now ≡ out) where
   pub unsaid_stop : (stop : Stop) → Said (on_devices (node_opening c)) (by_node_stop stop) out now → IsBroken stop
   unsaid_stop Cut said = record { cause = by_cut; by = refl }
   unsaid_stop Failed said = record { cause = by_want; by = refl }
   unsaid_stop (FaultOf its) said = by_kind (own_or_outside its)
     where
-      nothing : (added : List Line) → added ≡ [] → BeginsOpened {F = NodeStop} {S = Live directory.Unit} c.life added (stopped (Faulted its)) → ⊥
-      nothing added is begins = subst (λ (l : List Line). BeginsOpened {F = NodeStop} {S = Live directory.Unit} c.life l (stopped (Faulted its))) is begins
+      nothing : (added : List Entry) → added ≡ [] → BeginsOpened {F = NodeStop} {S = Live directory.Unit} c.life added (stopped (Faulted its)) → ⊥
+      nothing added is begins = subst (λ (l : List Entry). BeginsOpened {F = NodeStop} {S = Live directory.Unit} c.life l (stopped (Faulted its))) is begins
 
       by_kind : IsOutside its ⊎ (by_node_stop {S = Live directory.Unit} (FaultOf its) ≡ stopped (Faulted its)) → IsBroken (FaultOf its)
       by_kind (inl is) = broken_outside its is

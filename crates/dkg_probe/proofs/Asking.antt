@@ -2,7 +2,7 @@
 use Rattle.std.proofs.Common.{◌≡◌, inr, ℕ, ◌+◌, ◌<◌, List, [], ◌∷◌, ◌++◌, map, length, take, true, false, Option, None, Result, Ok, Err, OnOk, OnErr, refl, sym, ap, subst, ◌∙◌, arith}
 use Rattle.std.proofs.lemmas.List.{take-map, length-map}
 use Rattle.dkg_values.specs.declared.memory.NoMemory.{NoMemory as Want}
-use Rattle.dkg_infos.specs.declared.entry.Entry.{Entry as Line}
+use Rattle.dkg_infos.specs.declared.entry.Entry.{Entry}
 use Rattle.dkg_types.specs.declared.manager.TrackError.{TrackError}
 use Rattle.dkg_types.specs.declared.manager.TrackError.TheVariants.{Missing, NoMemory}
 use Rattle.dkg_infos.specs.declared.participants.TrackedPeers.{TrackedPeers}
@@ -19,23 +19,23 @@ pub on_err : {A E : Type 0} (P : Type 0) (r : Result A E) → P → OnErr r P
 on_err P (Ok a) p = tt
 on_err P (Err e) p = p
 
-pub asked_front : (out new mid : List Line) (dealers : List ℕ) (i : ℕ) → i < length dealers → new ≡ mid → mid ≡ out ++ map latest_request (take i dealers) → IsFront (map latest_request dealers) out new
+pub asked_front : (out new mid : List Entry) (dealers : List ℕ) (i : ℕ) → i < length dealers → new ≡ mid → mid ≡ out ++ map latest_request (take i dealers) → IsFront (map latest_request dealers) out new
 asked_front out new mid dealers i lt same so_far =
-    (i, omega (arith, lt, length-map dealers latest_request), same ∙ so_far ∙ ap (λ (lines : List Line). out ++ lines) (sym (take-map latest_request i dealers)))
+    (i, omega (arith, lt, length-map dealers latest_request), same ∙ so_far ∙ ap (λ (lines : List Entry). out ++ lines) (sym (take-map latest_request i dealers)))
 
 -- all were asked, or the first of them
-pub asks_run : {Dir : Type 0} (dealers : List ℕ) (end st : State Dir) (result : Result (Unit {0}) Want) (out new : List Line) → end ≡ st → OnOk result (new ≡ out ++ map latest_request dealers)
+pub asks_run : {Dir : Type 0} (dealers : List ℕ) (end st : State Dir) (result : Result (Unit {0}) Want) (out new : List Entry) → end ≡ st → OnOk result (new ≡ out ++ map latest_request dealers)
     → OnErr result (IsFront (map latest_request dealers) out new) → ProbeRuns (says_all (map latest_request dealers) (Goes st)) (ended_in end result) out new
 asks_run dealers end st (Ok u) out new same said front = all_said (map latest_request dealers) (Goes st) end out new (said, same)
 asks_run dealers end st (Err e) out new same said front = some_said (map latest_request dealers) (Goes st) out new front
 
 -- the checkpoint was not activated
-pub begin_stops : {Dir : Type 0} (c : ProbeFixed Dir) (lack : Option ℕ) (st left : State Dir) (error : TrackError) (out : List Line) → AnswersTracking {A = Unit {0}} lack (Err error) → ProbeRuns (activates c lack st) (probe_ended_by left (Err (stop_for error))) out out
+pub begin_stops : {Dir : Type 0} (c : ProbeFixed Dir) (lack : Option ℕ) (st left : State Dir) (error : TrackError) (out : List Entry) → AnswersTracking {A = Unit {0}} lack (Err error) → ProbeRuns (activates c lack st) (probe_ended_by left (Err (stop_for error))) out out
 begin_stops c lack st left (Missing peer) out named = rw named (refl, refl)
 begin_stops c lack st left NoMemory out named = breaks_at_once (activates c lack st) out
 
 -- saying lines has nobody tracked
-asked_tracks : {F S : Type 0} (lines : List Line) (acts : ProbeActs F S) (sets : ℕ → Option TrackedPeers) (n : ℕ) → tracked_after (says_all lines acts) sets n ≡ tracked_after acts sets n
+asked_tracks : {F S : Type 0} (lines : List Entry) (acts : ProbeActs F S) (sets : ℕ → Option TrackedPeers) (n : ℕ) → tracked_after (says_all lines acts) sets n ≡ tracked_after acts sets n
 asked_tracks [] acts sets n = refl
 asked_tracks (line ∷ lines) acts sets n = asked_tracks lines acts sets n
 

@@ -6,7 +6,7 @@ use Rattle.dkg_types.specs.BlockCodes.{info_of}
 use Rattle.dkg_types.specs.Blocks.{Block}
 use Rattle.dkg_infos.specs.declared.entry.BlockedWhy.TheVariants as why
 use Rattle.dkg_infos.specs.declared.entry.BlockedWhy.{BlockedWhy}
-use Rattle.dkg_infos.specs.declared.entry.Entry.{Entry as Line}
+use Rattle.dkg_infos.specs.declared.entry.Entry.{Entry}
 use Rattle.dkg_infos.specs.declared.entry.Entry.TheVariants.{Blocked, Sent}
 use Rattle.dkg_infos.specs.declared.participants.TrackedPeers.{TrackedPeers}
 use Rattle.dkg_values.specs.Uint.{uint}
@@ -27,52 +27,52 @@ use Rattle.dkg_probe.specs.Sources.{ProbeSource}
 use Rattle.dkg_probe.specs.Wire.{ProbeReply, IsBoundary, IsBlock, IsLatest, with_commitment, request_of, reply_of}
 
 -- what was said is of P where all that may be said is
-pub none_more : (P : Line → Type 0) (out new : List Line) → new ≡ out → SaidSince P out new
+pub none_more : (P : Entry → Type 0) (out new : List Entry) → new ≡ out → SaidSince P out new
 none_more P out new e = ([], e ∙ sym (append-nil out), tt)
 
-pub one_more_said : (P : Line → Type 0) (line : Line) (out new : List Line) → P line → SaidSince P (out ++ line ∷ []) new → SaidSince P out new
+pub one_more_said : (P : Entry → Type 0) (line : Entry) (out new : List Entry) → P line → SaidSince P (out ++ line ∷ []) new → SaidSince P out new
 one_more_said P line out new p (more, e, all) = (line ∷ more, e ∙ append_assoc out (line ∷ []) more, (p, all))
 
 -- P of each line, whatever stands behind it
-abbrev pub Said : {F S : Type 0} → (Line → Type 0) → Line → ProbeActs F S → Type 0
+abbrev pub Said : {F S : Type 0} → (Entry → Type 0) → Entry → ProbeActs F S → Type 0
 Said P line acts = P line
 
-module _ {F S : Type 0} (P : Line → Type 0) (Q : Type 0) where
-  said_completing : (acts : ProbeActs F S) (end : S) (out new : List Line) → Each (Said P) Q acts → ProbeCompletes acts end out new → SaidSince P out new
+module _ {F S : Type 0} (P : Entry → Type 0) (Q : Type 0) where
+  said_completing : (acts : ProbeActs F S) (end : S) (out new : List Entry) → Each (Said P) Q acts → ProbeCompletes acts end out new → SaidSince P out new
   said_completing (Say line acts) end out new all done = one_more_said P line out new all.0 (said_completing acts end (out ++ line ∷ []) new all.1 done)
   said_completing (Track epoch peers acts) end out new all done = said_completing acts end out new all.1 done
   said_completing (Goes its) end out new all done = none_more P out new done.0
   said_completing (Stops fault) end out new all done = absurd done
 
-  said_faulting : (acts : ProbeActs F S) (fault : F) (out new : List Line) → Each (Said P) Q acts → ProbeFaults acts fault out new → SaidSince P out new
+  said_faulting : (acts : ProbeActs F S) (fault : F) (out new : List Entry) → Each (Said P) Q acts → ProbeFaults acts fault out new → SaidSince P out new
   said_faulting (Say line acts) fault out new all done = one_more_said P line out new all.0 (said_faulting acts fault (out ++ line ∷ []) new all.1 done)
   said_faulting (Track epoch peers acts) fault out new all done = said_faulting acts fault out new all.1 done
   said_faulting (Goes its) fault out new all done = absurd done
   said_faulting (Stops its) fault out new all done = none_more P out new done.0
 
-  said_breaking : (acts : ProbeActs F S) (out new : List Line) → Each (Said P) Q acts → ProbeBreaks acts out new → SaidSince P out new
+  said_breaking : (acts : ProbeActs F S) (out new : List Entry) → Each (Said P) Q acts → ProbeBreaks acts out new → SaidSince P out new
   said_breaking (Say line acts) out new all done = elim done [ inl e ↦ none_more P out new e | inr more ↦ one_more_said P line out new all.0 (said_breaking acts (out ++ line ∷ []) new all.1 more.1) ]
   said_breaking (Track epoch peers acts) out new all done = said_breaking acts out new all.1 done
   said_breaking (Goes its) out new all done = none_more P out new done
   said_breaking (Stops its) out new all done = none_more P out new done
 
-  pub said_running : (acts : ProbeActs F S) (ended : ProbeEnded F S) (out new : List Line) → Each (Said P) Q acts → ProbeRuns acts ended out new → SaidSince P out new
+  pub said_running : (acts : ProbeActs F S) (ended : ProbeEnded F S) (out new : List Entry) → Each (Said P) Q acts → ProbeRuns acts ended out new → SaidSince P out new
   said_running acts (went end) out new all done = said_completing acts end out new all done
   said_running acts (stopped fault) out new all done = said_faulting acts fault out new all done
   said_running acts broken out new all done = said_breaking acts out new all done
 
-pub if_each : {F S : Type 0} (P : Line → ProbeActs F S → Type 0) (Q : Type 0) (b : Bool) (x y : ProbeActs F S) → (b ≡ true → Each P Q x) → (b ≡ false → Each P Q y) → Each P Q (if b then x else y)
+pub if_each : {F S : Type 0} (P : Entry → ProbeActs F S → Type 0) (Q : Type 0) (b : Bool) (x y : ProbeActs F S) → (b ≡ true → Each P Q x) → (b ≡ false → Each P Q y) → Each P Q (if b then x else y)
 if_each P Q true x y p q = p refl
 if_each P Q false x y p q = q refl
 
 -- where nothing is tracked, the sets stay
-none_tracked : {F S : Type 0} (P : Line → ProbeActs F S → Type 0) (acts : ProbeActs F S) (sets : ℕ → Option TrackedPeers) (n : ℕ) → Each P ⊥ acts → tracked_after acts sets n ≡ sets n
+none_tracked : {F S : Type 0} (P : Entry → ProbeActs F S → Type 0) (acts : ProbeActs F S) (sets : ℕ → Option TrackedPeers) (n : ℕ) → Each P ⊥ acts → tracked_after acts sets n ≡ sets n
 none_tracked P (Say line acts) sets n all = none_tracked P acts sets n all.1
 none_tracked P (Track epoch peers acts) sets n all = absurd all.0
 none_tracked P (Goes its) sets n all = refl
 none_tracked P (Stops its) sets n all = refl
 
-module _ {Dir : Type 0} (c : ProbeFixed Dir) (P : Line → Probes Dir → Type 0) (Q : Type 0) (sent : (to : Option ℕ) (bytes : List ℕ) (acts : Probes Dir) → P (Sent to bytes) acts) (blocked : (peer : ℕ) (reason : BlockedWhy) (acts : Probes Dir) → P (Blocked peer reason) acts)
+module _ {Dir : Type 0} (c : ProbeFixed Dir) (P : Entry → Probes Dir → Type 0) (Q : Type 0) (sent : (to : Option ℕ) (bytes : List ℕ) (acts : Probes Dir) → P (Sent to bytes) acts) (blocked : (peer : ℕ) (reason : BlockedWhy) (acts : Probes Dir) → P (Blocked peer reason) acts)
     (found : (known : Known Dir) (st : State Dir) → known.info.epoch ≡ known.floor.epoch → P (artifact_line c.spelling known) (Goes (with_known known st)))
     (genesis : (floor : Finalization) (st : State Dir) → floor.epoch ≡ 0 → P (artifact_line c.spelling (of_genesis c floor)) (Goes (with_known (of_genesis c floor) st))) where
   abbrev Fine : Probes Dir → Type 0
@@ -216,17 +216,17 @@ module _ {Dir : Type 0} (c : ProbeFixed Dir) (P : Line → Probes Dir → Type 0
 -- ---- what follows
 
 -- Each artifact that a step tells is of one epoch, where genesis is of epoch zero.
-pub one_epoch_since : {Dir : Type 0} (c : ProbeFixed Dir) (lack : Option ℕ) (source : ProbeSource Dir) (event : Event) (st : State Dir) (ended : ProbeEnded ℕ (State Dir)) (out new : List Line) → c.genesis.epoch ≡ 0
+pub one_epoch_since : {Dir : Type 0} (c : ProbeFixed Dir) (lack : Option ℕ) (source : ProbeSource Dir) (event : Event) (st : State Dir) (ended : ProbeEnded ℕ (State Dir)) (out new : List Entry) → c.genesis.epoch ≡ 0
     → ProbeRuns (takes c lack source event st) ended out new → SaidSince (OfOneEpoch c.spelling) out new
 one_epoch_since {Dir} c lack source event st ended out new genesis ran =
-    let P : Line → Probes Dir → Type 0 = Said (OfOneEpoch c.spelling) in
+    let P : Entry → Probes Dir → Type 0 = Said (OfOneEpoch c.spelling) in
     let from_genesis : (floor : Finalization) (st : State Dir) → floor.epoch ≡ 0 → P (artifact_line c.spelling (of_genesis c floor)) (Goes (with_known (of_genesis c floor) st)) =
     λ floor st e. record { of = c.genesis; at = floor; info_is = refl; floor_is = refl; same = genesis ∙ sym e } in
     let all = takes_fine c P (Unit {0}) (λ to bytes acts. tt) (λ peer reason acts. tt) (λ known st e. record { of = known.info; at = known.floor; info_is = refl; floor_is = refl; same = e }) from_genesis tt lack source event st in
     said_running (OfOneEpoch c.spelling) (Unit {0}) (takes c lack source event st) ended out new all ran
 
 -- Nothing is tracked by a peer's message, and by a retry.
-abbrev Any : {F S : Type 0} → Line → ProbeActs F S → Type 0
+abbrev Any : {F S : Type 0} → Entry → ProbeActs F S → Type 0
 Any line acts = Unit {0}
 
 pub hearing_tracks : {Dir : Type 0} (c : ProbeFixed Dir) (source : ProbeSource Dir) (peer : ℕ) (bytes : List ℕ) (st : State Dir) (sets : ℕ → Option TrackedPeers) (n : ℕ) → sets n ≡ tracked_after (hears c source peer bytes st) sets n

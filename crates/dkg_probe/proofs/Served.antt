@@ -6,7 +6,7 @@ use Rattle.dkg_values.specs.declared.codec.CodecError.{CodecError}
 use Rattle.dkg_types.specs.BlockCodes.{block_spelling}
 use Rattle.dkg_types.specs.Blocks.{Block}
 use Rattle.dkg_types.specs.FinalizationCodes.{finalization_spelling}
-use Rattle.dkg_infos.specs.declared.entry.Entry.{Entry as Line}
+use Rattle.dkg_infos.specs.declared.entry.Entry.{Entry}
 use Rattle.dkg_types.specs.declared.finalization.Finalization.{Finalization}
 use Rattle.dkg_probe.specs.declared.event.Event.{Event}
 use Rattle.dkg_probe.specs.declared.event.Event.TheVariants.{Subscribe, Unsubscribe, Attach, Peer, Retry}
@@ -73,5 +73,5 @@ module _ {Dir : Type 0} (c : ProbeFixed Dir) (source : ProbeSource Dir) where
       if_each (Said (Serves c source Retry)) (Unit {0}) (is_done st || (st.subscribers == 0)) (Goes st) (retries_in c st st.awaited) (λ e. tt)
       (λ e. absurd (never_both (is_done st || (st.subscribers == 0)) (or_first (is_done st) (st.subscribers == 0) (or_first st.serving (is_some st.known) on)) e))
 
-  pub served_since : (lack : Option ℕ) (event : Event) (st : State Dir) (ended : ProbeEnded ℕ (State Dir)) (out new : List Line) → st.serving ≡ true → ProbeRuns (takes c lack source event st) ended out new → SaidSince (Serves c source event) out new
+  pub served_since : (lack : Option ℕ) (event : Event) (st : State Dir) (ended : ProbeEnded ℕ (State Dir)) (out new : List Entry) → st.serving ≡ true → ProbeRuns (takes c lack source event st) ended out new → SaidSince (Serves c source event) out new
   served_since lack event st ended out new on ran = said_running (Serves c source event) (Unit {0}) (takes c lack source event st) ended out new (serving event lack st on) ran

@@ -17,7 +17,7 @@ use Rattle.dkg_ceremony.specs.Schedule.{in_range, last}
 use Rattle.dkg_types.specs.BlockCodes.{info_of}
 use Rattle.dkg_types.specs.Blocks.{Block}
 use Rattle.dkg_infos.specs.declared.entry.BlockedWhy.TheVariants as why
-use Rattle.dkg_infos.specs.declared.entry.Entry.{Entry as Line}
+use Rattle.dkg_infos.specs.declared.entry.Entry.{Entry}
 use Rattle.dkg_types.specs.declared.finalization.Finalization.{Finalization}
 use Rattle.dkg_infos.specs.declared.info.EpochInfo.{EpochInfo}
 use Rattle.dkg_probe.specs.declared.artifact.Artifact.{Artifact as Known}
@@ -77,7 +77,7 @@ Ends Q (Goes end) = Q end
 Ends Q (Stops fault) = Unit {0}
 
 module _ {Dir : Type 0} (Q : State Dir → Type 0) where
-  ends_at : (acts : Probes Dir) (end : State Dir) (out new : List Line) → Ends Q acts → ProbeCompletes acts end out new → Q end
+  ends_at : (acts : Probes Dir) (end : State Dir) (out new : List Entry) → Ends Q acts → ProbeCompletes acts end out new → Q end
   ends_at (Say line acts) end out new all done = ends_at acts end (out ++ line ∷ []) new all done
   ends_at (Track epoch peers acts) end out new all done = ends_at acts end out new all done
   ends_at (Goes its) end out new all done = subst Q (sym done.1) all
@@ -89,7 +89,7 @@ module _ {Dir : Type 0} (Q : State Dir → Type 0) where
   ends_any (Goes end) q = q end
   ends_any (Stops fault) q = tt
 
-  ends_after : (lines : List Line) (acts : Probes Dir) → Ends Q acts → Ends Q (says_all lines acts)
+  ends_after : (lines : List Entry) (acts : Probes Dir) → Ends Q acts → Ends Q (says_all lines acts)
   ends_after [] acts all = all
   ends_after (line ∷ lines) acts all = ends_after lines acts all
 
@@ -497,13 +497,13 @@ module _ {Dir : Type 0} (c : ProbeFixed Dir) where
 
   -- ---- what follows
 
-  pub step_sound : (lack : Option ℕ) (source : ProbeSource Dir) (event : Event) (st mid new : State Dir) (out after : List Line) → IsSoundState c st → new ≡ then_serves mid → ProbeCompletes (takes c lack source event st) mid out after → IsSoundState c new
+  pub step_sound : (lack : Option ℕ) (source : ProbeSource Dir) (event : Event) (st mid new : State Dir) (out after : List Entry) → IsSoundState c st → new ≡ then_serves mid → ProbeCompletes (takes c lack source event st) mid out after → IsSoundState c new
   step_sound lack source event st mid new out after sound is ran =
       let mid_sound = ends_at (IsSoundState c) (takes c lack source event st) mid out after (takes_sound lack source event st sound) ran in
       subst (λ (s : State Dir). IsSoundState c s) (sym is)
       (record { replies = mid_sound.replies; chosen = mid_sound.chosen; awaited = mid_sound.awaited; known = mid_sound.known; waits = mid_sound.waits; settled = mid_sound.settled })
 
-  pub step_keeps : (lack : Option ℕ) (source : ProbeSource Dir) (event : Event) (st mid new : State Dir) (out after : List Line) → IsSoundState c st → new ≡ then_serves mid → ProbeCompletes (takes c lack source event st) mid out after → KeepsArtifact st new
+  pub step_keeps : (lack : Option ℕ) (source : ProbeSource Dir) (event : Event) (st mid new : State Dir) (out after : List Entry) → IsSoundState c st → new ≡ then_serves mid → ProbeCompletes (takes c lack source event st) mid out after → KeepsArtifact st new
   step_keeps lack source event st mid new out after sound is ran =
       let kept = ends_at (KeepsArtifact st) (takes c lack source event st) mid out after (takes_kept_in st st.known refl sound.settled lack source event) ran in
       subst (λ (s : State Dir). KeepsArtifact st s) (sym is) (elim kept [ inl same ↦ inl same | inr none ↦ inr none ])

@@ -1,12 +1,12 @@
 -- What a step does, as acts in their order: lines that it says, peers that it has tracked, and how it ends. A probe has no devices, so there are no
 -- acts on them; and it has a manager, so there is one for that.
 use Rattle.std.specs.Prelude.{◌≡◌, ◌⊎◌, ℕ, ◌<◌, [], ◌∷◌, ◌++◌, length, take, List, Option, Result, Ok, Err}
-use Rattle.dkg_infos.specs.declared.entry.Entry.{Entry as Line}
+use Rattle.dkg_infos.specs.declared.entry.Entry.{Entry}
 use Rattle.dkg_infos.specs.declared.participants.TrackedPeers.{TrackedPeers}
 use Rattle.dkg_types.specs.Tracking.{with_set}
 
 pub data ProbeActs (F S : Type 0) : Type 0 where
-  Say : Line → ProbeActs F S → ProbeActs F S
+  Say : Entry → ProbeActs F S → ProbeActs F S
   -- a manager tracks these peers from now on
   Track : (epoch : ℕ) → TrackedPeers → ProbeActs F S → ProbeActs F S
   Goes : S → ProbeActs F S
@@ -21,19 +21,19 @@ probe_bind (Goes end) next = next end
 probe_bind (Stops fault) next = Stops fault
 
 -- these lines, and then the acts
-abbrev pub says_all : {F S : Type 0} → List Line → ProbeActs F S → ProbeActs F S
+abbrev pub says_all : {F S : Type 0} → List Entry → ProbeActs F S → ProbeActs F S
 says_all [] acts = acts
 says_all (line ∷ lines) acts = Say line (says_all lines acts)
 
 -- All were run, from a transcript to another.
-abbrev pub ProbeCompletes : {F S : Type 0} → ProbeActs F S → S → List Line → List Line → Type 0
+abbrev pub ProbeCompletes : {F S : Type 0} → ProbeActs F S → S → List Entry → List Entry → Type 0
 ProbeCompletes (Say line acts) end out new = ProbeCompletes acts end (out ++ line ∷ []) new
 ProbeCompletes (Track epoch peers acts) end out new = ProbeCompletes acts end out new
 ProbeCompletes (Goes its) end out new = (new ≡ out) × (end ≡ its)
 ProbeCompletes (Stops fault) end out new = ⊥
 
 -- All were run, up to the fault.
-abbrev pub ProbeFaults : {F S : Type 0} → ProbeActs F S → F → List Line → List Line → Type 0
+abbrev pub ProbeFaults : {F S : Type 0} → ProbeActs F S → F → List Entry → List Entry → Type 0
 ProbeFaults (Say line acts) fault out new = ProbeFaults acts fault (out ++ line ∷ []) new
 ProbeFaults (Track epoch peers acts) fault out new = ProbeFaults acts fault out new
 ProbeFaults (Goes end) fault out new = ⊥
@@ -47,14 +47,14 @@ ProbeSpeaks (Goes end) = ⊥
 ProbeSpeaks (Stops fault) = ⊥
 
 -- The first of them were run. The last line is said by nobody who doesn't go through.
-abbrev pub ProbeBreaks : {F S : Type 0} → ProbeActs F S → List Line → List Line → Type 0
+abbrev pub ProbeBreaks : {F S : Type 0} → ProbeActs F S → List Entry → List Entry → Type 0
 ProbeBreaks (Say line acts) out new = (new ≡ out) ⊎ (ProbeSpeaks acts × ProbeBreaks acts (out ++ line ∷ []) new)
 ProbeBreaks (Track epoch peers acts) out new = ProbeBreaks acts out new
 ProbeBreaks (Goes end) out new = new ≡ out
 ProbeBreaks (Stops fault) out new = new ≡ out
 
 -- the first lines were said, but for the last ones
-abbrev pub IsFront : List Line → List Line → List Line → Type 0
+abbrev pub IsFront : List Entry → List Entry → List Entry → Type 0
 IsFront lines out new = (count : ℕ) × (count < length lines) × (new ≡ out ++ take count lines)
 
 -- How acts ended: in this, by a fault of their own, or anywhere, by want of memory.
@@ -63,7 +63,7 @@ pub data ProbeEnded (F S : Type 0) : Type 0 where
   stopped : F → ProbeEnded F S
   broken : ProbeEnded F S
 
-abbrev pub ProbeRuns : {F S : Type 0} → ProbeActs F S → ProbeEnded F S → List Line → List Line → Type 0
+abbrev pub ProbeRuns : {F S : Type 0} → ProbeActs F S → ProbeEnded F S → List Entry → List Entry → Type 0
 ProbeRuns acts (went end) out new = ProbeCompletes acts end out new
 ProbeRuns acts (stopped fault) out new = ProbeFaults acts fault out new
 ProbeRuns acts broken out new = ProbeBreaks acts out new
@@ -81,7 +81,7 @@ Tracks acts (Ok u) old new = (n : ℕ) → new n ≡ tracked_after acts old n
 Tracks acts (Err e) old new = ((n : ℕ) → new n ≡ old n) ⊎ ((n : ℕ) → new n ≡ tracked_after acts old n)
 
 -- P of each line that is said and of the acts behind it, and Q where peers are tracked
-abbrev pub Each : {F S : Type 0} → (Line → ProbeActs F S → Type 0) → (Q : Type 0) → ProbeActs F S → Type 0
+abbrev pub Each : {F S : Type 0} → (Entry → ProbeActs F S → Type 0) → (Q : Type 0) → ProbeActs F S → Type 0
 Each P Q (Say line acts) = P line acts × Each P Q acts
 Each P Q (Track epoch peers acts) = Q × Each P Q acts
 Each P Q (Goes end) = Unit {0}

@@ -3,7 +3,7 @@ use Rattle.std.specs.Prelude.{◌≡◌, ℕ, List, ◌++◌, Option, Some, None
 use Rattle.std.specs.List.{AllByRecursion}
 use Rattle.dkg_types.specs.FinalizationCodes.{finalization_spelling}
 use Rattle.dkg_types.specs.PayloadCodes.{payload_spelling, info_payload}
-use Rattle.dkg_infos.specs.declared.entry.Entry.{Entry as Line}
+use Rattle.dkg_infos.specs.declared.entry.Entry.{Entry}
 use Rattle.dkg_infos.specs.declared.entry.Entry.TheVariants.{Artifact}
 use Rattle.dkg_types.specs.declared.finalization.Finalization.{Finalization}
 use Rattle.dkg_infos.specs.declared.info.EpochInfo.{EpochInfo}
@@ -18,16 +18,16 @@ pub record IsOfOneEpoch {Dir : Type 0} (spelling : Dir → List ℕ) (info floor
   pub same : of.epoch ≡ at.epoch
 
 -- of a line that tells an artifact
-abbrev pub OfOneEpoch : {Dir : Type 0} → (Dir → List ℕ) → Line → Type 0
+abbrev pub OfOneEpoch : {Dir : Type 0} → (Dir → List ℕ) → Entry → Type 0
 OfOneEpoch spelling (Artifact info floor) = IsOfOneEpoch spelling info floor
 OfOneEpoch spelling line = Unit {0}
 
 -- of a line that tells an artifact: it is the one that is known
-abbrev pub TellsKnown : {Dir : Type 0} → (Dir → List ℕ) → Option (Known Dir) → Line → Type 0
+abbrev pub TellsKnown : {Dir : Type 0} → (Dir → List ℕ) → Option (Known Dir) → Entry → Type 0
 TellsKnown spelling None (Artifact info floor) = ⊥
 TellsKnown spelling (Some known) (Artifact info floor) = (info ≡ payload_spelling spelling (info_payload known.info)) × (floor ≡ finalization_spelling known.floor)
 TellsKnown spelling known line = Unit {0}
 
 -- what was said since is of P
-abbrev pub SaidSince : (Line → Type 0) → List Line → List Line → Type 0
-SaidSince P out new = (more : List Line) × (new ≡ out ++ more) × AllByRecursion P more
+abbrev pub SaidSince : (Entry → Type 0) → List Entry → List Entry → Type 0
+SaidSince P out new = (more : List Entry) × (new ≡ out ++ more) × AllByRecursion P more

@@ -12,7 +12,7 @@ use Rattle.dkg_types.specs.PayloadCodes.{payload_spelling, info_payload}
 use Rattle.dkg_types.specs.Blocks.{Block}
 use Rattle.dkg_infos.specs.declared.entry.BlockedWhy.{BlockedWhy}
 use Rattle.dkg_infos.specs.declared.entry.BlockedWhy.TheVariants as why
-use Rattle.dkg_infos.specs.declared.entry.Entry.{Entry as Line}
+use Rattle.dkg_infos.specs.declared.entry.Entry.{Entry}
 use Rattle.dkg_infos.specs.declared.entry.Entry.TheVariants.{Blocked, Sent, Artifact}
 use Rattle.dkg_types.specs.declared.finalization.Finalization.{Finalization}
 use Rattle.dkg_infos.specs.declared.info.EpochInfo.{EpochInfo}
@@ -59,7 +59,7 @@ sends to bytes acts = Say (Sent to bytes) acts
 abbrev pub blocks_peer : {Dir : Type 0} → (peer : ℕ) → BlockedWhy → State Dir → Probes Dir
 blocks_peer peer reason st = Say (Blocked peer reason) (Goes st)
 
-abbrev pub latest_request : ℕ → Line
+abbrev pub latest_request : ℕ → Entry
 latest_request dealer = Sent (Some dealer) (4 ∷ [])
 
 abbrev pub with_sample : {Dir : Type 0} → Sampled → State Dir → State Dir
@@ -73,7 +73,7 @@ abbrev pub asks_dealers : {Dir : Type 0} → ProbeFixed Dir → State Dir → Pr
 asks_dealers c st = says_all (map latest_request c.bootstrap.participants.dealers) (Goes (with_sample (sample_forgotten st.sample) st))
 
 -- A candidate is asked for the block, or all are asked for its finalization.
-abbrev pub request_line : Option Candidate → (epoch : ℕ) → Line
+abbrev pub request_line : Option Candidate → (epoch : ℕ) → Entry
 request_line None epoch = Sent None (0 ∷ uint epoch)
 request_line (Some candidate) epoch = Sent (Some candidate.0) (2 ∷ uint epoch)
 
@@ -122,7 +122,7 @@ retries c st = if is_done st || (st.subscribers == 0) then Goes st else retries_
 abbrev pub with_known : {Dir : Type 0} → Known Dir → State Dir → State Dir
 with_known known st = record st { subscribers = 0; awaited = None; known = Some known }
 
-abbrev pub artifact_line : {Dir : Type 0} → (Dir → List ℕ) → Known Dir → Line
+abbrev pub artifact_line : {Dir : Type 0} → (Dir → List ℕ) → Known Dir → Entry
 artifact_line spelling known = Artifact (payload_spelling spelling (info_payload known.info)) (finalization_spelling known.floor)
 
 abbrev pub resolves : {Dir : Type 0} → (Dir → List ℕ) → Known Dir → State Dir → Probes Dir

@@ -6,7 +6,7 @@ use Rattle.dkg_types.specs.BlockCodes.{block_spelling}
 use Rattle.dkg_types.specs.Blocks.{Block}
 use Rattle.dkg_types.specs.FinalizationCodes.{finalization_spelling}
 use Rattle.dkg_infos.specs.declared.entry.BlockedWhy.TheVariants as why
-use Rattle.dkg_infos.specs.declared.entry.Entry.{Entry as Line}
+use Rattle.dkg_infos.specs.declared.entry.Entry.{Entry}
 use Rattle.dkg_infos.specs.declared.entry.Entry.TheVariants.{Blocked, Sent}
 use Rattle.dkg_types.specs.declared.finalization.Finalization.{Finalization}
 use Rattle.dkg_probe.specs.declared.event.Event.{Event}
@@ -28,13 +28,13 @@ HoldsFor {Dir} c source (request.Block epoch) bytes =
     × (bytes ≡ 3 ∷ (uint epoch ++ block_spelling c.spelling b))
 
 -- The asker alone is answered, by what is held for its request, or blocked, where its bytes are no message.
-abbrev pub AnswersAsker : {Dir : Type 0} → ProbeFixed Dir → ProbeSource Dir → (peer : ℕ) → List ℕ → Line → Type 0
+abbrev pub AnswersAsker : {Dir : Type 0} → ProbeFixed Dir → ProbeSource Dir → (peer : ℕ) → List ℕ → Entry → Type 0
 AnswersAsker c source peer asked (Sent (Some to) bytes) = (to ≡ peer) × ((r : Request) × (request_of asked ≡ Ok (Some r)) × HoldsFor c source r bytes)
 AnswersAsker c source peer asked (Blocked from why.Reply) = (from ≡ peer) × ((e : CodecError) × (request_of asked ≡ Err e))
 AnswersAsker c source peer asked line = ⊥
 
 -- of a line that is said at an event: there is none but at a peer's message
-abbrev pub Serves : {Dir : Type 0} → ProbeFixed Dir → ProbeSource Dir → Event → Line → Type 0
+abbrev pub Serves : {Dir : Type 0} → ProbeFixed Dir → ProbeSource Dir → Event → Entry → Type 0
 Serves c source Subscribe line = ⊥
 Serves c source Unsubscribe line = ⊥
 Serves c source Attach line = ⊥

@@ -13,7 +13,7 @@ use Rattle.dkg_types.specs.Blocks as made
 use Rattle.dkg_infos.specs.Units.{unit_spelling}
 use Rattle.dkg_infos.specs.declared.directory.Unit as directory
 use Rattle.dkg_infos.specs.declared.entry.Entry.TheVariants as entry
-use Rattle.dkg_infos.specs.declared.entry.Entry.{Entry as Line}
+use Rattle.dkg_infos.specs.declared.entry.Entry.{Entry}
 use Rattle.dkg_infos.specs.declared.fault.Fault.{Fault}
 use Rattle.dkg_infos.specs.declared.info.EpochInfo.{EpochInfo}
 use Rattle.dkg_text.specs.declared.script.Event.TheVariants as event
@@ -63,7 +63,7 @@ use Rattle.dkg_along.proofs.SharesFit.{same_shares}
 use Rattle.dkg_promises.proofs.SharesKnown.{IsFitting, IsMineAt, IsScripts, SharesFit, boundary_known, known_serves, last_known, mine, opening_fits, opening_fitting, said_of, share_mine, step_comes, step_fits, step_fitting}
 use Rattle.dkg_along.proofs.WorldLives.{IsCounted, Keeps, Leaves, life_holds, run_holds}
 
-all_as : (P Q : Line → Type 0) (lines : List Line) → ((line : Line) → P line → Q line) → AllByRecursion P lines → AllByRecursion Q lines
+all_as : (P Q : Entry → Type 0) (lines : List Entry) → ((line : Entry) → P line → Q line) → AllByRecursion P lines → AllByRecursion Q lines
 all_as P Q [] so all = tt
 all_as P Q (line ∷ lines) so all = (so line all.0, all_as P Q lines so all.1)
 
@@ -76,29 +76,29 @@ fits_of s epoch info known None its = tt
 fits_of s epoch info known (Some share) its = subst (λ (o : Option Info). IsSomeAnd o (λ i. partial_public_of i.output (me s) ≡ Some (share_public_of share))) (sym known) (its info known)
 
 -- what was added behind these entries tells shares that fit
-pub record AddsFitting (s : Setting) (base out : List Line) : Type 0 where
-  pub added : List Line
+pub record AddsFitting (s : Setting) (base out : List Entry) : Type 0 where
+  pub added : List Entry
   pub is : out ≡ base ++ added
   pub fits : AllByRecursion (Tells (FitsAt s)) added
 
-more_added : (s : Setting) (base old new lines : List Line) → AddsFitting s base old → new ≡ old ++ lines → AllByRecursion (Tells (FitsAt s)) lines → AddsFitting s base new
+more_added : (s : Setting) (base old new lines : List Entry) → AddsFitting s base old → new ≡ old ++ lines → AllByRecursion (Tells (FitsAt s)) lines → AddsFitting s base new
 more_added s base old new lines its is fits = record {
   added = its.added ++ lines;
-  is = is ∙ ap (λ (ls : List Line). ls ++ lines) its.is ∙ append_assoc base its.added lines;
+  is = is ∙ ap (λ (ls : List Entry). ls ++ lines) its.is ∙ append_assoc base its.added lines;
   fits = all_join (Tells (FitsAt s)) its.added lines its.fits fits;
 }
 
 -- The devices hold such shares, and such are told.
-abbrev pub IsFittingWorld : Setting → (base : List Line) → World → Type 0
+abbrev pub IsFittingWorld : Setting → (base : List Entry) → World → Type 0
 IsFittingWorld s base w = SharesFit s w.held × AddsFitting s base w.out
 
-counted : (s : Setting) (line : Line) → IsCounted line → Tells (FitsAt s) line
+counted : (s : Setting) (line : Entry) → IsCounted line → Tells (FitsAt s) line
 counted s (entry.Step step) is = tt
 counted s (entry.Cut step call) is = tt
 counted s (entry.Fault its) is = tt
 counted s line is = absurd is
 
-tells : (s : Setting) (base : List Line) (w : World) (line : Line) → IsCounted line → IsFittingWorld s base w → IsFittingWorld s base (says w line)
+tells : (s : Setting) (base : List Entry) (w : World) (line : Entry) → IsCounted line → IsFittingWorld s base w → IsFittingWorld s base (says w line)
 tells s base w line is its = (its.0, more_added s base w.out (w.out ++ line ∷ []) (line ∷ []) its.1 refl (counted s line is, tt))
 
 -- A LIFE
@@ -108,12 +108,12 @@ module _ (s : Setting) (cuts : List (Option CutAt)) (form : IsFormOfInclusion s.
   abbrev g : Lived
   g = lived s.script l life seen files
 
-  abbrev P : Line → Type 0
+  abbrev P : Entry → Type 0
   P = Tells (FitsAt s)
 
   -- what lines are said
   abbrev SaysFitting : World → World → Type 0
-  SaysFitting w new = (added : List Line) × (new.out ≡ w.out ++ added) × AllByRecursion P added
+  SaysFitting w new = (added : List Entry) × (new.out ≡ w.out ++ added) × AllByRecursion P added
 
   opening_says : (ended : Ended NodeStop (Live directory.Unit)) (w new : World) → SharesFit s w.held → EndsSo (node_opening (at_step g 0)) ended w new → SaysFitting w new
   opening_says ended w new q run =
@@ -176,14 +176,14 @@ module _ (s : Setting) (cuts : List (Option CutAt)) (form : IsFormOfInclusion s.
             (block_over c (through_at g here (suc i)) (mine s) block st (live_through g (mine s) i (suc i) st fitting.live) w.held found) (run_of (Finalized block) b.3) in
             (said.0, said.1, all_as (Tells (IsTakenShare c (mine s) block st w.held)) P said.0 fits said.2)
           where
-            fits : (line : Line) → Tells (IsTakenShare c (mine s) (b.1).block st w.held) line → P line
+            fits : (line : Entry) → Tells (IsTakenShare c (mine s) (b.1).block st w.held) line → P line
             fits (entry.Committed epoch share) taken = taken_fits b.0 b.2 (b.1).block (b.1).is epoch share taken
             fits line taken = tt
         by_kind (inr (inl p)) = said_over P (node_step c (event_of (Sent (Peer p.0 p.1))) st) ended w new (peer_over c (FitsAt s) p.0 p.1 st w.held) (run_of (Sent (Peer p.0 p.1)) p.3)
         by_kind (inr (inr o)) =
             let idle = mails_are_idle c o.0 st ended w new o.2 active.active.unawaited (run_of (Sent o.0) o.1) in (idle.lines, idle.out, all_as IsAskedLine P idle.lines (asked c (FitsAt s)) idle.says)
 
-  module _ (base : List Line) where
+  module _ (base : List Entry) where
     abbrev World_so : World → Type 0
     World_so w = IsFittingWorld s base w
 
@@ -250,21 +250,21 @@ module _ (script : Script) (files : Files) (secrets : Secrets)
       (λ l life seen its there read here old now how so lives. life_fits s cuts form consistent l life seen its there here (reads seen read) w.out old now how so lives)
       first w new answered (fit, record { added = []; is = sym (append-nil w.out); fits = tt }) run).1
 
-  pub run_commits : (form : IsFormOfInclusion script) (cuts : List (Option CutAt)) → IsConsistentScript s cuts → (answered : Result (Unit {0}) Fault) (old new added : List Line) (secrets_now : Secrets) (c : Files) → new ≡ old ++ added
+  pub run_commits : (form : IsFormOfInclusion script) (cuts : List (Option CutAt)) → IsConsistentScript s cuts → (answered : Result (Unit {0}) Fault) (old new added : List Entry) (secrets_now : Secrets) (c : Files) → new ≡ old ++ added
       → RunsOver script answered files (at (moment old secrets never) files) (λ f. at (moment new secrets_now f) c)
       → ((epoch share : ℕ) (info : Info) → maps.get secrets.shares epoch ≡ Some share → known_info s epoch ≡ Some info → partial_public_of info.output (me s) ≡ Some (share_public_of share))
       → (epoch share : ℕ) → Contains added (entry.Committed epoch (Some share)) → FitsCarried s epoch share
   run_commits form cuts consistent answered old new added secrets_now c is run fit epoch share has =
-      all_of (Tells (FitsAt s)) adds.added (entry.Committed epoch (Some share)) adds.fits (subst (λ (ls : List Line). Contains ls (entry.Committed epoch (Some share))) (append_cancel_left old added adds.added (sym is ∙ adds.is)) has)
+      all_of (Tells (FitsAt s)) adds.added (entry.Committed epoch (Some share)) adds.fits (subst (λ (ls : List Entry). Contains ls (entry.Committed epoch (Some share))) (append_cancel_left old added adds.added (sym is ∙ adds.is)) has)
     where
       adds : AddsFitting s old new
       adds = run_fits cuts form consistent (λ its. its ≡ files) (at (moment old secrets never) files) (at (moment new secrets_now run.fuse) c) answered (λ epoch share got info known. fit epoch share info got known) run.so
 
 -- THE CLAUSE, of a run over the script as it was cut
-pub commits_fit : (script : Script) (files : Files) (secrets : Secrets) (added : List Line)
+pub commits_fit : (script : Script) (files : Files) (secrets : Secrets) (added : List Entry)
     → (let its = as_cut (progress (setting_of script files secrets) added).cuts script in
     ((l : ℕ) (life : Life) (seen : Held → Seen) (files : Files) → slice_get its.lives l ≡ Some life → by_worlds.reads seen → IsLifeInForm (lived its l life seen files)))
-    → (reads : (seen : Held → Seen) → by_worlds.reads seen → ReadsSecrets seen) (answered : Result (Unit {0}) Fault) (old new : List Line) (secrets_now : Secrets) (c : Files) → new ≡ old ++ added
+    → (reads : (seen : Held → Seen) → by_worlds.reads seen → ReadsSecrets seen) (answered : Result (Unit {0}) Fault) (old new : List Entry) (secrets_now : Secrets) (c : Files) → new ≡ old ++ added
     → RunsOver (as_cut (progress (setting_of script files secrets) added).cuts script) answered files (at (moment old secrets never) files) (λ f. at (moment new secrets_now f) c) → CommitsFit script files secrets added
 commits_fit script files secrets added over reads answered old new secrets_now c is run = λ form consistent fit.
     let its = as_cut (progress (setting_of script files secrets) added).cuts script in

@@ -17,7 +17,7 @@ use Rattle.dkg_infos.specs.declared.directory.Unit as directory
 use Rattle.dkg_infos.specs.declared.entry.Entry.TheVariants.{Acked, Answer, Committed, Log, Step}
 use Rattle.dkg_infos.specs.declared.entry.AnswerLine.{AnswerLine}
 use Rattle.dkg_infos.specs.declared.entry.AnswerLine.TheVariants.{Unavailable}
-use Rattle.dkg_infos.specs.declared.entry.Entry.{Entry as Line}
+use Rattle.dkg_infos.specs.declared.entry.Entry.{Entry}
 use Rattle.dkg_infos.specs.declared.entry.Part.{Part}
 use Rattle.dkg_infos.specs.declared.entry.Why.TheVariants.{Following}
 use Rattle.dkg_infos.specs.declared.fault.Fault.TheVariants.{DirectoryMismatch, HeightRange, InvalidParticipants, LocalState, MissingEpochInfo, WrongEpoch}
@@ -78,7 +78,7 @@ abbrev U : Type 0
 U = directory.Unit
 
 -- A COURSE TELLS A LINE of which P holds, on each way to its end.
-abbrev pub TellsOne : {Dir F S : Type 0} → (Line → Type 0) → Course Dir F S → Type 0
+abbrev pub TellsOne : {Dir F S : Type 0} → (Entry → Type 0) → Course Dir F S → Type 0
 TellsOne P (Say line course) = P line ⊎ TellsOne P course
 TellsOne P (Do op course) = TellsOne P course
 TellsOne P (Call outer course) = TellsOne P course
@@ -86,16 +86,16 @@ TellsOne P (Ask f) = (h : Held) → TellsOne P (f h)
 TellsOne P (Goes end) = ⊥
 TellsOne P (Stops fault) = Unit {0}
 
-one_if : {Dir F S : Type 0} (P : Line → Type 0) (t : Bool) (x y : Course Dir F S) → (t ≡ true → TellsOne P x) → (t ≡ false → TellsOne P y) → TellsOne P (if t then x else y)
+one_if : {Dir F S : Type 0} (P : Entry → Type 0) (t : Bool) (x y : Course Dir F S) → (t ≡ true → TellsOne P x) → (t ≡ false → TellsOne P y) → TellsOne P (if t then x else y)
 one_if P true x y when unless = when refl
 one_if P false x y when unless = unless refl
 
-one_option : {Dir F S A : Type 0} (P : Line → Type 0) (f : A → Course Dir F S) (o : Option A) (none : Course Dir F S) → ((a : A) → TellsOne P (f a)) → TellsOne P none → TellsOne P (option_map_or f o none)
+one_option : {Dir F S A : Type 0} (P : Entry → Type 0) (f : A → Course Dir F S) (o : Option A) (none : Course Dir F S) → ((a : A) → TellsOne P (f a)) → TellsOne P none → TellsOne P (option_map_or f o none)
 one_option P f None none some without = without
 one_option P f (Some a) none some without = some a
 
 -- where its first part does
-one_first : {Dir F S T : Type 0} (P : Line → Type 0) (course : Course Dir F S) (next : S → Course Dir F T) → TellsOne P course → TellsOne P (bind course next)
+one_first : {Dir F S T : Type 0} (P : Entry → Type 0) (course : Course Dir F S) (next : S → Course Dir F T) → TellsOne P course → TellsOne P (bind course next)
 one_first P (Say line course) next (inl is) = inl is
 one_first P (Say line course) next (inr so) = inr (one_first P course next so)
 one_first P (Do op course) next so = one_first P course next so
@@ -105,7 +105,7 @@ one_first P (Goes end) next so = absurd so
 one_first P (Stops fault) next so = tt
 
 -- .. or what follows it
-one_behind : {Dir F S T : Type 0} (P : Line → Type 0) (course : Course Dir F S) (next : S → Course Dir F T) → ((end : S) → TellsOne P (next end)) → TellsOne P (bind course next)
+one_behind : {Dir F S T : Type 0} (P : Entry → Type 0) (course : Course Dir F S) (next : S → Course Dir F T) → ((end : S) → TellsOne P (next end)) → TellsOne P (bind course next)
 one_behind P (Say line course) next so = inr (one_behind P course next so)
 one_behind P (Do op course) next so = one_behind P course next so
 one_behind P (Call outer course) next so = one_behind P course next so
@@ -113,7 +113,7 @@ one_behind P (Ask f) next so = λ h. one_behind P (f h) next so
 one_behind P (Goes end) next so = so end
 one_behind P (Stops fault) next so = tt
 
-one_under : {Dir F G S : Type 0} (P : Line → Type 0) (name : F → G) (course : Course Dir F S) → TellsOne P course → TellsOne P (under name course)
+one_under : {Dir F G S : Type 0} (P : Entry → Type 0) (name : F → G) (course : Course Dir F S) → TellsOne P course → TellsOne P (under name course)
 one_under P name (Say line course) (inl is) = inl is
 one_under P name (Say line course) (inr so) = inr (one_under P name course so)
 one_under P name (Do op course) so = one_under P name course so
@@ -123,17 +123,17 @@ one_under P name (Goes end) so = absurd so
 one_under P name (Stops fault) so = tt
 
 -- The law: it is among the lines that are added where the course goes to its end.
-module _ (P : Line → Type 0) where
-  abbrev pub HasOne : List Line → Type 0
-  HasOne lines = (line : Line) × Contains lines line × P line
+module _ (P : Entry → Type 0) where
+  abbrev pub HasOne : List Entry → Type 0
+  HasOne lines = (line : Entry) × Contains lines line × P line
 
-  first_has : (line : Line) (rest lines : List Line) → lines ≡ line ∷ rest → P line → HasOne lines
-  first_has line rest lines is so = (line, subst (λ (xs : List Line). Contains xs line) (sym is) (Contains-append_left (line ∷ []) rest line (Contains-push [] line)), so)
+  first_has : (line : Entry) (rest lines : List Entry) → lines ≡ line ∷ rest → P line → HasOne lines
+  first_has line rest lines is so = (line, subst (λ (xs : List Entry). Contains xs line) (sym is) (Contains-append_left (line ∷ []) rest line (Contains-push [] line)), so)
 
-  rest_has : (first : Line) (rest lines : List Line) → lines ≡ first ∷ rest → HasOne rest → HasOne lines
-  rest_has first rest lines is its = (its.0, subst (λ (xs : List Line). Contains xs its.0) (sym is) (Contains-append_right (first ∷ []) rest its.0 its.1), its.2)
+  rest_has : (first : Entry) (rest lines : List Entry) → lines ≡ first ∷ rest → HasOne rest → HasOne lines
+  rest_has first rest lines is its = (its.0, subst (λ (xs : List Entry). Contains xs its.0) (sym is) (Contains-append_right (first ∷ []) rest its.0 its.1), its.2)
 
-  pub all_one : {Dir F S : Type 0} (course : Course Dir F S) (end : S) (lines : List Line) → TellsOne P course → SaysAll (on_devices course) end lines → HasOne lines
+  pub all_one : {Dir F S : Type 0} (course : Course Dir F S) (end : S) (lines : List Entry) → TellsOne P course → SaysAll (on_devices course) end lines → HasOne lines
   all_one (Say line course) end lines (inl is) by = first_has line by.0 lines by.1 is
   all_one (Say line course) end lines (inr so) by = rest_has line by.0 lines by.1 (all_one course end by.0 so by.2)
   all_one (Do op course) end lines so by = all_one course end lines so by
@@ -143,20 +143,20 @@ module _ (P : Line → Type 0) where
   all_one (Stops fault) end lines so by = absurd by
 
 -- that an epoch is committed
-abbrev pub IsCommitOf : (epoch : ℕ) → Line → Type 0
+abbrev pub IsCommitOf : (epoch : ℕ) → Entry → Type 0
 IsCommitOf epoch (Committed its share) = its ≡ epoch
 IsCommitOf epoch line = ⊥
 
 -- .. of an epoch that a course may lead into
-abbrev pub OnCommit : (Into : ℕ → Type 0) → Line → Type 0
+abbrev pub OnCommit : (Into : ℕ → Type 0) → Entry → Type 0
 OnCommit Into (Committed epoch share) = Into epoch
 OnCommit Into line = Unit {0}
 
-plain_commit : (Into : ℕ → Type 0) (line : Line) → IsPlain line → OnCommit Into line
+plain_commit : (Into : ℕ → Type 0) (line : Entry) → IsPlain line → OnCommit Into line
 plain_commit Into (Committed epoch share) is = absurd is
 plain_commit Into line is = tt
 
-may_commit : (Into : ℕ → Type 0) (At : Option (ℕ × Part) → Type 0) (x : Telling) (line : Line) → MaySay Into At x line → OnCommit Into line
+may_commit : (Into : ℕ → Type 0) (At : Option (ℕ × Part) → Type 0) (x : Telling) (line : Entry) → MaySay Into At x line → OnCommit Into line
 may_commit Into At x (Committed epoch (Some share)) may = may.1.1
 may_commit Into At x (Committed epoch None) may = may.1
 may_commit Into At x line may = tt
@@ -211,7 +211,7 @@ module _ {Dir : Type 0} (c : Fixed Dir) where
 
   -- A NODE'S OPENING that has the block
   module _ (form : IsForm c) (has_it : is_some (first_block c) ≡ true) where
-    abbrev First : Line → Type 0
+    abbrev First : Entry → Type 0
     First = IsCommitOf (first_epoch c)
 
     sets_up : (seen : Held) → TellsOne First (s.setup c None (record (begun_life (c.seen seen)) { tip = startup c.source.anchor None }))
@@ -232,7 +232,7 @@ module _ {Dir : Type 0} (c : Fixed Dir) where
 
   -- A STEP BY AN EPOCH'S LAST BLOCK
   module _ (reshare : c.oneshot ≡ None) (block : Block Dir) where
-    abbrev Next_one : Line → Type 0
+    abbrev Next_one : Entry → Type 0
     Next_one = IsCommitOf (b.expected_epoch c block.height)
 
     abbrev Tells : {F S : Type 0} → Course Dir F S → Type 0
@@ -365,19 +365,19 @@ above_last n h (suc below) long at = (ends h (last n (epoch_of n h)) (top (below
     ends : (a b : ℕ) → a ≡ b → (a == b) ≡ true
     ends a b e = grind (arith, nat_tests)
 
-committed_of : (epoch : ℕ) (lines : List Line) → HasOne (IsCommitOf epoch) lines → (share : Option ℕ) × Contains lines (Committed epoch share)
+committed_of : (epoch : ℕ) (lines : List Entry) → HasOne (IsCommitOf epoch) lines → (share : Option ℕ) × Contains lines (Committed epoch share)
 committed_of epoch lines (line, among, is) = by_line line among is
   where
-    by_line : (one : Line) → Contains lines one → IsCommitOf epoch one → (share : Option ℕ) × Contains lines (Committed epoch share)
+    by_line : (one : Entry) → Contains lines one → IsCommitOf epoch one → (share : Option ℕ) × Contains lines (Committed epoch share)
     by_line (Committed its share) among is = (share, subst (λ (k : ℕ). Contains lines (Committed k share)) is among)
     by_line one among is = absurd is
 
 -- what a step that was completed has told, by these lines
-abbrev pub TellsInto : Script → (l : ℕ) → Life → (step : ℕ) → List Line → Type 0
+abbrev pub TellsInto : Script → (l : ℕ) → Life → (step : ℕ) → List Entry → Type 0
 TellsInto script l life step lines = (epoch : ℕ) → ComesInto (alone script) l life step epoch → (share : Option ℕ) × Contains lines (Committed epoch share)
 
 -- .. and each of these lines that commits
-abbrev pub CommitsInto : Script → (l : ℕ) → Life → (step : ℕ) → Line → Type 0
+abbrev pub CommitsInto : Script → (l : ℕ) → Life → (step : ℕ) → Entry → Type 0
 CommitsInto script l life step = OnCommit (ComesInto (alone script) l life step)
 
 -- (of what devices hold it says nothing)
@@ -393,7 +393,7 @@ alone_into script files held l life zero epoch into = into
 alone_into script files held l life (suc events) epoch into =
     record { number = into.number; event = into.event; block = into.block; block_is = into.block_is; ends_below = into.ends_below; awaited = into.awaited }
 
-pub commit_over : (script : Script) (files : Files) (held : Secrets) (p : Progress) (one : Line) → TellsCommit (alone script) p one → TellsCommit (setting_of script files held) p one
+pub commit_over : (script : Script) (files : Files) (held : Secrets) (p : Progress) (one : Entry) → TellsCommit (alone script) p one → TellsCommit (setting_of script files held) p one
 commit_over script files held p (Step step) told = by_life (slice_get script.lives (length p.cuts)) told
   where
     by_life : (o : Option Life) → IsSomeAnd o (λ life. TellsInto script (length p.cuts) life p.step p.written)
@@ -414,7 +414,7 @@ abbrev nothing : Telling
 nothing = record { last = None; untold = None }
 
 module _ (g : Lived) (here : IsLifeInForm g) where
-  pub opening_tells : (end : Live U) (out now : List Line) → Said (on_devices (node_opening (at_step g 0))) (went end) out now → (added : List Line) × (now ≡ out ++ added) × TellsInto g.script g.number g.life 0 added
+  pub opening_tells : (end : Live U) (out now : List Entry) → Said (on_devices (node_opening (at_step g 0))) (went end) out now → (added : List Entry) × (now ≡ out ++ added) × TellsInto g.script g.number g.life 0 added
   opening_tells end out now said = (
     said.lines,
     said.added,
@@ -425,8 +425,8 @@ module _ (g : Lived) (here : IsLifeInForm g) where
   )
 
   -- whatever ends it, it commits no other epoch
-  pub opening_commits_first : (ended : Ended NodeStop (Live U)) (out now : List Line) → Said (on_devices (node_opening (at_step g 0))) ended out now
-      → (added : List Line) × (now ≡ out ++ added) × AllByRecursion (CommitsInto g.script g.number g.life 0) added
+  pub opening_commits_first : (ended : Ended NodeStop (Live U)) (out now : List Entry) → Said (on_devices (node_opening (at_step g 0))) ended out now
+      → (added : List Entry) × (now ≡ out ++ added) × AllByRecursion (CommitsInto g.script g.number g.life 0) added
   opening_commits_first ended out now said =
       said_so (OnCommit Into) (node_opening (at_step g 0)) ended out now
       (leads_commit Into (first_epoch (at_step g 0) - 1) Anywhere IsSetUpBy nothing (node_opening (at_step g 0))
@@ -500,7 +500,7 @@ module _ (g : Lived) (here : IsLifeInForm g) where
       entered = subst (λ (k : ℕ). TellsOne (IsCommitOf k) (node_step c (event_of (Finalized block)) st)) is_next
           (last_commits c (form_at g here (suc i)).reshare block st ends_it not_passed taken (not_ended c st live.stands))
 
-    pub step_tells : (end : Live U) (out now : List Line) → Said (on_devices (step_of g (suc i) its st)) (went end) out now → (added : List Line) × (now ≡ out ++ added) × TellsInto g.script g.number g.life (suc i) added
+    pub step_tells : (end : Live U) (out now : List Entry) → Said (on_devices (step_of g (suc i) its st)) (went end) out now → (added : List Entry) × (now ≡ out ++ added) × TellsInto g.script g.number g.life (suc i) added
     step_tells end out now said = (said.lines, said.added, λ epoch into. committed_of epoch said.lines (by_brought epoch into (brings_so g its m.message m.brings)))
       where
         same_event : {x y : Event} → ◌≡◌ {A = Option Event} (Some x) (Some y) → x ≡ y
@@ -524,10 +524,10 @@ module _ (g : Lived) (here : IsLifeInForm g) where
     abbrev IntoHere : ℕ → Type 0
     IntoHere = ComesInto (alone g.script) g.number g.life (suc i)
 
-    mail_commits : (mail : Mail U) → m.message ≡ Sent mail → (line : Line) → IsLineThrough c any_shares st m.message line ⊎ IsHalfLine line → OnCommit IntoHere line
+    mail_commits : (mail : Mail U) → m.message ≡ Sent mail → (line : Entry) → IsLineThrough c any_shares st m.message line ⊎ IsHalfLine line → OnCommit IntoHere line
     mail_commits mail sent line (inr said) = half line said
       where
-        half : (line : Line) → IsHalfLine line → OnCommit IntoHere line
+        half : (line : Entry) → IsHalfLine line → OnCommit IntoHere line
         half (Committed epoch share) said = absurd said
         half line said = tt
     mail_commits mail sent line (inl said) = by_mail mail line (subst (λ (x : Message U). IsLineThrough c any_shares st x line) sent said)
@@ -538,7 +538,7 @@ module _ (g : Lived) (here : IsLifeInForm g) where
         answer_apart : (epoch number : ℕ) (share : Option ℕ) (answer : AnswerLine) → Committed epoch share ≡ Answer number answer → ⊥
         answer_apart epoch number share answer e = cc
 
-        by_mail : (mail : Mail U) (line : Line) → IsMailLine c st mail line → OnCommit IntoHere line
+        by_mail : (mail : Mail U) (line : Entry) → IsMailLine c st mail line → OnCommit IntoHere line
         by_mail (Peer from bytes) (Committed epoch share) said = absurd said
         by_mail (NextLog number height) (Committed epoch share) said = absurd (log_apart epoch number share said.0 said.1)
         by_mail (ReleaseLog height) (Committed epoch share) said = absurd said
@@ -624,16 +624,16 @@ module _ (g : Lived) (here : IsLifeInForm g) where
           by_tests Applied judged false below = other (λ applied l. absurd (let wrong : false ≡ true = sym below ∙ l in cc))
           by_tests Applied judged true last_one = by_stage judged last_one st.participation.stage refl
 
-    pub step_commits : (ended : Ended NodeStop (Live U)) (out now : List Line) → Said (on_devices (step_of g (suc i) its st)) ended out now
-        → (added : List Line) × (now ≡ out ++ added) × AllByRecursion (CommitsInto g.script g.number g.life (suc i)) added
+    pub step_commits : (ended : Ended NodeStop (Live U)) (out now : List Entry) → Said (on_devices (step_of g (suc i) its st)) ended out now
+        → (added : List Entry) × (now ≡ out ++ added) × AllByRecursion (CommitsInto g.script g.number g.life (suc i)) added
     step_commits ended out now said = by_brought (brings_so g its m.message m.brings) (subst (λ (k : Course U NodeStop (Live U)). Said (on_devices k) ended out now) (m.course (suc i) st) said)
       where
-        all_commit : {P : Line → Type 0} → ((line : Line) → P line → OnCommit IntoHere line) → (lines : List Line) → AllByRecursion P lines → AllByRecursion (OnCommit IntoHere) lines
+        all_commit : {P : Entry → Type 0} → ((line : Entry) → P line → OnCommit IntoHere line) → (lines : List Entry) → AllByRecursion P lines → AllByRecursion (OnCommit IntoHere) lines
         all_commit so [] all = tt
         all_commit so (line ∷ lines) all = (so line all.0, all_commit so lines all.1)
 
         by_brought : BringsBlock g its m.message ⊎ BringsMail its m.message → Said (on_devices (node_step c (event_of m.message) st)) ended out now
-            → (added : List Line) × (now ≡ out ++ added) × AllByRecursion (OnCommit IntoHere) added
+            → (added : List Entry) × (now ≡ out ++ added) × AllByRecursion (OnCommit IntoHere) added
         by_brought (inr mail) said =
             let through = node_steps_say_through c any_shares st m.message ended out now (through_at g here (suc i)) (λ h epoch found. tt) (step_taken g its m.message m.brings c st) live said in
             (through.0, through.1, all_commit (mail_commits mail.0 mail.1) through.0 through.2)

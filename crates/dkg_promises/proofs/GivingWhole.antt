@@ -9,7 +9,7 @@ use Rattle.dkg_journal.specs.Records.{SectionEntry, entries}
 use Rattle.dkg_secrets.specs.Secrets.{Secrets}
 use Rattle.dkg_types.specs.Blocks.{Block}
 use Rattle.dkg_infos.specs.declared.directory.Unit as directory
-use Rattle.dkg_infos.specs.declared.entry.Entry.{Entry as Line}
+use Rattle.dkg_infos.specs.declared.entry.Entry.{Entry}
 use Rattle.dkg_infos.specs.declared.fault.Fault.{Fault}
 use Rattle.dkg_text.specs.declared.script.Event.{Event}
 use Rattle.dkg_text.specs.declared.script.Life.{Life}
@@ -186,7 +186,7 @@ run_whole script over reads bytes heights first w new answered whole run =
 -- .. so does what a crash may leave behind it, where what a read gave before was one of what a crash might have left
 pub stays_whole : (script : Script) → ((l : ℕ) (life : Life) (seen : Held → Seen) (files : Files) → slice_get script.lives l ≡ Some life → by_worlds.reads seen → IsLifeInForm (lived script l life seen files))
     → ((seen : Held → Seen) → by_worlds.reads seen → ReadsRecords seen) → AreBytes script.blocks → AllByRecursion (λ line. line.height < 2 ^ 64) script.blocks
-    → (answered : Result (Unit {0}) Fault) (before now : DevicesStanding) (out out_now : List Line) → before.image before.files
+    → (answered : Result (Unit {0}) Fault) (before now : DevicesStanding) (out out_now : List Entry) → before.image before.files
     → (Stands before.files before.image → (c : Files) → now.image c → RunsOver script answered before.files (at (moment out before.held never) before.files) (λ f. at (moment out_now now.held f) c))
     → Lands before.files before.image → IsWhole (entries before.files) before.held → (c : Files) → now.image c → IsWhole (entries c) now.held
 stays_whole script over reads bytes heights answered before now out out_now here run lands whole c left =

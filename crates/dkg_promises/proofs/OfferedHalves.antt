@@ -8,7 +8,7 @@ use Rattle.dkg_values.specs.Rising.{lookup}
 use Rattle.dkg_ceremony.specs.Deals.{deal_of}
 use Rattle.dkg_ceremony.specs.declared.deal.DealError.{DealError}
 use Rattle.dkg_ceremony.specs.declared.round.RoundParts.{RoundParts as Round}
-use Rattle.dkg_infos.specs.declared.entry.Entry.{Entry as Line}
+use Rattle.dkg_infos.specs.declared.entry.Entry.{Entry}
 use Rattle.dkg_infos.specs.declared.entry.Entry.TheVariants.{Offer}
 use Rattle.dkg_script.specs.Blocks.{round_at}
 use Rattle.dkg_script.specs.SameOffers.{SameOffers}
@@ -80,25 +80,25 @@ still_dealt s most h new epoch player public private seeds above its = record {
 
 -- WHAT WAS OFFERED, and what is offered now, from an epoch on
 
-abbrev pub IsOfferedFrom : Setting → (most : ℕ) → Held → Line → Type 0
+abbrev pub IsOfferedFrom : Setting → (most : ℕ) → Held → Entry → Type 0
 IsOfferedFrom s most h (Offer epoch player public private) = most ≤ epoch → IsDealtAt s h epoch player public private
 IsOfferedFrom s most h line = Unit {0}
 
-abbrev pub IsOfferedNow : Setting → (most : ℕ) → Held → Line → Type 0
+abbrev pub IsOfferedNow : Setting → (most : ℕ) → Held → Entry → Type 0
 IsOfferedNow s most h (Offer epoch player public private) = (most ≤ epoch) × IsDealtAt s h epoch player public private
 IsOfferedNow s most h line = Unit {0}
 
-pub unoffered_now : (s : Setting) (most : ℕ) (h : Held) (lines : List Line) → AllByRecursion IsUnoffered lines → AllByRecursion (IsOfferedNow s most h) lines
+pub unoffered_now : (s : Setting) (most : ℕ) (h : Held) (lines : List Entry) → AllByRecursion IsUnoffered lines → AllByRecursion (IsOfferedNow s most h) lines
 unoffered_now s most h [] all = tt
 unoffered_now s most h (line ∷ lines) all = (one line all.0, unoffered_now s most h lines all.1)
   where
-    one : (line : Line) → IsUnoffered line → IsOfferedNow s most h line
+    one : (line : Entry) → IsUnoffered line → IsOfferedNow s most h line
     one (Offer epoch player public private) none = absurd none
     one line none = tt
 
 -- Since these lines each half that was offered to a player of an epoch is one, and those from this epoch on stay what is dealt.
-pub record HasOffered (s : Setting) (most : ℕ) (base : List Line) (w : World) : Type 0 where
-  pub added : List Line
+pub record HasOffered (s : Setting) (most : ℕ) (base : List Entry) (w : World) : Type 0 where
+  pub added : List Entry
   pub out : w.out ≡ base ++ added
   pub same : SameOffers added
   pub dealt : AllByRecursion (IsOfferedFrom s most w.held) added
@@ -115,21 +115,21 @@ nothing_offered s most w = record {
 }
 
 -- MORE is offered now, and what is stored is kept from a later epoch on
-module _ (s : Setting) (most next : ℕ) (rises : most ≤ next) (base : List Line) (w new : World) (before : HasOffered s most base w) (lines : List Line) (out : new.out ≡ w.out ++ lines)
+module _ (s : Setting) (most next : ℕ) (rises : most ≤ next) (base : List Entry) (w new : World) (before : HasOffered s most base w) (lines : List Entry) (out : new.out ≡ w.out ++ lines)
     (seeds : KeepsSeeds next w.held new) (now : AllByRecursion (IsOfferedNow s most w.held) lines) where
-  old_still : (line : Line) → IsOfferedFrom s most w.held line → IsOfferedFrom s next new.held line
+  old_still : (line : Entry) → IsOfferedFrom s most w.held line → IsOfferedFrom s next new.held line
   old_still (Offer epoch player public private) was = λ above. still_dealt s next w.held new epoch player public private seeds above (was (omega (arith, rises, above)))
   old_still line was = tt
 
-  all_still : (lines : List Line) → AllByRecursion (IsOfferedFrom s most w.held) lines → AllByRecursion (IsOfferedFrom s next new.held) lines
+  all_still : (lines : List Entry) → AllByRecursion (IsOfferedFrom s most w.held) lines → AllByRecursion (IsOfferedFrom s next new.held) lines
   all_still [] all = tt
   all_still (line ∷ lines) all = (old_still line all.0, all_still lines all.1)
 
-  new_still : (line : Line) → IsOfferedNow s most w.held line → IsOfferedFrom s next new.held line
+  new_still : (line : Entry) → IsOfferedNow s most w.held line → IsOfferedFrom s next new.held line
   new_still (Offer epoch player public private) its = λ above. still_dealt s next w.held new epoch player public private seeds above its.1
   new_still line its = tt
 
-  all_new : (lines : List Line) → AllByRecursion (IsOfferedNow s most w.held) lines → AllByRecursion (IsOfferedFrom s next new.held) lines
+  all_new : (lines : List Entry) → AllByRecursion (IsOfferedNow s most w.held) lines → AllByRecursion (IsOfferedFrom s next new.held) lines
   all_new [] all = tt
   all_new (line ∷ lines) all = (new_still line all.0, all_new lines all.1)
 
@@ -154,7 +154,7 @@ module _ (s : Setting) (most next : ℕ) (rises : most ≤ next) (base : List Li
   pub more_offered : HasOffered s next base new
   more_offered = record {
     added = before.added ++ lines;
-    out = out ∙ ap (λ (xs : List Line). xs ++ lines) before.out ∙ append_assoc base before.added lines;
+    out = out ∙ ap (λ (xs : List Entry). xs ++ lines) before.out ∙ append_assoc base before.added lines;
     same = record { one = one_now };
     dealt = all_joined (IsOfferedFrom s next new.held) before.added lines (all_still before.added before.dealt) (all_new lines now);
   }

@@ -10,7 +10,7 @@ use Rattle.dkg_journal.specs.Names.{Files}
 use Rattle.dkg_ceremony.specs.Schedule.{epoch_of}
 use Rattle.dkg_ceremony.specs.declared.round.RoundParts.{RoundParts as Round}
 use Rattle.dkg_infos.specs.declared.directory.Unit as directory
-use Rattle.dkg_infos.specs.declared.entry.Entry.{Entry as Line}
+use Rattle.dkg_infos.specs.declared.entry.Entry.{Entry}
 use Rattle.dkg_infos.specs.declared.entry.Entry.TheVariants as entry
 use Rattle.dkg_infos.specs.declared.fault.Fault.TheVariants.{NoMemory}
 use Rattle.dkg_text.specs.declared.script.Cut as cut
@@ -174,7 +174,7 @@ module _ (s : Setting) (cuts : List (Option CutAt)) (form : IsFormOfInclusion s.
         deals = subst (λ (n : ℕ). DealsStored n st new.held) (me_at 0) (begun_stored (at_step g 0) (rules_at 0) ((at_step g 0).seen k) k new.held st led.0 led.1);
       }
 
-  pub opening_offers : (most next : ℕ) (base : List Line) (ended : Ended NodeStop (Live directory.Unit)) (w new : World) → most ≤ next → epoch_by g 0 - 1 ≤ next → HasOffered s most base w
+  pub opening_offers : (most next : ℕ) (base : List Entry) (ended : Ended NodeStop (Live directory.Unit)) (w new : World) → most ≤ next → epoch_by g 0 - 1 ≤ next → HasOffered s most base w
       → EndsSo (node_opening (at_step g 0)) ended w new → HasOffered s next base new
   opening_offers most next base ended w new rises low before run =
       let kept : IsUpkept (at_step g 0) (reads_at 0) next w new
@@ -230,7 +230,7 @@ module _ (s : Setting) (cuts : List (Option CutAt)) (form : IsFormOfInclusion s.
 
       -- what is offered now its stored dealer deals
       module _ (most : ℕ) (below : most ≤ epoch_by g i) where
-        one_offer : (line : Line) → IsOfferOf (at_step g (suc i)) st line → IsOfferedNow s most w.held line
+        one_offer : (line : Entry) → IsOfferOf (at_step g (suc i)) st line → IsOfferedNow s most w.held line
         one_offer (entry.Offer epoch player public private) offered = (here_now, dealt)
           where
             stored : IsStoredDealer (me s) st offered.dealer w.held
@@ -262,11 +262,11 @@ module _ (s : Setting) (cuts : List (Option CutAt)) (form : IsFormOfInclusion s.
             }
         one_offer line offered = tt
 
-        all_offers : (lines : List Line) → AllByRecursion (IsOfferOf (at_step g (suc i)) st) lines → AllByRecursion (IsOfferedNow s most w.held) lines
+        all_offers : (lines : List Entry) → AllByRecursion (IsOfferOf (at_step g (suc i)) st) lines → AllByRecursion (IsOfferedNow s most w.held) lines
         all_offers [] all = tt
         all_offers (line ∷ lines) all = (one_offer line all.0, all_offers lines all.1)
 
-        pub step_offers : (next : ℕ) (base : List Line) → most ≤ next → epoch_by g (suc i) - 1 ≤ next → HasOffered s most base w → HasOffered s next base new
+        pub step_offers : (next : ℕ) (base : List Entry) → most ≤ next → epoch_by g (suc i) - 1 ≤ next → HasOffered s most base w → HasOffered s next base new
         step_offers next base rises low before =
             let offers = node_offers_are_dealt (at_step g (suc i)) st m.message ended w.out new.out (runs_say (on_devices (node_step (at_step g (suc i)) (event_of m.message) st)) ended w new run_here) in
             let held = kept next low in
@@ -303,16 +303,16 @@ module _ (s : Setting) (cuts : List (Option CutAt)) (form : IsFormOfInclusion s.
   least_at most j = max most (epoch_by g j - 1)
 
   -- How the life left it: so many of its events were taken at most.
-  pub record IsLeft (most : ℕ) (base : List Line) (how : Result (Unit {0}) Stop) (new : World) : Type 0 where
+  pub record IsLeft (most : ℕ) (base : List Entry) (how : Result (Unit {0}) Stop) (new : World) : Type 0 where
     pub top : ℕ
     pub bound : IsTop life how top
     pub offered : HasOffered s (least_at most top) base new
 
   -- another count of calls
-  with_fuse : (most : ℕ) (base : List Line) (w : World) (f : Burn) → HasOffered s most base w → HasOffered s most base (record w { fuse = f })
+  with_fuse : (most : ℕ) (base : List Entry) (w : World) (f : Burn) → HasOffered s most base w → HasOffered s most base (record w { fuse = f })
   with_fuse most base w f its = record { added = its.added; out = its.out; same = its.same; dealt = its.dealt }
 
-  told : (most : ℕ) (base : List Line) (mid : World) (line : Line) → IsUnoffered line → HasOffered s most base mid → HasOffered s most base (says mid line)
+  told : (most : ℕ) (base : List Entry) (mid : World) (line : Entry) → IsUnoffered line → HasOffered s most base mid → HasOffered s most base (says mid line)
   told most base mid line none its =
       more_offered s most most (omega arith) base mid (says mid line) its (line ∷ []) refl (λ epoch seed above got. got) (unoffered_now s most mid.held (line ∷ []) (none, tt))
 
@@ -320,7 +320,7 @@ module _ (s : Setting) (cuts : List (Option CutAt)) (form : IsFormOfInclusion s.
   before_suc None j reached = tt
   before_suc (Some cut) j reached = λ none. let low : j < cut.step = reached none in omega (arith, low)
 
-  module _ (most : ℕ) (base : List Line) (first : most ≤ epoch_by g 0) where
+  module _ (most : ℕ) (base : List Entry) (first : most ≤ epoch_by g 0) where
     below_at : (i : ℕ) → least_at most i ≤ epoch_by g i
     below_at i = under most (epoch_by g 0) (epoch_by g i) first (from_first (alone s.script) l life some i)
       where

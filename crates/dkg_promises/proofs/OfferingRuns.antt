@@ -3,7 +3,7 @@ use Rattle.std.proofs.Common.{◌≡◌, ◌⊎◌, inl, inr, ℕ, zero, suc, �
 use Rattle.std.specs.Prelude.{IfSome, IsSomeAnd, slice_get}
 use Rattle.std.specs.Option.{option_flatten, option_map_or}
 use Rattle.dkg_journal.specs.Names.{Files}
-use Rattle.dkg_infos.specs.declared.entry.Entry.{Entry as Line}
+use Rattle.dkg_infos.specs.declared.entry.Entry.{Entry}
 use Rattle.dkg_infos.specs.declared.entry.Entry.TheVariants as entry
 use Rattle.dkg_infos.specs.declared.fault.Fault.{Fault}
 use Rattle.dkg_infos.specs.declared.fault.Fault.TheVariants.{NoMemory}
@@ -84,7 +84,7 @@ script_lives s front (life ∷ lives) is =
 
 -- ALL LIVES, of a script that is consistent where they ended so
 module _ (s : Setting) (cuts : List (Option CutAt)) (form : IsFormOfInclusion s.script) (consistent : IsConsistentScript s cuts) (unfound : (l : ℕ) → found s l ≡ None)
-    (over : (l : ℕ) (life : Life) (seen : Held → Seen) (files : Files) → life_at s l ≡ Some life → by_worlds.reads seen → IsLifeInForm (lived s.script l life seen files) × ReadsSecrets seen) (base : List Line) where
+    (over : (l : ℕ) (life : Life) (seen : Held → Seen) (files : Files) → life_at s l ≡ Some life → by_worlds.reads seen → IsLifeInForm (lived s.script l life seen files) × ReadsSecrets seen) (base : List Entry) where
   abbrev Offers : World → Type 0
   Offers new = (most : ℕ) × HasOffered s most base new
 
@@ -189,8 +189,8 @@ module _ (s : Setting) (cuts : List (Option CutAt)) (form : IsFormOfInclusion s.
       by_how (Err Failed) so ends is next = absurd ends
 
 -- THE RUN
-pub record OffersSame (old new : List Line) : Type 0 where
-  pub added : List Line
+pub record OffersSame (old new : List Entry) : Type 0 where
+  pub added : List Entry
   pub out : new ≡ old ++ added
   pub same : SameOffers added
 

@@ -23,7 +23,7 @@ use Rattle.dkg_types.specs.Blocks.{Block}
 use Rattle.dkg_types.specs.MessageCodes.{message_at}
 use Rattle.dkg_types.specs.PayloadCodes.{its_log}
 use Rattle.dkg_infos.specs.declared.entry.Entry.TheVariants.{Acked, Answer, Committed, Log, Offer, Opened, Setup}
-use Rattle.dkg_infos.specs.declared.entry.Entry.{Entry as Line}
+use Rattle.dkg_infos.specs.declared.entry.Entry.{Entry}
 use Rattle.dkg_infos.specs.declared.entry.Part.{Part}
 use Rattle.dkg_infos.specs.declared.fault.Fault.TheVariants.{DirectoryMismatch, HeightRange, InvalidParticipants, LocalState, MissingEpochInfo, WrongEpoch}
 use Rattle.dkg_infos.specs.declared.fault.Fault.{Fault}
@@ -65,12 +65,12 @@ use Rattle.dkg_lives.proofs.HalfLines as halves
 
 -- THE LAST SETUP of some lines
 
-abbrev pub last_line : Option (ℕ × Part) → Line → Option (ℕ × Part)
+abbrev pub last_line : Option (ℕ × Part) → Entry → Option (ℕ × Part)
 last_line last (Setup epoch phase part) = Some (epoch, part)
 last_line last (Opened life restored) = None
 last_line last line = last
 
-abbrev pub set_up_last : Option (ℕ × Part) → List Line → Option (ℕ × Part)
+abbrev pub set_up_last : Option (ℕ × Part) → List Entry → Option (ℕ × Part)
 set_up_last last lines = fold last_line last lines
 
 pair_is : {x y : ℕ × Part} → ◌≡◌ {A = Option (ℕ × Part)} (Some x) (Some y) → x ≡ y
@@ -78,13 +78,13 @@ pair_is e = cc
 
 -- it stands among them, with none behind it
 module _ (epoch : ℕ) (part : Part) where
-  abbrev Stands : Option (ℕ × Part) → List Line → Type 0
+  abbrev Stands : Option (ℕ × Part) → List Entry → Type 0
   Stands last lines = ((last ≡ Some (epoch, part)) × IsFalse (list_any is_set_up lines)) ⊎ WasSetUp lines epoch part
 
-  with_first : (line : Line) (lines : List Line) → WasSetUp lines epoch part → WasSetUp (line ∷ lines) epoch part
-  with_first line lines its = record { front = line ∷ its.front; phase = its.phase; rest = its.rest; is = ap (λ (ls : List Line). line ∷ ls) its.is; last = its.last }
+  with_first : (line : Entry) (lines : List Entry) → WasSetUp lines epoch part → WasSetUp (line ∷ lines) epoch part
+  with_first line lines its = record { front = line ∷ its.front; phase = its.phase; rest = its.rest; is = ap (λ (ls : List Entry). line ∷ ls) its.is; last = its.last }
 
-  stands : (lines : List Line) (last : Option (ℕ × Part)) → set_up_last last lines ≡ Some (epoch, part) → Stands last lines
+  stands : (lines : List Entry) (last : Option (ℕ × Part)) → set_up_last last lines ≡ Some (epoch, part) → Stands last lines
   stands [] last is = inl (is, refl)
   stands (line ∷ lines) last is = by_line line (stands lines (last_line last line) is)
     where
@@ -94,14 +94,14 @@ module _ (epoch : ℕ) (part : Part) where
       number_of : (n : ℕ) (its : Part) → ◌≡◌ {A = Option (ℕ × Part)} (Some (n, its)) (Some (epoch, part)) → (n ≡ epoch) × (its ≡ part)
       number_of n its e = let same : ◌≡◌ {A = ℕ × Part} (n, its) (epoch, part) = pair_is e in (ap (λ (p : ℕ × Part). p.0) same, ap (λ (p : ℕ × Part). p.1) same)
 
-      by_line : (line : Line) → Stands (last_line last line) lines → Stands last (line ∷ lines)
+      by_line : (line : Entry) → Stands (last_line last line) lines → Stands last (line ∷ lines)
       by_line (Setup n phase its) (inl (same, none)) = let parts = number_of n its same in
           inr (record { front = []; phase = phase; rest = lines; is = ap (λ (k : ℕ). Setup k phase its ∷ lines) parts.0 ∙ ap (λ (k : Part). Setup epoch phase k ∷ lines) parts.1; last = none })
       by_line (Opened life restored) (inl (same, none)) = absurd (none_some same)
       by_line other (inl so) = inl so
       by_line other (inr its) = inr (with_first other lines its)
 
-  pub set_up_there : (lines : List Line) → set_up_last None lines ≡ Some (epoch, part) → WasSetUp lines epoch part
+  pub set_up_there : (lines : List Entry) → set_up_last None lines ≡ Some (epoch, part) → WasSetUp lines epoch part
   set_up_there lines is = either (stands lines None is)
     where
       none_some : ◌≡◌ {A = Option (ℕ × Part)} None (Some (epoch, part)) → ⊥
@@ -118,14 +118,14 @@ pub record Telling : Type 0 where
   pub last : Option (ℕ × Part)
   pub untold : Option ℕ
 
-abbrev pub after_line : Telling → Line → Telling
+abbrev pub after_line : Telling → Entry → Telling
 after_line x (Setup epoch phase part) = record { last = Some (epoch, part); untold = x.untold }
 after_line x (Opened life restored) = record { last = None; untold = x.untold }
 after_line x (Committed epoch (Some share)) = record { last = x.last; untold = None }
 after_line x line = x
 
 -- a share is told where it was stored, and such an epoch is committed where this is the last setup
-abbrev pub MaySay : (Into : ℕ → Type 0) (At : Option (ℕ × Part) → Type 0) → Telling → Line → Type 0
+abbrev pub MaySay : (Into : ℕ → Type 0) (At : Option (ℕ × Part) → Type 0) → Telling → Entry → Type 0
 MaySay Into At x (Committed epoch (Some share)) = (x.untold ≡ Some epoch) × (At x.last × Into epoch)
 MaySay Into At x (Committed epoch None) = At x.last × Into epoch
 MaySay Into At x line = Unit {0}
@@ -135,7 +135,7 @@ after_op x (Changes (PutShare epoch share)) = record { last = x.last; untold = S
 after_op x op = x
 
 -- a line, and an operation, that leave all that
-abbrev pub IsPlain : Line → Type 0
+abbrev pub IsPlain : Entry → Type 0
 IsPlain (Setup epoch phase part) = ⊥
 IsPlain (Opened life restored) = ⊥
 IsPlain (Committed epoch share) = ⊥
@@ -146,13 +146,13 @@ Spares (Changes (PutShare epoch share)) = ⊥
 Spares (Changes (Prune min)) = ⊥
 Spares op = Unit {0}
 
-pub plain_keeps : (x : Telling) (line : Line) → IsPlain line → after_line x line ≡ x
+pub plain_keeps : (x : Telling) (line : Entry) → IsPlain line → after_line x line ≡ x
 plain_keeps x (Setup epoch phase part) is = absurd is
 plain_keeps x (Opened life restored) is = absurd is
 plain_keeps x (Committed epoch share) is = absurd is
 plain_keeps x line is = refl
 
-pub plain_said : (Into : ℕ → Type 0) (At : Option (ℕ × Part) → Type 0) (x : Telling) (line : Line) → IsPlain line → MaySay Into At x line
+pub plain_said : (Into : ℕ → Type 0) (At : Option (ℕ × Part) → Type 0) (x : Telling) (line : Entry) → IsPlain line → MaySay Into At x line
 plain_said Into At x (Committed epoch share) is = absurd is
 plain_said Into At x line is = tt
 
@@ -197,7 +197,7 @@ quiet_under name (Goes end) so = tt
 quiet_under name (Stops fault) so = tt
 
 -- what only says such lines
-quiet_only : {Dir F S : Type 0} (L : Line → Type 0) (Q : S → Type 0) (course : Course Dir F S) → ((line : Line) → L line → IsPlain line) → OnlySays L Q course → IsQuiet course
+quiet_only : {Dir F S : Type 0} (L : Entry → Type 0) (Q : S → Type 0) (course : Course Dir F S) → ((line : Entry) → L line → IsPlain line) → OnlySays L Q course → IsQuiet course
 quiet_only L Q (Say line course) so only = (so line only.0, quiet_only L Q course so only.1)
 quiet_only L Q (Do op course) so only = absurd only
 quiet_only L Q (Call outer course) so only = quiet_only L Q course so only
@@ -205,7 +205,7 @@ quiet_only L Q (Ask f) so only = λ h. quiet_only L Q (f h) so (only h)
 quiet_only L Q (Goes end) so only = tt
 quiet_only L Q (Stops fault) so only = tt
 
-quiet_both : {Dir F S : Type 0} (L : Line → Type 0) (Q : S → Type 0) (course : Course Dir F S) → SaysSo IsPlain course → OnlySays L Q course → IsQuiet course
+quiet_both : {Dir F S : Type 0} (L : Entry → Type 0) (Q : S → Type 0) (course : Course Dir F S) → SaysSo IsPlain course → OnlySays L Q course → IsQuiet course
 quiet_both L Q (Say line course) so only = (so.0, quiet_both L Q course so.1 only.1)
 quiet_both L Q (Do op course) so only = absurd only
 quiet_both L Q (Call outer course) so only = quiet_both L Q course so only
@@ -275,7 +275,7 @@ module _ (Into : ℕ → Type 0) (most : ℕ) (At : Option (ℕ × Part) → Typ
   leads_under goes name x (Stops fault) so = tt
 
   -- by its ends alone, where it leaves it
-  quiet_leads : {Dir F S : Type 0} (goes : Telling → S → Type 0) (L : Line → Type 0) (Q : S → Type 0) (x : Telling) (course : Course Dir F S) → SaysSo IsPlain course → OnlySays L Q course → ((end : S) → Q end → goes x end) → LeadsTo goes x course
+  quiet_leads : {Dir F S : Type 0} (goes : Telling → S → Type 0) (L : Entry → Type 0) (Q : S → Type 0) (x : Telling) (course : Course Dir F S) → SaysSo IsPlain course → OnlySays L Q course → ((end : S) → Q end → goes x end) → LeadsTo goes x course
   quiet_leads goes L Q x (Say line course) so only more =
       (plain_said Into At x line so.0, subst (λ (y : Telling). LeadsTo goes y course) (sym (plain_keeps x line so.0)) (quiet_leads goes L Q x course so.1 only.1 more))
   quiet_leads goes L Q x (Do op course) so only more = absurd only
@@ -314,7 +314,7 @@ same_number n m e = grind (arith, nat_tests)
 -- COURSES
 
 module _ {Dir : Type 0} (c : Fixed Dir) where
-  asked_plain : (line : Line) → IsAskedLine line → IsPlain line
+  asked_plain : (line : Entry) → IsAskedLine line → IsPlain line
   asked_plain (Answer request answer) is = tt
   asked_plain (Log request log) is = tt
   asked_plain line is = absurd is

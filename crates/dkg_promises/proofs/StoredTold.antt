@@ -14,7 +14,7 @@ use Rattle.dkg_secrets.specs.Secrets as of_secrets
 use Rattle.dkg_secrets.specs.Secrets.{Secrets, Tries}
 use Rattle.dkg_secrets.specs.declared.secrets.SecretOp.{SecretOp}
 use Rattle.dkg_secrets.specs.declared.secrets.SecretOp.TheVariants.{Prune, PutDealing, PutSeed, PutShare}
-use Rattle.dkg_infos.specs.declared.entry.Entry.{Entry as Line}
+use Rattle.dkg_infos.specs.declared.entry.Entry.{Entry}
 use Rattle.dkg_infos.specs.declared.entry.Entry.TheVariants.{Committed, Opened, Setup}
 use Rattle.dkg_infos.specs.declared.entry.Part.{Part}
 use Rattle.dkg_store.specs.Acts.{Cause, Changes, Ended, OnDisk, Operation, Tears, World, broken, does, says, stopped, went}
@@ -34,36 +34,36 @@ gone : {A : Type 0} {o : Option A} → o ≡ None → IsSome o → ⊥
 gone e some = let wrong : false ≡ true = subst IsSome e some in cc
 
 -- a share of the epoch is told
-abbrev pub TellsShare : List Line → (epoch : ℕ) → Type 0
+abbrev pub TellsShare : List Entry → (epoch : ℕ) → Type 0
 TellsShare lines epoch = (share : ℕ) × Contains lines (Committed epoch (Some share))
 
 abbrev Shares : Type 0
 Shares = FinMap nat_cmp ℕ
 
 -- the same of a list with one line more
-tells_more : (lines : List Line) (line : Line) (epoch : ℕ) → TellsShare lines epoch → TellsShare (lines ++ line ∷ []) epoch
+tells_more : (lines : List Entry) (line : Entry) (epoch : ℕ) → TellsShare lines epoch → TellsShare (lines ++ line ∷ []) epoch
 tells_more lines line epoch its = (its.0, Contains-append_left lines (line ∷ []) (Committed epoch (Some its.0)) its.1)
 
-tells_this : (lines : List Line) (epoch share : ℕ) → TellsShare (lines ++ Committed epoch (Some share) ∷ []) epoch
+tells_this : (lines : List Entry) (epoch share : ℕ) → TellsShare (lines ++ Committed epoch (Some share) ∷ []) epoch
 tells_this lines epoch share = (share, Contains-push lines (Committed epoch (Some share)))
 
 -- which setup is the last where an epoch is committed
 module _ (At : Option (ℕ × Part) → Type 0) where
-  abbrev pub AtLine : Option (ℕ × Part) → Line → Type 0
+  abbrev pub AtLine : Option (ℕ × Part) → Entry → Type 0
   AtLine last (Committed epoch share) = At last
   AtLine last line = Unit {0}
 
-  abbrev pub AtCommits : Option (ℕ × Part) → List Line → Type 0
+  abbrev pub AtCommits : Option (ℕ × Part) → List Entry → Type 0
   AtCommits last [] = Unit {0}
   AtCommits last (line ∷ lines) = AtLine last line × AtCommits (last_line last line) lines
 
-  at_more : (last : Option (ℕ × Part)) (lines : List Line) (line : Line) → AtCommits last lines → AtLine (set_up_last last lines) line → AtCommits last (lines ++ line ∷ [])
+  at_more : (last : Option (ℕ × Part)) (lines : List Entry) (line : Entry) → AtCommits last lines → AtLine (set_up_last last lines) line → AtCommits last (lines ++ line ∷ [])
   at_more last [] line all its = (its, tt)
   at_more last (one ∷ lines) line all its = (all.0, at_more (last_line last one) lines line all.1 its)
 
 module _ (Into : ℕ → Type 0) (most : ℕ) (At : Option (ℕ × Part) → Type 0) (w0 : World) (x0 : Telling) where
   pub record Stores (w : World) (x : Telling) : Type 0 where
-    pub added : List Line
+    pub added : List Entry
     pub out : w.out ≡ w0.out ++ added
     pub last : x.last ≡ set_up_last x0.last added
     pub commits : AtCommits At x0.last added
@@ -73,17 +73,17 @@ module _ (Into : ℕ → Type 0) (most : ℕ) (At : Option (ℕ × Part) → Typ
     pub into : (epoch : ℕ) → x.untold ≡ Some epoch → Into epoch
 
   -- A LINE
-  said_stores : (w : World) (x : Telling) (line : Line) → MaySay Into At x line → Stores w x → Stores (says w line) (after_line x line)
+  said_stores : (w : World) (x : Telling) (line : Entry) → MaySay Into At x line → Stores w x → Stores (says w line) (after_line x line)
   said_stores w x line may its = by_line line may
     where
-      out_is : (line : Line) → (says w line).out ≡ w0.out ++ (its.added ++ line ∷ [])
-      out_is line = ap (λ (ls : List Line). ls ++ line ∷ []) its.out ∙ append_assoc w0.out its.added (line ∷ [])
+      out_is : (line : Entry) → (says w line).out ≡ w0.out ++ (its.added ++ line ∷ [])
+      out_is line = ap (λ (ls : List Entry). ls ++ line ∷ []) its.out ∙ append_assoc w0.out its.added (line ∷ [])
 
-      last_is : (line : Line) → (after_line x line).last ≡ last_line x.last line → (after_line x line).last ≡ set_up_last x0.last (its.added ++ line ∷ [])
+      last_is : (line : Entry) → (after_line x line).last ≡ last_line x.last line → (after_line x line).last ≡ set_up_last x0.last (its.added ++ line ∷ [])
       last_is line same = same ∙ ap (λ (o : _). last_line o line) its.last ∙ sym (fold-append last_line x0.last its.added (line ∷ []))
 
       -- a line that commits no share
-      other : (line : Line) → AtLine At x.last line → ((epoch share : ℕ) → line ≡ Committed epoch (Some share) → ⊥) → (after_line x line).last ≡ last_line x.last line → (after_line x line).untold ≡ x.untold → Stores (says w line) (after_line x line)
+      other : (line : Entry) → AtLine At x.last line → ((epoch share : ℕ) → line ≡ Committed epoch (Some share) → ⊥) → (after_line x line).last ≡ last_line x.last line → (after_line x line).untold ≡ x.untold → Stores (says w line) (after_line x line)
       other line at none last_same untold_same = record {
         added = its.added ++ line ∷ [];
         out = out_is line;
@@ -137,7 +137,7 @@ module _ (Into : ℕ → Type 0) (most : ℕ) (At : Option (ℕ × Part) → Typ
             | inr here ↦ its.put other (untold ∙ ap (λ (e : ℕ). Some e) (number other tells.0 here))
           ]
 
-      by_line : (line : Line) → MaySay Into At x line → Stores (says w line) (after_line x line)
+      by_line : (line : Entry) → MaySay Into At x line → Stores (says w line) (after_line x line)
       by_line (Committed epoch (Some share)) its_may = committed epoch share its_may.0 its_may.1.0
       by_line (Committed epoch None) its_may = other (Committed epoch None) its_may.0 (λ n share e. (let wrong : Committed epoch None ≡ Committed n (Some share) = e in cc)) refl refl
       by_line (Setup epoch phase part) u = other (Setup epoch phase part) tt (λ n share e. cc) refl refl

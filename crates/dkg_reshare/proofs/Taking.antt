@@ -6,7 +6,7 @@ use Rattle.dkg_ceremony.specs.Schedule.{epoch_of, last, midpoint, phase_at, in_r
 use Rattle.dkg_ceremony.specs.declared.epocher.Bounds.{Bounds}
 use Rattle.dkg_ceremony.specs.declared.phase.Phase.TheVariants.{Early, Midpoint, Late}
 use Rattle.std.specs.Prelude.{nat_eq}
-use Rattle.dkg_infos.specs.declared.entry.Entry.{Entry as Line}
+use Rattle.dkg_infos.specs.declared.entry.Entry.{Entry}
 use Rattle.dkg_store.specs.Acts.{went}
 use Rattle.dkg_fence.specs.Readiness.{Readiness}
 use Rattle.dkg_types.specs.Blocks.{Block}
@@ -167,7 +167,7 @@ module _ {Dir : Type 0} (c : Fixed Dir) (b : Block Dir) (beside : Beside Dir) (f
   abbrev course : Course Dir Fault (Live Dir)
   course = blocks.delivers c b st
 
-  pub no_range : (height : ℕ) (x : Bounds) → height ≡ b.height → None ≡ in_bounds n (epoch_of n height) x → (out : List Line) → Speaks course (by_stop (Faulted HeightRange)) out out
+  pub no_range : (height : ℕ) (x : Bounds) → height ≡ b.height → None ≡ in_bounds n (epoch_of n height) x → (out : List Entry) → Speaks course (by_stop (Faulted HeightRange)) out out
   no_range height x at none out =
       let past : nat_le (2 ^ 64) (last n (epoch_of n b.height)) ≡ true = subst (λ (h : ℕ). nat_le (2 ^ 64) (last n (epoch_of n h)) ≡ true) at (is_past n height (range_over n height x none)) in
       stops_speaks course HeightRange (past_range c b st old.stage (ap (λ (m : ℕ). nat_le (2 ^ 64) (last m (epoch_of m b.height))) same ∙ past)) refl out
@@ -184,7 +184,7 @@ module _ {Dir : Type 0} (c : Fixed Dir) (b : Block Dir) (beside : Beside Dir) (f
     looks_is : looks ≡ (is_some old.tip || blocks.is_in_window c b st)
     looks_is = ap (λ (w : Bool). is_some old.tip || w) (bounded n height old b y are at ∙ sym (window_is c b beside fence old n same))
 
-    pub no_window : looks ≡ false → (out : List Line) → Speaks course (by_stop (Faulted (OutOfWindow height))) out out
+    pub no_window : looks ≡ false → (out : List Entry) → Speaks course (by_stop (Faulted (OutOfWindow height))) out out
     no_window not_in out =
         let why = unlooked old.tip (blocks.is_in_window c b st) (sym looks_is ∙ not_in) in
         stops_speaks course (OutOfWindow height) (over ∙ outside c b st old.tip why.0 why.1 ∙ ap (λ (h : ℕ). Stops (OutOfWindow h)) (sym at)) refl out
@@ -193,12 +193,12 @@ module _ {Dir : Type 0} (c : Fixed Dir) (b : Block Dir) (beside : Beside Dir) (f
       window : old.tip ≡ None → blocks.is_in_window c b st ≡ true
       window = looked old.tip (blocks.is_in_window c b st) (sym looks_is ∙ is_in)
 
-      pub judged_off : (e : Fault) → judged old.tip b.height b.digest b.parent ≡ Err e → (out : List Line) → Speaks course (by_stop (Faulted e)) out out
+      pub judged_off : (e : Fault) → judged old.tip b.height b.digest b.parent ≡ Err e → (out : List Entry) → Speaks course (by_stop (Faulted e)) out out
       judged_off e is out =
           stops_speaks course e (over ∙ judged_is c b st old.tip (Err e) is window)
           (let P : Result Judged Fault → Type 0 = λ r. IfErr r (λ its. cause_in its ≡ None) in subst P is (judged_cause old.tip b.height b.digest b.parent)) out
 
-      pub taken_again : judged old.tip b.height b.digest b.parent ≡ Ok Again → (out : List Line) → Speaks course (went st) out out
+      pub taken_again : judged old.tip b.height b.digest b.parent ≡ Ok Again → (out : List Entry) → Speaks course (went st) out out
       taken_again is out = goes_speaks course st st (over ∙ judged_is c b st old.tip (Ok Again) is window) refl out
 
       -- a new one is applied

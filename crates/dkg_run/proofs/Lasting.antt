@@ -7,7 +7,7 @@ use Rattle.dkg_journal.specs.Disk.{Rose}
 use Rattle.dkg_journal.specs.Names.{Files}
 use Rattle.dkg_journal.specs.declared.disk.Op.{Op}
 use Rattle.dkg_infos.specs.declared.directory.Unit as directory
-use Rattle.dkg_infos.specs.declared.entry.Entry.{Entry as Line}
+use Rattle.dkg_infos.specs.declared.entry.Entry.{Entry}
 use Rattle.dkg_infos.specs.declared.entry.Entry.TheVariants as entry
 use Rattle.dkg_infos.specs.declared.fault.Fault.{Fault}
 use Rattle.dkg_infos.specs.declared.fault.Fault.TheVariants as fault
@@ -74,7 +74,7 @@ module _ {D X : Type 0} (tells : Bool) (disk : D → D → List (DeviceCall Op) 
 
 -- ONLY A LIFE THAT THE SCRIPT CUTS ends by a cut
 
-module _ (its : Option cut.Cut) (step : ℕ) (line : Line) (course : Course directory.Unit NodeStop (Live directory.Unit)) (t new : Trace) (next : Live directory.Unit → Trace → Type 0) where
+module _ (its : Option cut.Cut) (step : ℕ) (line : Entry) (course : Course directory.Unit NodeStop (Live directory.Unit)) (t new : Trace) (next : Live directory.Unit → Trace → Type 0) where
   step_scripted : (fuse : Option Burn) → fuse_for its step ≡ fuse → Steps by_lines line fuse course t (Err Cut) new next → ((end : Live directory.Unit) (mid : Trace) → next end mid → IsSome its) → IsSome its
   step_scripted None is stops more = by_cut its is
     where
@@ -118,7 +118,7 @@ life_scripted g files t new how lives cuts = by_cases (subst (λ (h : Result (Un
 
 -- A LIFE WITH ITS END, over the lines, and over worlds
 
-module _ (script : Script) (number : ℕ) (life : Life) (files : Files) (how : Result (Unit {0}) Stop) (result : Result (Unit {0}) Fault) (out mid new : List Line) where
+module _ (script : Script) (number : ℕ) (life : Life) (files : Files) (how : Result (Unit {0}) Stop) (result : Result (Unit {0}) Fault) (out mid new : List Entry) where
   pub life_lines : (seen : Held → Seen) → by_lines.reads seen → ((picks : List ℕ) → LivesSo by_lines (lived script number life seen files) files (trace out picks) how (trace mid picks))
       → ((picks : List ℕ) → EndsLife by_lines life how (trace mid picks) result (trace new (picks ++ picks_at_end life how)) (λ now. (result ≡ Ok tt) × (now ≡ trace new (picks ++ picks_at_end life how))))
       → (picks : List ℕ) → LivesHere by_lines script AnyFiles number life (trace out picks) result (trace new (picks ++ picks_at_end life how)) (λ now. (result ≡ Ok tt) × (now ≡ trace new (picks ++ picks_at_end life how)))

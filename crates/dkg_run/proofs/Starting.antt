@@ -9,7 +9,7 @@ use Rattle.dkg_journal.specs.Names.{Files}
 use Rattle.dkg_journal.specs.declared.disk.Op.{Op}
 use Rattle.dkg_types.specs.Blocks.{Block}
 use Rattle.dkg_infos.specs.declared.directory.Unit as directory
-use Rattle.dkg_infos.specs.declared.entry.Entry.{Entry as Line}
+use Rattle.dkg_infos.specs.declared.entry.Entry.{Entry}
 use Rattle.dkg_infos.specs.declared.entry.Entry.TheVariants as entry
 use Rattle.dkg_infos.specs.declared.fault.Fault.TheVariants as fault
 use Rattle.dkg_infos.specs.declared.fault.Fault.TheVariants.{NoMemory}
@@ -50,7 +50,7 @@ use Rattle.dkg_run.proofs.Turns.{cut_lines, stopped_lines, told_lines, untold_li
 
 -- OVER LINES: something was read, and it is a life of the node
 
-abbrev pub LinesSo : Script → ℕ → Life → (out : List Line) → Result (Unit {0}) Stop → (now : List Line) → Files → Type 0
+abbrev pub LinesSo : Script → ℕ → Life → (out : List Entry) → Result (Unit {0}) Stop → (now : List Entry) → Files → Type 0
 LinesSo script number life out how now files =
     (seen : Held → Seen) × ReadsSomething seen × ((picks : List ℕ) → LivesSo by_lines (lived script number life seen files) files (trace out picks) how (trace now picks))
 
@@ -61,7 +61,7 @@ nothing h = seen_planless nothing_held
 reads_nothing : ReadsSomething nothing
 reads_nothing = record { read = seen_planless nothing_held; each = refl; unplanned = refl }
 
-module _ (script : Script) (number : ℕ) (life : Life) (files : Files) (out : List Line) where
+module _ (script : Script) (number : ℕ) (life : Life) (files : Files) (out : List Entry) where
   -- The life is cut before it opens.
   pub cut_first : fuse_for life.cut 0 ≡ None → (stop : Stop) → stop ≡ Cut → LinesSo script number life out (Err stop) out files
   cut_first none stop at_cut = (
@@ -81,7 +81,7 @@ module _ (script : Script) (number : ℕ) (life : Life) (files : Files) (out : L
           (λ end mid. TakesAll by_lines (lived script number life nothing files) 1 life.events end mid (Err (FaultOf NoMemory)) (trace out picks)) f lit),
     )
 
-    module _ (G : Seen → Type 0) (now : List Line) where
+    module _ (G : Seen → Type 0) (now : List Entry) where
       -- The opening stopped.
       pub stopped_first : (stop : Stop) → (stop ≡ Cut → 0 < f.call)
           → HasRead G (λ s. ViewedNew (Err stop) (λ ended. Tells (node_opening (at_step (lived script number life (λ h. s) files) 0)) ended out now))
@@ -126,7 +126,7 @@ module _ (script : Script) (number : ℕ) (life : Life) (files : Files) (out : L
             pub has_opened : AreBytes script.blocks → HasOpened node blocks life
             has_opened bytes = record { g = its; here = over_it; bytes = bytes; of = step_of_it; st = (read.so).0; view = (read.so).1; at = at_first }
 
-            pub told_first : (how : Result (Unit {0}) Stop) (behind now_then : List Line) → behind ≡ now ++ entry.Step 0 ∷ []
+            pub told_first : (how : Result (Unit {0}) Stop) (behind now_then : List Entry) → behind ≡ now ++ entry.Step 0 ∷ []
                 → ((g : Lived) (st : Live directory.Unit) (picks : List ℕ) → IsLifeInForm g → IsStepHere g node blocks life → IsView node st → IsAtEvent g 0 st
                 → TakesAll by_lines g 1 life.events st (trace behind picks) how (trace now_then picks))
                 → LinesSo script number life out how now_then files
@@ -135,22 +135,22 @@ module _ (script : Script) (number : ℕ) (life : Life) (files : Files) (out : L
               reads_it,
               λ picks. inl (told_lines (entry.Step 0) life.cut 0 f lit (node_opening (at_step its 0))
                   (λ end mid. TakesAll by_lines its 1 life.events end mid how (trace now_then picks)) out now picks (read.so).0 (read.so).2 how (trace now_then picks)
-                  (subst (λ (l : List Line). TakesAll by_lines its 1 life.events (read.so).0 (trace l picks) how (trace now_then picks)) is
+                  (subst (λ (l : List Entry). TakesAll by_lines its 1 life.events (read.so).0 (trace l picks) how (trace now_then picks)) is
                   (takes its (read.so).0 picks over_it step_of_it (read.so).1 at_first))),
             )
 
             -- .. one of both
-            pub went_first : {D X : Type 0} (mid last : Devices D X) (how : Result (Unit {0}) Stop) (now_then : List Line)
+            pub went_first : {D X : Type 0} (mid last : Devices D X) (how : Result (Unit {0}) Stop) (now_then : List Entry)
                 → IsUntold how mid last now now_then ⊎ ((g : Lived) (st : Live directory.Unit) (picks : List ℕ) → IsLifeInForm g → IsStepHere g node blocks life → IsView node st → IsAtEvent g 0 st
                 → TakesAll by_lines g 1 life.events st (trace (now ++ entry.Step 0 ∷ []) picks) how (trace now_then picks))
                 → LinesSo script number life out how now_then files
             went_first mid last how now_then (inr takes) = told_first how (now ++ entry.Step 0 ∷ []) now_then refl takes
             went_first mid last how now_then (inl none) =
                 subst (λ (r : Result (Unit {0}) Stop). LinesSo script number life out r now_then files) (sym none.want)
-                (subst (λ (l : List Line). LinesSo script number life out (Err (FaultOf NoMemory)) l files) (sym none.untold) untold_first)
+                (subst (λ (l : List Entry). LinesSo script number life out (Err (FaultOf NoMemory)) l files) (sym none.untold) untold_first)
 
 -- the same files of a disk whose fuse was set
-pub lines_over : {D : Type 0} (files : D → Files) (old begun : MutBor D) → begun ≡ old → (script : Script) (number : ℕ) (life : Life) (out : List Line) (how : Result (Unit {0}) Stop) (now : List Line)
+pub lines_over : {D : Type 0} (files : D → Files) (old begun : MutBor D) → begun ≡ old → (script : Script) (number : ℕ) (life : Life) (out : List Entry) (how : Result (Unit {0}) Stop) (now : List Entry)
     → LinesSo script number life out how now (files begun.now) → LinesSo script number life out how now (files old.now)
 lines_over files old begun same script number life out how now = subst (λ d. LinesSo script number life out how now (files d.now)) same
 

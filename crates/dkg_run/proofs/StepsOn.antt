@@ -5,7 +5,7 @@ use Rattle.std.specs.Int.NonZero.{non_zero_u32_get}
 use Rattle.dkg_journal.specs.Burn.{Burn}
 use Rattle.dkg_types.specs.Blocks.{Block}
 use Rattle.dkg_infos.specs.declared.directory.Unit as directory
-use Rattle.dkg_infos.specs.declared.entry.Entry.{Entry as Line}
+use Rattle.dkg_infos.specs.declared.entry.Entry.{Entry}
 use Rattle.dkg_text.specs.declared.script.Event.{Event}
 use Rattle.dkg_text.specs.declared.script.Event.TheVariants as event
 use Rattle.dkg_text.specs.declared.script.Life.{Life}
@@ -104,7 +104,7 @@ module _ (g : Lived) (here : IsLifeInForm g) (i : ℕ) (its : Event) (life : Lif
 
   -- BEHIND A STEP that was answered Ok stands the next state
 
-  module _ {W : Type 0} (way : Way W) (leads : LeadsAlong way) (line : Line) (next : Node) (w mid : W) where
+  module _ {W : Type 0} (way : Way W) (leads : LeadsAlong way) (line : Entry) (next : Node) (w mid : W) where
     abbrev Before : Live directory.Unit → W → Type 0
     Before end m = (◌≡◌ {A = Result (Unit {0}) Stop} (Ok tt) (Ok tt)) × IsView next end × (m ≡ mid)
 

@@ -9,7 +9,7 @@ use Rattle.dkg_journal.specs.Burn.{Burn}
 use Rattle.dkg_journal.specs.Disk.{Lands}
 use Rattle.dkg_journal.specs.Names.{Files}
 use Rattle.dkg_infos.specs.declared.directory.Unit as directory
-use Rattle.dkg_infos.specs.declared.entry.Entry.{Entry as Line}
+use Rattle.dkg_infos.specs.declared.entry.Entry.{Entry}
 use Rattle.dkg_infos.specs.declared.fault.Fault.TheVariants.{NoMemory}
 use Rattle.dkg_store.specs.Acts.{Ended, Stands, World, at, broken, by_cut, by_want, moment, went}
 use Rattle.dkg_store.specs.Corrupt.{AreFit}
@@ -58,10 +58,10 @@ node_lands tells files image node devices ready told =
 pub went_uncut : (end : Live directory.Unit) → ◌≡◌ {A = Ended NodeStop (Live directory.Unit)} (went end) (broken by_cut) → ⊥
 went_uncut end is = cc
 
-module _ (line : Line) (its : Option cut.Cut) (number : ℕ) (f : Burn) (lit : fuse_for its number ≡ Some f) (course : Course directory.Unit NodeStop (Live directory.Unit)) where
+module _ (line : Entry) (its : Option cut.Cut) (number : ℕ) (f : Burn) (lit : fuse_for its number ≡ Some f) (course : Course directory.Unit NodeStop (Live directory.Unit)) where
   -- OVER LINES
 
-  module _ (next : Live directory.Unit → Trace → Type 0) (out now : List Line) (picks : List ℕ) where
+  module _ (next : Live directory.Unit → Trace → Type 0) (out now : List Entry) (picks : List ℕ) where
     -- it stopped
     pub stopped_lines : (stop : Stop) → (stop ≡ Cut → 0 < f.call) → Tells course (by_node_stop stop) out now → Steps by_lines line (fuse_for its number) course (trace out picks) (Err stop) (trace now picks) next
     stopped_lines stop cuts told =
@@ -78,7 +78,7 @@ module _ (line : Line) (its : Option cut.Cut) (number : ℕ) (f : Burn) (lit : f
 
   -- OVER WORLDS: the fuse was another before
 
-  module _ (next : Live directory.Unit → World → Type 0) (files : Files) (image : Files → Type 0) (stands : Stands files image) (out : List Line) (s : Secrets) (before : Burn) where
+  module _ (next : Live directory.Unit → World → Type 0) (files : Files) (image : Files → Type 0) (stands : Stands files image) (out : List Entry) (s : Secrets) (before : Burn) where
     abbrev start : World
     start = at (moment out s before) files
 
@@ -88,7 +88,7 @@ module _ (line : Line) (its : Option cut.Cut) (number : ℕ) (f : Burn) (lit : f
         (step_stops by_worlds line (fuse_for its number) course start next f lit (FaultOf NoMemory) (at (moment out s f) files)
         (breaks_none by_want tt (on_devices course) (at (moment out s f) files), burns_none (broken by_want) f))
 
-    module _ (files_now : Files) (image_now : Files → Type 0) (now : List Line) (t : Secrets) (after : Burn) (c : Files) (here : image_now c) where
+    module _ (files_now : Files) (image_now : Files → Type 0) (now : List Entry) (t : Secrets) (after : Burn) (c : Files) (here : image_now c) where
       -- it stopped
       pub stopped_worlds : (stop : Stop) → MakesAt (on_devices course) (by_node_stop stop) files image files_now image_now (moment out s f) (moment now t after)
           → Steps by_worlds line (fuse_for its number) course start (Err stop) (at (moment now t after) c) next
@@ -110,12 +110,12 @@ module _ (line : Line) (its : Option cut.Cut) (number : ℕ) (f : Burn) (lit : f
 
 -- THE LIFE IS CUT BEFORE THE STEP
 
-module _ (line : Line) (its : Option cut.Cut) (number : ℕ) (none : fuse_for its number ≡ None) (course : Course directory.Unit NodeStop (Live directory.Unit)) (stop : Stop) (at_cut : stop ≡ Cut) where
-  pub cut_lines : (next : Live directory.Unit → Trace → Type 0) (out : List Line) (picks : List ℕ) → Steps by_lines line (fuse_for its number) course (trace out picks) (Err stop) (trace out picks) next
+module _ (line : Entry) (its : Option cut.Cut) (number : ℕ) (none : fuse_for its number ≡ None) (course : Course directory.Unit NodeStop (Live directory.Unit)) (stop : Stop) (at_cut : stop ≡ Cut) where
+  pub cut_lines : (next : Live directory.Unit → Trace → Type 0) (out : List Entry) (picks : List ℕ) → Steps by_lines line (fuse_for its number) course (trace out picks) (Err stop) (trace out picks) next
   cut_lines next out picks = subst (λ (s : Stop). Steps by_lines line (fuse_for its number) course (trace out picks) (Err s) (trace out picks) next) (sym at_cut)
       (step_cut by_lines line (fuse_for its number) course (trace out picks) next none)
 
-  pub cut_worlds : (next : Live directory.Unit → World → Type 0) (files : Files) (image : Files → Type 0) → Stands files image → (out : List Line) (s : Secrets) (f : Burn) (c : Files) → image c
+  pub cut_worlds : (next : Live directory.Unit → World → Type 0) (files : Files) (image : Files → Type 0) → Stands files image → (out : List Entry) (s : Secrets) (f : Burn) (c : Files) → image c
       → Steps by_worlds line (fuse_for its number) course (at (moment out s f) files) (Err stop) (at (moment out s f) c) next
   cut_worlds next files image stands out s f c here =
       subst (λ (x : Files). Steps by_worlds line (fuse_for its number) course (at (moment out s f) files) (Err stop) (at (moment out s f) x) next) (sym (stands.lands.only c here))
@@ -124,7 +124,7 @@ module _ (line : Line) (its : Option cut.Cut) (number : ℕ) (none : fuse_for it
 
   -- .. whose devices stayed as they were
   pub cut_over : {D X : Type 0} (files : D → Files) (image : D → Files → Type 0) (held : X → Secrets) (old begun : Devices D X) → begun ≡ old → Stands (files old.disk.now) (image old.disk.now)
-      → (next : Live directory.Unit → World → Type 0) (out : List Line) (c : Files) → image begun.disk.now c
+      → (next : Live directory.Unit → World → Type 0) (out : List Entry) (c : Files) → image begun.disk.now c
       → Steps by_worlds line (fuse_for its number) course (world_of held old out (files old.disk.now)) (Err stop) (world_of held begun out c) next
   cut_over {D} {X} files image held old begun same stands next out c here =
       subst (λ (d : Devices D X). image d.disk.now c → Steps by_worlds line (fuse_for its number) course (world_of held old out (files old.disk.now)) (Err stop) (world_of held d out c) next) (sym same)
@@ -159,10 +159,10 @@ blocks_held old now blocks same is = rw same is
 -- OVER THE DEVICES of a step: its fuse was set anew
 
 module _ {D X : Type 0} (files : D → Files) (image : D → Files → Type 0) (held : X → Secrets) (old begun : Devices D X) (same_disk : begun.disk ≡ old.disk) (same_secrets : begun.secrets ≡ old.secrets)
-    (stands : Stands (files old.disk.now) (image old.disk.now)) (line : Line) (its : Option cut.Cut) (number : ℕ) (lit : fuse_for its number ≡ Some begun.fuse)
-    (course : Course directory.Unit NodeStop (Live directory.Unit)) (out : List Line) (next : Live directory.Unit → World → Type 0)
+    (stands : Stands (files old.disk.now) (image old.disk.now)) (line : Entry) (its : Option cut.Cut) (number : ℕ) (lit : fuse_for its number ≡ Some begun.fuse)
+    (course : Course directory.Unit NodeStop (Live directory.Unit)) (out : List Entry) (next : Live directory.Unit → World → Type 0)
   where
-    abbrev pub Ran : (how : Result (Unit {0}) Stop) (new : Devices D X) (now : List Line) → Files → Type 0
+    abbrev pub Ran : (how : Result (Unit {0}) Stop) (new : Devices D X) (now : List Entry) → Files → Type 0
     Ran how new now c = Steps by_worlds line (fuse_for its number) course (world_of held old out (files old.disk.now)) how (world_of held new now c) next
 
     stood : Stands (files begun.disk.now) (image begun.disk.now)
@@ -178,7 +178,7 @@ module _ {D X : Type 0} (files : D → Files) (image : D → Files → Type 0) (
     ran_unheld c here = begins (Err (FaultOf NoMemory)) (world_of held begun out c)
         (unheld_worlds line its number begun.fuse lit course next (files begun.disk.now) (image begun.disk.now) stood out (held begun.secrets.now) old.fuse c here)
 
-    module _ (new : Devices D X) (now : List Line) (c : Files) (here : image new.disk.now c) where
+    module _ (new : Devices D X) (now : List Entry) (c : Files) (here : image new.disk.now c) where
       pub ran_stopped : (stop : Stop) → MakesOn files image held (on_devices course) (by_node_stop stop) begun new out now → Ran (Err stop) new now c
       ran_stopped stop makes = begins (Err stop) (world_of held new now c)
           (stopped_worlds line its number begun.fuse lit course next (files begun.disk.now) (image begun.disk.now) stood out (held begun.secrets.now) old.fuse
@@ -230,7 +230,7 @@ pub fit_on : (a b : Node) → b.actor.terms ≡ a.actor.terms → (image next : 
 fit_on a b terms image next step = subst (λ (t : Terms). AreFit (non_zero_u32_get t.limit) image → AreFit (non_zero_u32_get t.limit) next) terms step
 
 -- its fuses are those of this life
-pub steps_of : {W : Type 0} (way : Way W) (g : Lived) (life : Life) → g.life ≡ life → (line : Line) (step : ℕ) (course : Course directory.Unit NodeStop (Live directory.Unit)) (w : W)
+pub steps_of : {W : Type 0} (way : Way W) (g : Lived) (life : Life) → g.life ≡ life → (line : Entry) (step : ℕ) (course : Course directory.Unit NodeStop (Live directory.Unit)) (w : W)
     (how : Result (Unit {0}) Stop) (new : W) (next : Live directory.Unit → W → Type 0) → Steps way line (fuse_for life.cut step) course w how new next → Steps way line (fuse_for g.life.cut step) course w how new next
 steps_of way g life is line step course w how new next its = subst (λ (l : Life). Steps way line (fuse_for l.cut step) course w how new next) (sym is) its
 
@@ -238,7 +238,7 @@ steps_of way g life is line step course w how new next its = subst (λ (l : Life
 pub not_done : {stop : Stop} → ◌≡◌ {A = Result (Unit {0}) Stop} (Err stop) (Ok tt) → ⊥
 not_done e = cc
 
-module _ {W : Type 0} (way : Way W) (line : Line) (fuse : Option Burn) (course : Course directory.Unit NodeStop (Live directory.Unit)) (w : W) (stop : Stop) (new : W) (N M : Live directory.Unit → W → Type 0) where
+module _ {W : Type 0} (way : Way W) (line : Entry) (fuse : Option Burn) (course : Course directory.Unit NodeStop (Live directory.Unit)) (w : W) (stop : Stop) (new : W) (N M : Live directory.Unit → W → Type 0) where
   pub stops_with : ((end : Live directory.Unit) (mid : W) → N end mid → ⊥) → Steps way line fuse course w (Err stop) new N → Steps way line fuse course w (Err stop) new M
   stops_with none steps = in_fuse fuse steps
     where

@@ -8,7 +8,7 @@ use Rattle.dkg_ceremony.specs.declared.phase.Phase.{Phase}
 use Rattle.dkg_ceremony.specs.declared.round.RoundParts.{RoundParts as Round}
 use Rattle.dkg_ceremony.specs.declared.round.RoundError.{RoundError}
 use Rattle.dkg_infos.specs.declared.fault.Fault.{Fault}
-use Rattle.dkg_infos.specs.declared.entry.Entry.{Entry as Line}
+use Rattle.dkg_infos.specs.declared.entry.Entry.{Entry}
 use Rattle.dkg_infos.specs.declared.entry.Entry.TheVariants.{Setup}
 use Rattle.dkg_infos.specs.declared.fault.Fault.TheVariants.{InvalidParticipants, LocalState, NoMemory}
 use Rattle.dkg_infos.specs.declared.fault.LocalCause.TheVariants.{ShareRefused, StoredDealing}
@@ -54,17 +54,17 @@ module _ {Dir : Type 0} (c : Fixed Dir) (p : Participants) (output : Output) (sh
   not_drawn e is = ap (setup.in_round c its_phase share seed st) is
 
 -- A line was told, and then no memory was found.
-said_then_want : {Dir S : Type 0} (course : Course Dir Fault S) (line : Line) (its : S) → course ≡ Say line (Goes its) → (stop : Stop) → stop ≡ Faulted NoMemory
-    → (out now : List Line) → now ≡ out ++ line ∷ [] → Speaks course (by_stop stop) out now
+said_then_want : {Dir S : Type 0} (course : Course Dir Fault S) (line : Entry) (its : S) → course ≡ Say line (Goes its) → (stop : Stop) → stop ≡ Faulted NoMemory
+    → (out now : List Entry) → now ≡ out ++ line ∷ [] → Speaks course (by_stop stop) out now
 said_then_want {Dir} {S} course line its is stop want out now told = λ h f.
-    let w : List Line → World = λ l. record { out = l; held = h; fuse = f } in
+    let w : List Entry → World = λ l. record { out = l; held = h; fuse = f } in
     subst (λ (x : Course Dir Fault S). Runs (on_devices x) (by_stop stop) (w out) (w now)) (sym is)
     (subst (λ (how : Ended Fault S). Runs (on_devices {Dir = Dir} (Say line (Goes its))) how (w out) (w now)) (sym (ap (λ (s : Stop). by_stop {S = S} s) want)) (inr (tt, ap w told)))
 
 -- DRAWN UP BY AN ACTOR of these terms, at this phase
 
 module _ {Dir : Type 0} (c : Fixed Dir) (terms : Terms) (of : IsOf terms c) (round_of : RoundOf) (round_is : c.rules.round_of ≡ round_of)
-    (info : EpochInfo Dir) (share : Option ℕ) (seed : List ℕ) (st : Live Dir) (out : List Line)
+    (info : EpochInfo Dir) (share : Option ℕ) (seed : List ℕ) (st : Live Dir) (out : List Entry)
   where
     abbrev asked : Result Round RoundError
     asked = round_of terms.namespace st.participation.epoch (Some info.output) terms.mode terms.reveal info.output.players info.players
@@ -104,10 +104,10 @@ module _ {Dir : Type 0} (c : Fixed Dir) (terms : Terms) (of : IsOf terms c) (rou
         player_failed stop (inl want) = wants_speaks course stop want out out refl
         player_failed stop (inr a) = gives_speaks course stop (LocalState (StoredDealing round.number a.0)) a.1 (player_as ∙ a.3) refl out
 
-        module _ (player : Option Player) (made : MakesPlayer c round phase (option_map dealer_of dealer) st (Ok player)) (now : List Line)
+        module _ (player : Option Player) (made : MakesPlayer c round phase (option_map dealer_of dealer) st (Ok player)) (now : List Entry)
             (told : now ≡ out ++ Setup st.participation.epoch phase (setup.part_of (option_map dealer_of dealer) (seat_of player)) ∷ [])
           where
-            abbrev line : Line
+            abbrev line : Entry
             line = Setup st.participation.epoch phase (setup.part_of (option_map dealer_of dealer) (seat_of player))
 
             abbrev its_end : Live Dir

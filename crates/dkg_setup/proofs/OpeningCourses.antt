@@ -6,7 +6,7 @@ use Rattle.std.specs.FinMap as maps
 use Rattle.dkg_ceremony.specs.Schedule.{boundary}
 use Rattle.dkg_fence.specs.Readiness.{Readiness}
 use Rattle.dkg_journal.specs.Names.{Files}
-use Rattle.dkg_infos.specs.declared.entry.Entry.{Entry as Line}
+use Rattle.dkg_infos.specs.declared.entry.Entry.{Entry}
 use Rattle.dkg_infos.specs.declared.fault.Fault.{Fault}
 use Rattle.dkg_infos.specs.declared.fault.Fault.TheVariants.{HeightRange}
 use Rattle.dkg_infos.specs.declared.info.EpochInfo.{EpochInfo}
@@ -88,7 +88,7 @@ module _ {Dir S : Type 0} {its course : Course Dir Fault S} (same : its ≡ cour
       → MakesAt (on_devices its) how files image files_now now old new
   makes_as {files} {files_now} {image} {now} {old} {new} made = subst (λ (x : Course Dir Fault S). MakesAt (on_devices x) how files image files_now now old new) (sym same) made
 
-  pub tells_as : {out now : List Line} → Tells course how out now → Tells its how out now
+  pub tells_as : {out now : List Entry} → Tells course how out now → Tells its how out now
   tells_as {out} {now} told = subst (λ (x : Course Dir Fault S). Tells x how out now) (sym same) told
 
 -- A SETUP, where no info is committed

@@ -12,7 +12,7 @@ use Rattle.dkg_journal.specs.Opening.{broken}
 use Rattle.dkg_journal.specs.Records.{SectionEntry, entries}
 use Rattle.dkg_journal.specs.Views.{views}
 use Rattle.dkg_journal.specs.declared.opening.JournalEntry.{JournalEntry}
-use Rattle.dkg_infos.specs.declared.entry.Entry.{Entry as Line}
+use Rattle.dkg_infos.specs.declared.entry.Entry.{Entry}
 use Rattle.dkg_infos.specs.declared.entry.Entry.TheVariants.{Opened}
 use Rattle.dkg_infos.specs.declared.fault.Fault.{Fault}
 use Rattle.dkg_infos.specs.declared.fault.Fault.TheVariants as fault
@@ -89,7 +89,7 @@ uncorrupt limit files name place grammar at = by_cause at.so
         no_place (no_event_at limit other.1.read) (name, place) other.1.first (no_other limit other.1.read (subst (AreEvents limit) (sym same) grammar.events))
 
 -- Where it was, so is its opening, however that ended.
-pub was_readable : {T Readable : Type 0} → Readable → (r : Result T Stop) {out now : List Line} {image next : Files → Type 0} {s t : Secrets} → OpensReadable Readable r out now image next s t
+pub was_readable : {T Readable : Type 0} → Readable → (r : Result T Stop) {out now : List Entry} {image next : Files → Type 0} {s t : Secrets} → OpensReadable Readable r out now image next s t
 was_readable its (Ok x) = record { ok = its; untold = λ no. absurd (no its); shut = λ no. absurd (no its) }
 was_readable its (Err stop) = record { ok = tt; untold = λ no. absurd (no its); shut = λ no. absurd (no its) }
 
@@ -159,7 +159,7 @@ module _ (Dir : Type 0) (life calls : ℕ) {files files_now : Files} {image now 
 
     -- .. or went, and its line was told, or found no memory
     pub store_opened : (g : Pairs × Notes (List ℕ) × Notes RecordedLog) → MadeAt (calls_of.store_opening None calls None) (went g) files image files_now now old new → (Reached old.fuse new.fuse → ⊥)
-        → (result : Result (Unit {0}) Stop) {out : List Line} → OnOk result (out ≡ new.out ++ Opened life (restored_list g.0) ∷ []) → OnErr result (out ≡ new.out)
+        → (result : Result (Unit {0}) Stop) {out : List Entry} → OnOk result (out ≡ new.out ++ Opened life (restored_list g.0) ∷ []) → OnErr result (out ≡ new.out)
         → IfErr result (λ stop. stop ≡ Faulted fault.NoMemory)
         → MakesAt (on_devices (opens_store {Dir = Dir} seen_planless life calls)) (ends_in (recorded g) result) files image files_now now old (acts_of.moment out new.secrets new.fuse)
     store_opened g opened uncut result {out} told untold memory =
@@ -180,7 +180,7 @@ abbrev pub seen_of : {Dir : Type 0} → Store Dir → Seen
 seen_of store = record { dealings = maps.entries store.dealings; acks = maps.entries store.acks; logs = maps.entries store.logs; shares = []; seeds = []; plan = None }
 
 -- The line says it.
-pub opened_told : {Dir : Type 0} (store : Store Dir) (life calls : ℕ) {out now : List Line} → now ≡ out ++ Opened life (map restored_of (maps.entries store.dealings)) ∷ []
+pub opened_told : {Dir : Type 0} (store : Store Dir) (life calls : ℕ) {out now : List Entry} → now ≡ out ++ Opened life (map restored_of (maps.entries store.dealings)) ∷ []
     → Tells {Dir = Dir} (opens_store (λ h. seen_of store) life calls) (went (records_of store)) out now
 opened_told store life calls told = record { lines = Opened life (map restored_of (maps.entries store.dealings)) ∷ []; added = told; by = (nothing_held, ([], refl, (refl, refl))) }
 
@@ -191,7 +191,7 @@ given_back store image es s t is settled same = λ c here key above.
 
 module _ (Dir : Type 0) (life calls : ℕ) where
   -- Where the store failed, nothing was said, whatever was read.
-  pub store_untold : (e : StoreError) → IsOfPruning e → (out : List Line) (P : Seen → Type 0)
+  pub store_untold : (e : StoreError) → IsOfPruning e → (out : List Entry) (P : Seen → Type 0)
       → HasRead (λ s. UnlessBroken (by_stop {S = Records} (stop_of e)) (P s)) (λ s. Tells {Dir = Dir} (opens_store (λ h. s) life calls) (by_stop (stop_of e)) out out)
   store_untold e kind out P = record {
     seen = nothing_seen;
@@ -202,7 +202,7 @@ module _ (Dir : Type 0) (life calls : ℕ) where
   }
 
   -- .. and where its line found no memory
-  pub store_unlisted : (out now : List Line) → now ≡ out → (P : Seen → Type 0)
+  pub store_unlisted : (out now : List Entry) → now ≡ out → (P : Seen → Type 0)
       → HasRead (λ s. UnlessBroken (by_stop {S = Records} (Faulted fault.NoMemory)) (P s)) (λ s. Tells {Dir = Dir} (opens_store (λ h. s) life calls) (by_stop (Faulted fault.NoMemory)) out now)
   store_unlisted out now same P = record {
     seen = nothing_seen;
@@ -244,12 +244,12 @@ module _ {Dir F S : Type 0} (course : Course Dir F S) where
     burns = it.burns;
   }
 
-  asked_says : (how : Ended F S) (lines : List Line) → SaysBy (on_devices course) how lines → SaysBy (on_devices (Ask (λ h. course))) how lines
+  asked_says : (how : Ended F S) (lines : List Entry) → SaysBy (on_devices course) how lines → SaysBy (on_devices (Ask (λ h. course))) how lines
   asked_says (went end) lines by = (nothing_held, by)
   asked_says (stopped fault) lines by = (nothing_held, by)
   asked_says (broken_by cause) lines by = inr (nothing_held, by)
 
-  pub asked_told : (how : Ended F S) {out now : List Line} → Tells course how out now → Tells (Ask (λ h. course)) how out now
+  pub asked_told : (how : Ended F S) {out now : List Entry} → Tells course how out now → Tells (Ask (λ h. course)) how out now
   asked_told how said = record { lines = said.lines; added = said.added; by = asked_says how said.lines said.by }
 
 -- AN OPENING OF A LIFE
@@ -263,7 +263,7 @@ module _ {Dir : Type 0} (c : Fixed Dir) (is_bare : IsBareOpening c) (unplanned :
       → MakesAt (on_devices (opening c)) (by_stop stop) files image files_now now old new
   opening_failed stop made = makes_as store_first (by_stop stop) (early_makes (opens_store seen number calls) (sets_up_over c) stop made)
 
-  pub opening_untold : (stop : Stop) {out now : List Line} → Tells {Dir = Dir} (opens_store seen number calls) (by_stop stop) out now → Tells (opening c) (by_stop stop) out now
+  pub opening_untold : (stop : Stop) {out now : List Entry} → Tells {Dir = Dir} (opens_store seen number calls) (by_stop stop) out now → Tells (opening c) (by_stop stop) out now
   opening_untold stop told = tells_as store_first (by_stop stop) (early_told (opens_store seen number calls) (sets_up_over c) stop told)
 
   -- .. or the setup was made over it
@@ -281,7 +281,7 @@ module _ {Dir : Type 0} (c : Fixed Dir) (is_bare : IsBareOpening c) (unplanned :
           makes_as store_first how (then_makes (opens_store seen number calls) (sets_up_over c) (records_of store) how first
           (asked_makes (setup.setup c None (begun_at c (records_of store))) (makes_as setup_is how second)))
 
-      pub opening_told : {out mid now : List Line} → Tells {Dir = Dir} (opens_store seen number calls) (went (records_of store)) out mid → Tells (setup.setup c None (live_of nothing_beside fence life)) how mid now
+      pub opening_told : {out mid now : List Entry} → Tells {Dir = Dir} (opens_store seen number calls) (went (records_of store)) out mid → Tells (setup.setup c None (live_of nothing_beside fence life)) how mid now
           → Tells (opening c) how out now
       opening_told first second =
           tells_as store_first how (then_told (opens_store seen number calls) (sets_up_over c) (records_of store) how first

@@ -3,7 +3,7 @@ use Rattle.std.proofs.Common.{◌≡◌, ℕ, ◌-◌, [], append-nil, inl, inr,
 use Rattle.std.specs.Prelude.{if◌then◌else◌, ◌==◌}
 use Rattle.dkg_fence.specs.Readiness.{Readiness}
 use Rattle.dkg_journal.specs.Names.{Files}
-use Rattle.dkg_infos.specs.declared.entry.Entry.{Entry as Line}
+use Rattle.dkg_infos.specs.declared.entry.Entry.{Entry}
 use Rattle.dkg_infos.specs.declared.fault.Fault.{Fault}
 use Rattle.dkg_infos.specs.declared.fault.Fault.TheVariants.{InvalidParticipants, WrongEpoch}
 use Rattle.dkg_infos.specs.declared.fault.ParticipantsCause.TheVariants.{Refused}
@@ -52,12 +52,12 @@ module _ {Dir : Type 0} (c : Fixed Dir) (standing : setup.Standing) (info : Epoc
   own_in true (Err e) its is = ap (λ (f : Fault). cause_in f) (sym (same_some (InvalidParticipants (Refused e)) its is))
   own_in false valid its is = ap (λ (f : Fault). cause_in f) (sym (same_some (WrongEpoch st.participation.epoch info.epoch) its is))
 
-  not_passed : (stop : Stop) (r : Option Fault) → refusal_of st.participation.epoch c.limit info ≡ r → IsFaultOrWant r stop → (out : List Line) → Speaks whole (by_stop stop) out out
+  not_passed : (stop : Stop) (r : Option Fault) → refusal_of st.participation.epoch c.limit info ≡ r → IsFaultOrWant r stop → (out : List Entry) → Speaks whole (by_stop stop) out out
   not_passed stop None is want out = wants_speaks whole stop want out out refl
   not_passed stop (Some its) is (inl want) out = wants_speaks whole stop want out out refl
   not_passed stop (Some its) is (inr ends) out = gives_speaks whole stop its ends (refused c standing info st its is) (own_in (info.epoch == st.participation.epoch) _ its is) out
 
-  pub judge_failed : (limit : ℕ) → c.limit ≡ limit → (stop : Stop) → IsFaultOrWant (refusal_of st.participation.epoch limit info) stop → (out : List Line) → Speaks whole (by_stop stop) out out
+  pub judge_failed : (limit : ℕ) → c.limit ≡ limit → (stop : Stop) → IsFaultOrWant (refusal_of st.participation.epoch limit info) stop → (out : List Entry) → Speaks whole (by_stop stop) out out
   judge_failed limit same stop ends out =
       not_passed stop (refusal_of st.participation.epoch c.limit info) refl (subst (λ (n : ℕ). IsFaultOrWant (refusal_of st.participation.epoch n info) stop) (sym same) ends) out
 
@@ -74,7 +74,7 @@ passed_over {Dir} c standing info beside fence life now same limit is none =
 
 -- WHAT IS READ, of devices that needn't tell
 
-pub secrets_told : {Dir : Type 0} (c : Fixed Dir) (info : EpochInfo Dir) (share : Option ℕ) (seed : List ℕ) (h : Held) → GivesBoth c info share seed h → CanRead c h → (out : List Line)
+pub secrets_told : {Dir : Type 0} (c : Fixed Dir) (info : EpochInfo Dir) (share : Option ℕ) (seed : List ℕ) (h : Held) → GivesBoth c info share seed h → CanRead c h → (out : List Entry)
     → Tells (reads_secrets c info) (went (share, seed)) out out
 secrets_told c info share seed h gives reads out =
     let both = gives (c.seen reads.0) reads.1 reads.2 in
@@ -121,7 +121,7 @@ module _ {Dir : Type 0} (c : Fixed Dir) (standing : setup.Standing) (info : Epoc
 -- SAID, from the secrets on
 
 module _ {Dir : Type 0} (c : Fixed Dir) (standing : setup.Standing) (info : EpochInfo Dir) (st : Live Dir) (all : Course Dir Fault (Live Dir))
-    (from_secrets : all ≡ bind (reads_secrets c info) (behind_secrets c standing info st)) {out now : List Line}
+    (from_secrets : all ≡ bind (reads_secrets c info) (behind_secrets c standing info st)) {out now : List Entry}
   where
     as_said : (how : Ended Fault (Live Dir)) → Tells (bind (reads_secrets c info) (behind_secrets c standing info st)) how out now → Tells all how out now
     as_said how said = subst (λ (x : Course Dir Fault (Live Dir)). Said (on_devices x) how out now) (sym from_secrets) said
@@ -137,13 +137,13 @@ module _ {Dir : Type 0} (c : Fixed Dir) (standing : setup.Standing) (info : Epoc
       commit_unsaid stop said =
           told_past (by_stop stop) (early_told (committing c standing info share seed st) (last_parts c standing info share seed) stop said)
 
-      module _ (st2 : Live Dir) {out2 : List Line} (committed : Tells (committing c standing info share seed st) (went st2) out out2) where
+      module _ (st2 : Live Dir) {out2 : List Entry} (committed : Tells (committing c standing info share seed st) (went st2) out out2) where
         pub prune_unsaid : (min : ℕ) → min ≡ st2.participation.epoch - 1 → (stop : Stop) → Tells (setup.prunes min st2) (by_stop stop) out2 now → Tells all (by_stop stop) out now
         prune_unsaid min min_is stop said =
             told_past (by_stop stop) (then_told (committing c standing info share seed st) (last_parts c standing info share seed) st2 (by_stop stop) committed
             (early_told (pruning_in c standing info share seed st2) (drawing c standing info share seed) stop (subst (λ (m : ℕ). Said (on_devices (setup.prunes m st2)) (by_stop stop) out2 now) min_is said)))
 
-        pub draw_said : (min : ℕ) → min ≡ st2.participation.epoch - 1 → (st3 : Live Dir) (how : Ended Fault (Live Dir)) {out3 : List Line} → Tells (setup.prunes min st2) (went st3) out2 out3
+        pub draw_said : (min : ℕ) → min ≡ st2.participation.epoch - 1 → (st3 : Live Dir) (how : Ended Fault (Live Dir)) {out3 : List Entry} → Tells (setup.prunes min st2) (went st3) out2 out3
             → Tells (drawing c standing info share seed st3) how out3 now → Tells all how out now
         draw_said min min_is st3 how {out3} pruned drawn =
             told_past how (then_told (committing c standing info share seed st) (last_parts c standing info share seed) st2 how committed

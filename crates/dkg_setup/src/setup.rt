@@ -17,7 +17,7 @@ ghost use Rattle.dkg_store.specs.Called.{ErrorIsDue};
 ghost use Rattle.dkg_store.specs.Corrupt.{AreFit};
 ghost use Rattle.dkg_types.specs.Schemes.{scheme_of};
 ghost use Rattle.dkg_infos.specs.Validation.{validation};
-ghost use Rattle.dkg_infos.specs.declared.entry.Entry.{Entry as Line};
+ghost use Rattle.dkg_infos.specs.declared.entry.Entry.{Entry};
 ghost use Rattle.dkg_infos.specs.declared.fault.Fault.TheVariants.{HeightRange, NoMemory as OutOfMemory};
 ghost use Rattle.dkg_core.specs.Agreeing.{AreAgreed};
 ghost use Rattle.dkg_core.specs.Courses.{bind};
@@ -163,12 +163,12 @@ pub fn secrets_of<C: Ceremony, Dir: Directory + Drop, D: Disk, X: SecretStore>(
     ensures disk { devices.new.disk.now ≡ devices.old.disk.now }
     ensures same { X.held devices.new.secrets.now ≡ X.held devices.old.secrets.now }
     ensures acts { IsTrue D.tells → IsTrue X.tells → (c : Fixed Dir) → c.me ≡ me → c.word ≡ life.old.word
-        → SharesBy C.share_public_of C.partial_public_of c.rules → ReadsPlanless c → (out : List Line)
+        → SharesBy C.share_public_of C.partial_public_of c.rules → ReadsPlanless c → (out : List Entry)
         → Makes D.files D.image X.held (reads_secrets c info.now) (ends (λ it. (it.share, it.seed)) result) devices.old devices.new out out }
     // Whatever the devices tell, these are what some stored shares and seeds come to; and where nothing is read, nothing is said.
     ensures read { IfOk result (λ it. (h : Held) × ((c : Fixed Dir) → c.me ≡ me → c.word ≡ life.old.word
         → SharesBy C.share_public_of C.partial_public_of c.rules → GivesBoth c info.now it.share it.seed h)) }
-    ensures unread { IfErr result (λ stop. (c : Fixed Dir) (out : List Line) → Tells (reads_secrets c info.now) (by_stop stop) out out) }
+    ensures unread { IfErr result (λ stop. (c : Fixed Dir) (out : List Entry) → Tells (reads_secrets c info.now) (by_stop stop) out out) }
     ensures moved { Moved D.tells D.made X.made D.faults X.faults devices.old devices.new }
     ensures causes { IfErr result (λ stop. IsOutside stop × IsCaused stop ⊥ (Rose (X.faults devices.old.secrets.now) (X.faults devices.new.secrets.now))
         (Reached devices.old.fuse devices.new.fuse)) }
@@ -190,10 +190,10 @@ pub fn secrets_with<Dir: Directory + Drop, D: Disk, X: SecretStore>(
     ensures disk { devices.new.disk.now ≡ devices.old.disk.now }
     ensures same { X.held devices.new.secrets.now ≡ X.held devices.old.secrets.now }
     ensures share { IfOk result (λ it. it.share ≡ share) }
-    ensures acts { IsTrue D.tells → IsTrue X.tells → (c : Fixed Dir) → c.word ≡ life.old.word → ReadsPlanless c → (out : List Line)
+    ensures acts { IsTrue D.tells → IsTrue X.tells → (c : Fixed Dir) → c.word ≡ life.old.word → ReadsPlanless c → (out : List Entry)
         → Makes D.files D.image X.held (reads_seed c info.now) (ends (λ it. it.seed) result) devices.old devices.new out out }
     ensures read { IfOk result (λ it. (h : Held) × ((c : Fixed Dir) → c.word ≡ life.old.word → GivesSeed c info.now it.seed h)) }
-    ensures unread { IfErr result (λ stop. (c : Fixed Dir) (out : List Line) → Tells (reads_seed c info.now) (by_stop stop) out out) }
+    ensures unread { IfErr result (λ stop. (c : Fixed Dir) (out : List Entry) → Tells (reads_seed c info.now) (by_stop stop) out out) }
     ensures moved { Moved D.tells D.made X.made D.faults X.faults devices.old devices.new }
     ensures causes { IfErr result (λ stop. IsOutside stop × IsCaused stop ⊥ (Rose (X.faults devices.old.secrets.now) (X.faults devices.new.secrets.now))
         (Reached devices.old.fuse devices.new.fuse)) }
@@ -381,10 +381,10 @@ fn prune<Dir: Directory + Drop, D: Disk, X: SecretStore>(
     ensures open { OnOk result (IsTrue D.tells → IsFirm life.new.store.journal (D.files devices.new.disk.now) (D.image devices.new.disk.now)) }
     ensures rest { life.new ≡ record life.old { store = life.new.store } }
     ensures current { OnOk result (life.new.store.current ≡ life.old.store.current) }
-    ensures acts { IsTrue D.tells → IsTrue X.tells → (beside : Beside Dir) (fence : Readiness) (out : List Line)
+    ensures acts { IsTrue D.tells → IsTrue X.tells → (beside : Beside Dir) (fence : Readiness) (out : List Entry)
         → Makes D.files D.image X.held (setup.prunes min (live_of beside fence life.old)) (ends_in (live_of beside fence life.new) result)
         devices.old devices.new out out }
-    ensures tells { (beside : Beside Dir) (fence : Readiness) (out : List Line)
+    ensures tells { (beside : Beside Dir) (fence : Readiness) (out : List Entry)
         → Tells (setup.prunes min (live_of beside fence life.old)) (ends_in (live_of beside fence life.new) result) out out }
     ensures moved { Moved D.tells D.made X.made D.faults X.faults devices.old devices.new }
     ensures causes { IfErr result (λ stop. IsOutside stop × IsCausedBy D.tells stop (Rose (D.faults devices.old.disk.now) (D.faults devices.new.disk.now))

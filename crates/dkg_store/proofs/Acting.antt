@@ -8,7 +8,7 @@ use Rattle.dkg_journal.specs.Operations as of_disk
 use Rattle.dkg_journal.specs.Records.{SectionEntry}
 use Rattle.dkg_journal.specs.declared.call.JournalError.{JournalError}
 use Rattle.dkg_journal.specs.declared.call.JournalError.TheVariants as of_journal
-use Rattle.dkg_infos.specs.declared.entry.Entry.{Entry as Line}
+use Rattle.dkg_infos.specs.declared.entry.Entry.{Entry}
 use Rattle.dkg_journal.specs.Operations.{Appends}
 use Rattle.dkg_secrets.specs.Secrets.{Secrets, Tries, after}
 use Rattle.dkg_store.specs.Acts.{Acts, bind, Cause, EndsBy, Ended, broken, went, Stands, Moment, moment, MadeAt}
@@ -69,7 +69,7 @@ then_broken {S} {T} {acts} next e is {files = files} {files_now = files_now} {im
 abbrev appends : {S : Type 0} → SectionEntry → S → Unit {0} → Acts StoreError S
 appends e end u = appended e end
 
-module _ {S : Type 0} (op : SecretOp) (e : SectionEntry) (end : S) {files : Files} {image : Files → Type 0} {out : List Line} {s now : Secrets} {f g : Burn} where
+module _ {S : Type 0} (op : SecretOp) (e : SectionEntry) (end : S) {files : Files} {image : Files → Type 0} {out : List Entry} {s now : Secrets} {f g : Burn} where
   -- the put was ended within
   pub put_torn : {how : Ended StoreError S} (cause : Cause) → how ≡ broken cause → Tries op s now → g ≡ spent_once f → EndsBy cause f g
       → MadeAt (put_and_appended op e end) how files image files image (moment out s f) (moment out now g)
@@ -87,7 +87,7 @@ module _ {S : Type 0} (op : SecretOp) (e : SectionEntry) (end : S) {files : File
 
 -- AN APPEND ALONE
 
-module _ {S : Type 0} (e : SectionEntry) (end : S) {files files_now : Files} {image next : Files → Type 0} {out : List Line} {s : Secrets} {f g : Burn} where
+module _ {S : Type 0} (e : SectionEntry) (end : S) {files files_now : Files} {image next : Files → Type 0} {out : List Entry} {s : Secrets} {f g : Burn} where
   pub alone_torn : {how : Ended StoreError S} (cause : Cause) → how ≡ broken cause → (Stands files image → of_disk.Tried (of_disk.Appends e) files next f g) → EndsBy cause f g
       → MadeAt (appended e end) how files image files_now next (moment out s f) (moment out s g)
   alone_torn cause is tried ends = disk_torn (Appends e) end cause is tried ends

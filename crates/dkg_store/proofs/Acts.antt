@@ -6,7 +6,7 @@ use Rattle.dkg_journal.specs.Fuse.{spent_once, burned, burnt}
 use Rattle.dkg_journal.specs.Fuse.{Reached}
 use Rattle.dkg_journal.specs.Names.{Files}
 use Rattle.dkg_journal.specs.Operations.{Journaled, journaled}
-use Rattle.dkg_infos.specs.declared.entry.Entry.{Entry as Line}
+use Rattle.dkg_infos.specs.declared.entry.Entry.{Entry}
 use Rattle.dkg_store.specs.Acts.{Acts, Say, Do, Ask, Goes, Stops, bind, World, says, does, IsTorn, Completes, Faults, Breaks, Cause, by_cut, by_disk, by_secrets, by_want, EndsBy, IsBetween, Ended, went, stopped, broken, Runs, IfWent, Stands, Moment, moment, world, held_in, at, MadeAt, RunsRest, Along, Operation, OnDisk, Changes, Held}
 use Rattle.dkg_secrets.specs.Secrets.{Secrets}
 use Rattle.dkg_secrets.proofs.Tried.{nothing_done}
@@ -124,21 +124,21 @@ module _ {F S : Type 0} (files : Files) (image : Files → Type 0) where
     stands = tt;
   })
 
-  pub made_none_said : (acts : Acts F S) {how : Ended F S} {out now : List Line} {s : Secrets} {f : Burn} (cause : Cause) → IsBetween cause → now ≡ out → how ≡ broken cause → MadeAt acts how files image files image (moment out s f) (moment now s f)
-  made_none_said acts {how} {out} {now} {s} {f} cause between same is = subst (λ (l : List Line). MadeAt acts how files image files image (moment out s f) (moment l s f)) (sym same) (made_none acts (moment out s f) cause between is)
+  pub made_none_said : (acts : Acts F S) {how : Ended F S} {out now : List Entry} {s : Secrets} {f : Burn} (cause : Cause) → IsBetween cause → now ≡ out → how ≡ broken cause → MadeAt acts how files image files image (moment out s f) (moment now s f)
+  made_none_said acts {how} {out} {now} {s} {f} cause between same is = subst (λ (l : List Entry). MadeAt acts how files image files image (moment out s f) (moment l s f)) (sym same) (made_none acts (moment out s f) cause between is)
 
-  pub made_none_held : (acts : Acts F S) {how : Ended F S} {out : List Line} {s now : Secrets} {f : Burn} (cause : Cause) → IsBetween cause → now ≡ s → how ≡ broken cause → MadeAt acts how files image files image (moment out s f) (moment out now f)
+  pub made_none_held : (acts : Acts F S) {how : Ended F S} {out : List Entry} {s now : Secrets} {f : Burn} (cause : Cause) → IsBetween cause → now ≡ s → how ≡ broken cause → MadeAt acts how files image files image (moment out s f) (moment out now f)
   made_none_held acts {how} {out} {s} {now} {f} cause between same is = subst (λ (t : Secrets). MadeAt acts how files image files image (moment out s f) (moment out t f)) (sym same) (made_none acts (moment out s f) cause between is)
 
   -- the devices were read
-  pub made_read : (view : Held → S) {end : S} {out : List Line} {s now : Secrets} {f : Burn} → now ≡ s → end ≡ view (held_in files s) → MadeAt {F = F} (Ask (λ h. Goes (view h))) (went end) files image files image (moment out s f) (moment out now f)
+  pub made_read : (view : Held → S) {end : S} {out : List Entry} {s now : Secrets} {f : Burn} → now ≡ s → end ≡ view (held_in files s) → MadeAt {F = F} (Ask (λ h. Goes (view h))) (went end) files image files image (moment out s f) (moment out now f)
   made_read view {end} {out} {s} {now} {f} same is = subst (λ (t : Secrets). MadeAt {F = F} (Ask (λ h. Goes (view h))) (went end) files image files image (moment out s f) (moment out t f)) (sym same) (record {
     made = λ stands c here. (same_place files image (moment out s f) stands c here, is);
     stands = λ stands. stands;
   })
 
   -- acts on secrets alone
-  pub made_of_secrets : {acts : Acts F S} {how : Ended F S} {out : List Line} {s now : Secrets} {f g : Burn} → ((j : Journaled) → Runs acts how (world out j s f) (world out j now g)) → MadeAt acts how files image files image (moment out s f) (moment out now g)
+  pub made_of_secrets : {acts : Acts F S} {how : Ended F S} {out : List Entry} {s now : Secrets} {f g : Burn} → ((j : Journaled) → Runs acts how (world out j s f) (world out j now g)) → MadeAt acts how files image files image (moment out s f) (moment out now g)
   made_of_secrets {acts} {how} {out} {s} {now} {f} {g} runs = record {
     made = λ stands c here. subst (λ (w : World). Runs acts how (at (moment out s f) files) w) (sym (same_place files image (moment out now g) stands c here)) (runs (journaled files));
     stands = stood how;
@@ -149,9 +149,9 @@ module _ {F S : Type 0} (files : Files) (image : Files → Type 0) where
       stood (stopped fault) = tt
       stood (broken cause) = tt
 
-  pub made_say : (line : Line) (end : S) (out now : List Line) (s : Secrets) (f : Burn) → now ≡ out ++ line ∷ [] → MadeAt {F = F} (Say line (Goes end)) (went end) files image files image (moment out s f) (moment now s f)
+  pub made_say : (line : Entry) (end : S) (out now : List Entry) (s : Secrets) (f : Burn) → now ≡ out ++ line ∷ [] → MadeAt {F = F} (Say line (Goes end)) (went end) files image files image (moment out s f) (moment now s f)
   made_say line end out now s f is = record {
-    made = λ stands c here. (same_place files image (moment now s f) stands c here ∙ ap (λ (l : List Line). record { out = l; held = held_in files s; fuse = f }) is, refl);
+    made = λ stands c here. (same_place files image (moment now s f) stands c here ∙ ap (λ (l : List Entry). record { out = l; held = held_in files s; fuse = f }) is, refl);
     stands = λ stands. stands;
   }
 

@@ -9,7 +9,7 @@ use Rattle.dkg_journal.specs.Records.{SectionEntry}
 use Rattle.dkg_journal.specs.declared.opening.JournalEntry.{JournalEntry}
 use Rattle.dkg_journal.specs.Burn.{Burn}
 use Rattle.dkg_journal.specs.Records.{entries}
-use Rattle.dkg_infos.specs.declared.entry.Entry.{Entry as Line}
+use Rattle.dkg_infos.specs.declared.entry.Entry.{Entry}
 use Rattle.dkg_store.specs.Acts.{Cause, by_secrets, by_want, Ended, broken as broken_by, went, moment, held_in, MadeAt}
 use Rattle.dkg_store.specs.Calls.{by_error, given_back, store_reading}
 use Rattle.dkg_store.specs.Corrupt.{AreEvents, IsAlien, IsCorruptAt}
@@ -106,7 +106,7 @@ Given = Pairs × Notes (List ℕ) × Notes RecordedLog
 -- An error: at the first body that is no event, or before it.
 pub read_ends : (limit : ℕ) (files : Files) (alien : Option (Name × ℕ)) (e : StoreError) → IsOfRestoring e → ((name : Name) (place : ℕ) → e ≡ Corrupt name place → IsCorruptAt limit files name place)
     → (AreEvents limit (entries files) → (name : Name) (place : ℕ) → e ≡ Corrupt name place → ⊥) → IsAlien limit files alien
-    → {fs : Files} {image : Files → Type 0} {how : Ended StoreError Given} {out : List Line} {s now : Secrets} {f : Burn} → how ≡ by_error e → now ≡ s → MadeAt (store_reading alien) how fs image fs image (moment out s f) (moment out now f)
+    → {fs : Files} {image : Files → Type 0} {how : Ended StoreError Given} {out : List Entry} {s now : Secrets} {f : Burn} → how ≡ by_error e → now ≡ s → MadeAt (store_reading alien) how fs image fs image (moment out s f) (moment out now f)
 read_ends limit files alien OfSecrets kinds told none is ends same = made_none_held _ _ (store_reading alien) by_secrets tt same ends
 read_ends limit files alien NoMemory kinds told none is ends same = made_none_held _ _ (store_reading alien) by_want tt same ends
 read_ends limit files None (Corrupt name place) kinds told none is ends same = absurd (none is name place refl)
@@ -120,7 +120,7 @@ read_ends limit files alien (StateSyncEpochs info floor) kinds told none is ends
 read_ends limit files alien StateSyncMaterial kinds told none is ends same = absurd kinds
 
 -- .. or all of it
-pub read_all : {alien : Option (Name × ℕ)} → alien ≡ None → {fs : Files} {image : Files → Type 0} {end : Given} {out : List Line} {s now : Secrets} {f : Burn} → now ≡ s → end ≡ given_back (held_in fs s)
+pub read_all : {alien : Option (Name × ℕ)} → alien ≡ None → {fs : Files} {image : Files → Type 0} {end : Given} {out : List Entry} {s now : Secrets} {f : Burn} → now ≡ s → end ≡ given_back (held_in fs s)
     → MadeAt (store_reading alien) (went end) fs image fs image (moment out s f) (moment out now f)
 read_all is {fs} {image} {end} {out} {s} {now} {f} same given =
     subst (λ (a : Option (Name × ℕ)). MadeAt (store_reading a) (went end) fs image fs image (moment out s f) (moment out now f)) (sym is) (made_read fs image given_back same given)

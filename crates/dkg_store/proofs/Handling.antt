@@ -6,7 +6,7 @@ use Rattle.std.specs.FinMap as map
 use Rattle.std.specs.FinMap.{FinMap, get, insert}
 use Rattle.dkg_ceremony.specs.declared.ceremony.DealingError.{DealingError}
 use Rattle.dkg_ceremony.specs.declared.round.RoundParts.{RoundParts as Round}
-use Rattle.dkg_infos.specs.declared.entry.Entry.{Entry as Line}
+use Rattle.dkg_infos.specs.declared.entry.Entry.{Entry}
 use Rattle.dkg_infos.specs.declared.entry.Entry.TheVariants.{Recorded}
 use Rattle.dkg_store.specs.Called.{if_made, made_in}
 use Rattle.dkg_journal.specs.Names.{Files}
@@ -96,7 +96,7 @@ pub went_alone : (ack : List ℕ) (e : DealingError) → ◌≡◌ {A = Result (
 went_alone ack e is = cc
 
 -- the line that is told
-pub told_so : (epoch dealer : ℕ) {public told : List ℕ} (private : ℕ) {out out_too : List Line} → out ≡ out_too → told ≡ public → (out ++ Recorded epoch dealer told private ∷ []) ≡ (out_too ++ Recorded epoch dealer public private ∷ [])
+pub told_so : (epoch dealer : ℕ) {public told : List ℕ} (private : ℕ) {out out_too : List Entry} → out ≡ out_too → told ≡ public → (out ++ Recorded epoch dealer told private ∷ []) ≡ (out_too ++ Recorded epoch dealer public private ∷ [])
 told_so epoch dealer private a b = λ i. a i ++ Recorded epoch dealer (b i) private ∷ []
 
 pub passed_not_refused : (check : Result (Unit {0}) DealingError) (e : DealingError) → check ≡ Ok tt → check ≡ Err e → ⊥
@@ -197,7 +197,7 @@ module _ (ack_of : ℕ → Round → ℕ → List ℕ → List ℕ) (me : ℕ) (
         (one_more ack_of me round (insert pairs (epoch, dealer) pair) epoch dealer pair acks ack (dealt ack_of me round pairs epoch dealer pair acks there is)
         (new ack_of me round pairs epoch dealer pair ack (new_answer (ack_of me round dealer) check pair.0 ack answer))))
 
-module _ {Dir : Type 0} (ack_of : ℕ → Round → ℕ → List ℕ → List ℕ) (check_of : Round → ℕ → ℕ → List ℕ → ℕ → Result (Unit {0}) DealingError) (player now : Player) (old new : Store Dir) (out out_now : List Line) (epoch dealer : ℕ) (public : List ℕ) (private : ℕ)
+module _ {Dir : Type 0} (ack_of : ℕ → Round → ℕ → List ℕ → List ℕ) (check_of : Round → ℕ → ℕ → List ℕ → ℕ → Result (Unit {0}) DealingError) (player now : Player) (old new : Store Dir) (out out_now : List Entry) (epoch dealer : ℕ) (public : List ℕ) (private : ℕ)
     (result : Result (List ℕ) DealingHandleError)
     (its : Handles (handled_in player.acks old.dealings epoch dealer result) result (answer_to (ack_of player.me player.round dealer) (get player.acks dealer) (get old.dealings (epoch, dealer)) (check_of player.round player.me dealer public private) public)
     epoch dealer public private player now old new out out_now)

@@ -6,7 +6,7 @@ use Rattle.dkg_journal.specs.Names.{Files}
 use Rattle.dkg_journal.specs.Operations as of_journal
 use Rattle.dkg_journal.specs.Operations.{Finished, Tried}
 use Rattle.dkg_journal.specs.Operations.{Journaled, journaled}
-use Rattle.dkg_infos.specs.declared.entry.Entry.{Entry as Line}
+use Rattle.dkg_infos.specs.declared.entry.Entry.{Entry}
 use Rattle.dkg_store.specs.Acts.{Acts, Do, Goes, World, world, Runs, Cause, EndsBy, Ended, went, broken, Stands, MadeAt, moment, Held, Operation, OnDisk, Changes}
 use Rattle.dkg_journal.specs.Disk.{Did, Follows, Inside}
 use Rattle.dkg_journal.specs.declared.call.JournalError.{JournalError}
@@ -23,10 +23,10 @@ use Rattle.dkg_secrets.specs.declared.secrets.SecretOp.{SecretOp}
 abbrev pub one : {F S : Type 0} → Operation → S → Acts F S
 one op end = Do op (Goes end)
 
-same_world : {out : List Line} {h k : Held} {f g : Burn} → h ≡ k → f ≡ g → ◌≡◌ {A = World} (record { out = out; held = h; fuse = f }) (record { out = out; held = k; fuse = g })
+same_world : {out : List Entry} {h k : Held} {f g : Burn} → h ≡ k → f ≡ g → ◌≡◌ {A = World} (record { out = out; held = h; fuse = f }) (record { out = out; held = k; fuse = g })
 same_world {out} a b = λ i. record { out = out; held = a i; fuse = b i }
 
-module _ {F S : Type 0} {files files_now : Files} {image next : Files → Type 0} {out : List Line} {s : Secrets} {before now : Burn} (op : of_journal.JournalOperation) (end : S) where
+module _ {F S : Type 0} {files files_now : Files} {image next : Files → Type 0} {out : List Entry} {s : Secrets} {before now : Burn} (op : of_journal.JournalOperation) (end : S) where
   pub disk_torn : {how : Ended F S} (cause : Cause) → how ≡ broken cause → (Stands files image → Tried op files next before now) → EndsBy cause before now
       → MadeAt (one (OnDisk op) end) how files image files_now next (moment out s before) (moment out s now)
   disk_torn cause is tried ends = subst (λ (x : Ended F S). MadeAt (one (OnDisk op) end) x files image files_now next (moment out s before) (moment out s now)) (sym is) (record {
@@ -49,7 +49,7 @@ module _ {F S : Type 0} {files files_now : Files} {image next : Files → Type 0
     stands = λ stands. record { lands = (finished stands).settled; itself = itself };
   })
 
-module _ {F S : Type 0} {files : Files} {image : Files → Type 0} {out : List Line} {s now : Secrets} {before : Burn} (op : SecretOp) (end : S) where
+module _ {F S : Type 0} {files : Files} {image : Files → Type 0} {out : List Entry} {s now : Secrets} {before : Burn} (op : SecretOp) (end : S) where
   pub secret_torn : {how : Ended F S} {fuse : Burn} (cause : Cause) → how ≡ broken cause → Tries op s now → fuse ≡ spent_once before → EndsBy cause before fuse
       → MadeAt (one (Changes op) end) how files image files image (moment out s before) (moment out now fuse)
   secret_torn {how} {fuse} cause is tries once ends = subst (λ (x : Ended F S). MadeAt (one (Changes op) end) x files image files image (moment out s before) (moment out now fuse)) (sym is) (record {
@@ -116,7 +116,7 @@ module _ {T : Type 0} {before now : Burn} where
 
 -- ACTS ON SECRETS ALONE
 
-module _ {F S : Type 0} (out : List Line) (j : Journaled) (s : Secrets) (f : Burn) where
+module _ {F S : Type 0} (out : List Entry) (j : Journaled) (s : Secrets) (f : Burn) where
   -- the first call was ended within
   pub run_first : (op : SecretOp) (acts : Acts F S) (how : Ended F S) (now : Secrets) (g : Burn) (cause : Cause) → how ≡ broken cause → Tries op s now → g ≡ spent_once f → EndsBy cause f g
       → Runs (Do (Changes op) acts) how (world out j s f) (world out j now g)

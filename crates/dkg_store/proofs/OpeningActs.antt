@@ -9,7 +9,7 @@ use Rattle.dkg_journal.specs.Opening.{open_calls}
 use Rattle.dkg_journal.specs.Operations as of_disk
 use Rattle.dkg_journal.specs.declared.disk.Op.TheVariants.{Barrier}
 use Rattle.dkg_journal.specs.declared.opening.JournalEntry.{JournalEntry}
-use Rattle.dkg_infos.specs.declared.entry.Entry.{Entry as Line}
+use Rattle.dkg_infos.specs.declared.entry.Entry.{Entry}
 use Rattle.dkg_values.specs.declared.name.Name.TheVariants.{Segment}
 use Rattle.dkg_values.specs.declared.name.Name.{Name}
 use Rattle.dkg_journal.specs.Operations.{Bars, Opens}
@@ -72,7 +72,7 @@ no_other limit (e ∷ es) all = ap (λ b. cond b (no_event_at limit es) (Some (S
 abbrev openings : Option (Name × ℕ) → ℕ → Unit {0} → Acts StoreError (Unit {0})
 openings torn calls u = opens_then torn calls
 
-module _ (torn : Option (Name × ℕ)) (calls : ℕ) {files files_now : Files} {image next : Files → Type 0} {out : List Line} {s : Secrets} {f g : Burn} where
+module _ (torn : Option (Name × ℕ)) (calls : ℕ) {files files_now : Files} {image next : Files → Type 0} {out : List Entry} {s : Secrets} {f g : Burn} where
   -- the barrier was ended within
   pub bar_torn : {how : Ended StoreError (Unit {0})} (cause : Cause) → how ≡ broken cause → Follows (Inside Barrier) image next → g ≡ spent_once f → EndsBy cause f g
       → MadeAt (opens torn calls) how files image files_now next (moment out s f) (moment out s g)
@@ -84,7 +84,7 @@ module _ (torn : Option (Name × ℕ)) (calls : ℕ) {files files_now : Files} {
   bar_done did once itself then = made_next (openings torn calls) (disk_done Bars tt refl (λ stands. bar_finished once did) itself) then
 
 -- the journal's opening was ended within, or is done
-module _ {files mid files_now : Files} {between next : Files → Type 0} {out : List Line} {s : Secrets} {g h : Burn} (same : mid ≡ files) where
+module _ {files mid files_now : Files} {between next : Files → Type 0} {out : List Entry} {s : Secrets} {g h : Burn} (same : mid ≡ files) where
   pub open_torn : {how : Ended StoreError (Unit {0})} (cause : Cause) → how ≡ broken cause → of_disk.Tried (Opens (length (open_calls mid))) mid next g h → EndsBy cause g h
       → MadeAt (opens_then None (length (open_calls files))) how mid between files_now next (moment out s g) (moment out s h)
   open_torn {how} cause is tried ends =
@@ -98,7 +98,7 @@ module _ {files mid files_now : Files} {between next : Files → Type 0} {out : 
       (disk_done (Opens (length (open_calls mid))) tt is (λ stands. finished) itself)
 
 -- a body that is no event, of an open journal
-pub alien_stops : (alien : Option (Name × ℕ)) (name : Name) (place : ℕ) (files : Files) (image : Files → Type 0) {how : Ended StoreError (Pairs × Notes (List ℕ) × Notes RecordedLog)} {out : List Line} {s now : Secrets} {f : Burn}
+pub alien_stops : (alien : Option (Name × ℕ)) (name : Name) (place : ℕ) (files : Files) (image : Files → Type 0) {how : Ended StoreError (Pairs × Notes (List ℕ) × Notes RecordedLog)} {out : List Entry} {s now : Secrets} {f : Burn}
     → alien ≡ Some (name, place) → how ≡ stopped (Corrupt name place) → now ≡ s → MadeAt (store_reading alien) how files image files image (moment out s f) (moment out now f)
 alien_stops alien name place files image {how} {out} {s} {now} {f} is ends same =
     subst (λ (a : Option (Name × ℕ)). MadeAt (store_reading a) how files image files image (moment out s f) (moment out now f)) (sym is)

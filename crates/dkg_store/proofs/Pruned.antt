@@ -10,7 +10,7 @@ use Rattle.dkg_journal.specs.Disk.{Follows}
 use Rattle.dkg_journal.specs.Operations.{Tried, Finished, Prunes as PrunesJournal}
 use Rattle.dkg_journal.specs.Pruning.{LeavesAbove, MayLeave}
 use Rattle.dkg_journal.specs.Records.{SectionEntry, entries, from_section}
-use Rattle.dkg_infos.specs.declared.entry.Entry.{Entry as Line}
+use Rattle.dkg_infos.specs.declared.entry.Entry.{Entry}
 use Rattle.dkg_values.specs.declared.name.Name.TheVariants.{Plan}
 use Rattle.dkg_store.specs.Acts.{Acts, Changes, Cause, EndsBy, Ended, broken, went, moment, MadeAt, Stands}
 use Rattle.dkg_store.specs.Calls.{pruning}
@@ -193,7 +193,7 @@ one_of_either pairs more image held holds = record { whole = holds.whole; gives 
 abbrev secrets_then : ℕ → Unit {0} → Acts StoreError (Unit {0})
 secrets_then min u = one (Changes (Prune min)) tt
 
-module _ (min : ℕ) {files files_now : Files} {image next : Files → Type 0} {out : List Line} {s : Secrets} {f g : Burn} where
+module _ (min : ℕ) {files files_now : Files} {image next : Files → Type 0} {out : List Entry} {s : Secrets} {f g : Burn} where
   -- the journal's prune was ended within
   pub journal_torn : {how : Ended StoreError (Unit {0})} (cause : Cause) → how ≡ broken cause → (Stands files image → Tried (PrunesJournal min) files next f g) → EndsBy cause f g
       → MadeAt (pruning min) how files image files_now next (moment out s f) (moment out s g)

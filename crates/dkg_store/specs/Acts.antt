@@ -8,7 +8,7 @@ use Rattle.dkg_journal.specs.Records.{SectionEntry}
 use Rattle.dkg_journal.specs.Operations as of_journal
 use Rattle.dkg_journal.specs.Operations.{InPart}
 use Rattle.dkg_journal.specs.Operations.{Journaled, journaled}
-use Rattle.dkg_infos.specs.declared.entry.Entry.{Entry as Line}
+use Rattle.dkg_infos.specs.declared.entry.Entry.{Entry}
 use Rattle.dkg_secrets.specs.Secrets.{Secrets, Tries}
 use Rattle.dkg_secrets.specs.Secrets as of_secrets
 use Rattle.dkg_secrets.specs.declared.secrets.SecretOp.{SecretOp}
@@ -54,7 +54,7 @@ IsTorn (OnDisk op) h new = (new.secrets ≡ h.secrets) × IsDiskLeft op h.journa
 IsTorn (Changes op) h new = (new.journaled ≡ h.journaled) × Tries op h.secrets new.secrets
 
 pub data Acts (F S : Type 0) : Type 0 where
-  Say : Line → Acts F S → Acts F S
+  Say : Entry → Acts F S → Acts F S
   Do : Operation → Acts F S → Acts F S
   -- the devices are read, which changes nothing
   Ask : (Held → Acts F S) → Acts F S
@@ -80,17 +80,17 @@ under name (Stops fault) = Stops (name fault)
 
 -- what is seen of acts: the transcript, what the devices hold, and the calls that were counted
 pub record World : Type 0 where
-  pub out : List Line
+  pub out : List Entry
   pub held : Held
   pub fuse : Burn
 
-abbrev pub says : World → Line → World
+abbrev pub says : World → Entry → World
 says w line = record w { out = w.out ++ line ∷ [] }
 
 abbrev pub does : World → Operation → World
 does w op = record w { held = held_after op w.held; fuse = burnt (device_calls op w.held) w.fuse }
 
-abbrev pub world : List Line → Journaled → Secrets → Burn → World
+abbrev pub world : List Entry → Journaled → Secrets → Burn → World
 world out j s fuse = record { out = out; held = record { journaled = j; secrets = s }; fuse = fuse }
 
 -- What ends acts from outside: the cut of a call, the failure of a device, or want of memory.
@@ -171,11 +171,11 @@ pub record Stands (files : Files) (image : Files → Type 0) : Type 0 where
 
 -- the transcript, the secrets and the calls that were counted, at one moment
 pub record Moment : Type 0 where
-  pub out : List Line
+  pub out : List Entry
   pub secrets : Secrets
   pub fuse : Burn
 
-abbrev pub moment : List Line → Secrets → Burn → Moment
+abbrev pub moment : List Entry → Secrets → Burn → Moment
 moment out s fuse = record { out = out; secrets = s; fuse = fuse }
 
 abbrev pub at : Moment → Files → World
@@ -200,6 +200,6 @@ Along P (Goes end) w = P w
 Along P (Stops fault) w = P w
 
 -- The same of devices: the transcript was `out`, and is `now`.
-abbrev pub MadeOn : {D X F S : Type 0} → (D → Files) → (D → Files → Type 0) → (X → Secrets) → Acts F S → Ended F S → Devices D X → Devices D X → (out now : List Line) → Type 0
+abbrev pub MadeOn : {D X F S : Type 0} → (D → Files) → (D → Files → Type 0) → (X → Secrets) → Acts F S → Ended F S → Devices D X → Devices D X → (out now : List Entry) → Type 0
 MadeOn files image held acts ended old new out now =
     MadeAt acts ended (files old.disk.now) (image old.disk.now) (files new.disk.now) (image new.disk.now) (moment out (held old.secrets.now) old.fuse) (moment now (held new.secrets.now) new.fuse)

@@ -9,7 +9,7 @@ use Rattle.dkg_ceremony.specs.declared.dealer_log.DealerLog.{DealerLog}
 use Rattle.dkg_ceremony.specs.declared.round.RoundParts.{RoundParts as Round}
 use Rattle.dkg_ceremony.specs.declared.ceremony.DealingError.{DealingError}
 use Rattle.dkg_journal.specs.Names.{Files}
-use Rattle.dkg_infos.specs.declared.entry.Entry.{Entry as Line}
+use Rattle.dkg_infos.specs.declared.entry.Entry.{Entry}
 use Rattle.dkg_infos.specs.declared.entry.Entry.TheVariants.{Recorded}
 use Rattle.dkg_store.specs.Called.{ErrorIsDue, if_made, made_in}
 use Rattle.dkg_store.specs.Pairs.{Pairs, HoldsDealings, HoldsEither}
@@ -71,7 +71,7 @@ with_answer acks dealer (Err error) = acks
 
 -- What a recorded dealing leaves in memory: it is kept with its acknowledgement, recorded and told; or nothing of it, where the call was stopped.
 pub record KeepsDealing {Dir : Type 0} (ends : Option Bool) (epoch dealer : ℕ) (public told : List ℕ) (private : ℕ) (ack : List ℕ)
-    (kept kept_now : FinMap nat_cmp (List ℕ)) (halves halves_now : FinMap nat_cmp (List ℕ × ℕ)) (old new : Store Dir) (out out_now : List Line) : Type 0 where
+    (kept kept_now : FinMap nat_cmp (List ℕ)) (halves halves_now : FinMap nat_cmp (List ℕ × ℕ)) (old new : Store Dir) (out out_now : List Entry) : Type 0 where
   pub acks : kept_now ≡ if_made ends (insert kept dealer ack) kept
   pub dealings : halves_now ≡ if_made ends (with_first halves dealer (public, private)) halves
   pub pairs : new.dealings ≡ if_made ends (insert old.dealings (epoch, dealer) (public, private)) old.dealings
@@ -81,7 +81,7 @@ pub record KeepsDealing {Dir : Type 0} (ends : Option Bool) (epoch dealer : ℕ)
 
 -- What the handling of a dealing leaves in memory: its answer is kept, and just a new dealing is kept, recorded and told.
 pub record Handles {Dir : Type 0} (ends : Option Bool) (result : Result (List ℕ) DealingHandleError) (answer : Result (List ℕ) DealingError)
-    (epoch dealer : ℕ) (public : List ℕ) (private : ℕ) (player now : Player) (old new : Store Dir) (out out_now : List Line) : Type 0 where
+    (epoch dealer : ℕ) (public : List ℕ) (private : ℕ) (player now : Player) (old new : Store Dir) (out out_now : List Entry) : Type 0 where
   pub answers : AnswersDealing result answer
   pub me : now.me ≡ player.me
   pub round : now.round ≡ player.round

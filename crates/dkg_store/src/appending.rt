@@ -2,7 +2,7 @@
 ghost use Rattle.std.specs.Prelude.{◌≡◌, ◌⊎◌, ◌<◌, ◌^◌, ⊤, List, length, OnOk, IfErr, IsTrue, None, true};
 ghost use Rattle.std.specs.Prelude.{map as map_list};
 ghost use Rattle.std.specs.FinMap as map;
-ghost use Rattle.dkg_infos.specs.declared.entry.Entry.{Entry as Line};
+ghost use Rattle.dkg_infos.specs.declared.entry.Entry.{Entry};
 ghost use Rattle.dkg_journal.specs.Disk.{Follows, Lands, Rose};
 ghost use Rattle.dkg_journal.specs.Fuse.{Reached};
 ghost use Rattle.dkg_journal.specs.Journals.{IsOpen, append_calls};
@@ -45,7 +45,7 @@ pub(crate) fn append_event<V: Drop, D: Disk, X: SecretStore>(
         (D.files devices.old.disk.now) (D.files devices.new.disk.now) (D.image devices.old.disk.now) (D.image devices.new.disk.now) }
     ensures secrets { devices.new.secrets.now ≡ devices.old.secrets.now }
     // The append: all of it at Ok, and at any other exit a part, whatever image is left.
-    ensures acts { IsTrue D.tells → (out : List Line) → MadeOn D.files D.image X.held
+    ensures acts { IsTrue D.tells → (out : List Entry) → MadeOn D.files D.image X.held
         (appended (epoch, body.now) tt)
         (ended result) devices.old devices.new out out }
     ensures called { Called ⊤ D.made X.made D.faults X.faults (made_in true result)

@@ -23,7 +23,7 @@ ghost use Rattle.dkg_store.specs.Noted.{acks_in, logs_in};
 ghost use Rattle.dkg_store.specs.Recorded.{at_epoch};
 ghost use Rattle.dkg_store.specs.declared.dealer.AckHandleError.TheVariants.{Store as OfStore};
 ghost use Rattle.dkg_store.specs.declared.event.Event.TheVariants as events;
-ghost use Rattle.dkg_infos.specs.declared.entry.Entry.{Entry as Line};
+ghost use Rattle.dkg_infos.specs.declared.entry.Entry.{Entry};
 
 use crate::call::StoreError;
 use crate::devices::Devices;
@@ -212,7 +212,7 @@ impl Dealer {
             (D.files devices.old.disk.now) (D.files devices.new.disk.now) (D.image devices.old.disk.now) (D.image devices.new.disk.now) }
         ensures secrets { devices.new.secrets.now ≡ devices.old.secrets.now }
         // The check, and then the append: all of it at Ok, and at any other exit a part, whatever image is left.
-        ensures acts { IsTrue D.tells → (out : List Line) → MadeOn D.files D.image X.held
+        ensures acts { IsTrue D.tells → (out : List Entry) → MadeOn D.files D.image X.held
             (acking (C.check_ack_of self.old.round self.old.me self.old.public player ack) (is_some (map.get self.old.acks player))
             (map.contains_key store.old.acks (epoch, player)) (epoch, event_spelling (events.Ack player ack)))
             (acked result) devices.old devices.new out out }

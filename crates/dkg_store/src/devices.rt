@@ -1,7 +1,7 @@
 //! Both devices of a step, and the calls that change them, in one order.
 ghost use Rattle.std.specs.Prelude.{◌≡◌, ⊤, [], List, OnOk, IfErr, IsTrue, true};
 ghost use Rattle.std.specs.FinMap.{keys};
-ghost use Rattle.dkg_infos.specs.declared.entry.Entry.{Entry as Line};
+ghost use Rattle.dkg_infos.specs.declared.entry.Entry.{Entry};
 ghost use Rattle.dkg_journal.specs.Disk.{Follows, IsUnchanged, Rose};
 ghost use Rattle.dkg_journal.specs.Fuse.{Reached};
 ghost use Rattle.dkg_journal.specs.Journals.{IsOpen};
@@ -54,7 +54,7 @@ pub fn put_and_append<D: Disk, X: SecretStore>(
         section body.now
         (D.files devices.old.disk.now) (D.files devices.new.disk.now) (D.image devices.old.disk.now) (D.image devices.new.disk.now) }
     // The put, and then the append: both at Ok, and at any other exit a part, whatever image is left.
-    ensures acts { IsTrue D.tells → IsTrue X.tells → (out : List Line) → MadeOn D.files D.image X.held
+    ensures acts { IsTrue D.tells → IsTrue X.tells → (out : List Entry) → MadeOn D.files D.image X.held
         (put_and_appended put.now (section, body.now) tt)
         (ended result) devices.old devices.new out out }
     ensures called { Called ⊤ D.made X.made D.faults X.faults (made_in true result)
@@ -90,7 +90,7 @@ pub(crate) fn prune_devices<D: Disk, X: SecretStore>(
     ensures shrinks { IsTrue D.tells → Shrinks min (made_in true result)
         (D.files devices.old.disk.now) (D.files devices.new.disk.now) (D.image devices.old.disk.now) (D.image devices.new.disk.now) }
     // The journal, and then the secrets: both at Ok, and at any other exit a part, whatever image is left.
-    ensures acts { IsTrue D.tells → IsTrue X.tells → (out : List Line) → MadeOn D.files D.image X.held
+    ensures acts { IsTrue D.tells → IsTrue X.tells → (out : List Entry) → MadeOn D.files D.image X.held
         (pruning min)
         (ended result) devices.old devices.new out out }
     ensures called { Called (IsTrue D.tells) D.made X.made D.faults X.faults (made_in true result)

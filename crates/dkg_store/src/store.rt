@@ -12,7 +12,7 @@ ghost use Rattle.dkg_ceremony.specs.Finishes.{has_public};
 ghost use Rattle.dkg_values.specs.Rising.{keys_of, lookup};
 ghost use Rattle.dkg_values.specs.declared.name.Name.{Name};
 ghost use Rattle.dkg_values.specs.declared.name.Name.TheVariants.{Segment};
-ghost use Rattle.dkg_infos.specs.declared.entry.Entry.{Entry as Line};
+ghost use Rattle.dkg_infos.specs.declared.entry.Entry.{Entry};
 ghost use Rattle.dkg_journal.specs.Names.{Files};
 ghost use Rattle.dkg_journal.specs.Records.{SectionEntry, entries};
 ghost use Rattle.dkg_journal.specs.Gated.{OpensAlike, gated, gated_entries};
@@ -119,7 +119,7 @@ fn open_journal<D: Disk>(
     // What it read is what the files stand for, and after it a crash leaves no other entries.
     ensures opens { IfOk result (λ journal. IsTrue D.tells → OpensOver journal (D.files disk.old) (D.files disk.new) (D.image disk.new)) }
     ensures keeps { IsTrue D.tells → KeepsAll (D.image disk.old) (D.image disk.new) }
-    ensures acts { IsTrue D.tells → broken (D.files disk.old) ≡ None → (out : List Line) (s : Secrets)
+    ensures acts { IsTrue D.tells → broken (D.files disk.old) ≡ None → (out : List Entry) (s : Secrets)
         → MadeAt (opens None (length (open_calls (D.files disk.old)))) (opened result) (D.files disk.old) (D.image disk.old)
         (D.files disk.new) (D.image disk.new) (moment out s fuse.old) (moment out s fuse.new) }
     // Another opening finds the same, at Ok and at Corrupt.
@@ -366,7 +366,7 @@ fn put_both<X: SecretStore>(
     share: Option<Share>,
 ) -> Result<(), StoreError>
     ensures done { OnOk result (IsTrue X.tells → X.held secrets.new ≡ committed epoch seed share (X.held secrets.old)) }
-    ensures acts { IsTrue X.tells → (out : List Line) (j : Journaled) → Runs (committing epoch seed share) (ended result)
+    ensures acts { IsTrue X.tells → (out : List Entry) (j : Journaled) → Runs (committing epoch seed share) (ended result)
         (world out j (X.held secrets.old) fuse.old) (world out j (X.held secrets.new) fuse.new) }
     ensures privates { (X.held secrets.new).privates ≡ (X.held secrets.old).privates }
     ensures due { IfErr result (λ e. ErrorIsDue e ⊥ (Rose (X.faults secrets.old) (X.faults secrets.new)) (Reached fuse.old fuse.new)
@@ -412,7 +412,7 @@ fn record_dealing<D: Disk, X: SecretStore>(
     ensures extends { IsTrue D.tells → Extends (made_in true result)
         epoch (event_spelling (events.Dealing dealer public))
         (D.files devices.old.disk.now) (D.files devices.new.disk.now) (D.image devices.old.disk.now) (D.image devices.new.disk.now) }
-    ensures acts { IsTrue D.tells → IsTrue X.tells → (out : List Line) → MadeOn D.files D.image X.held
+    ensures acts { IsTrue D.tells → IsTrue X.tells → (out : List Entry) → MadeOn D.files D.image X.held
         (put_and_appended (SecretOp.PutDealing epoch dealer private) (epoch, event_spelling (events.Dealing dealer public)) tt)
         (ended result) devices.old devices.new out out }
     ensures called { Called ⊤ D.made X.made D.faults X.faults (made_in true result)
@@ -472,7 +472,7 @@ impl<Dir: Drop> Store<Dir> {
         // The barrier, the journal's opening, and what is read then, or the first body that is no event: all at Ok and at Corrupt, and at any
         // other exit a part, whatever image is left.
         ensures acts { IsTrue D.tells → IsTrue X.tells → broken (D.files devices.old.disk.now) ≡ None
-            → (alien : Option (Name × ℕ)) → IsAlien (non_zero_u32_get limit) (D.files devices.old.disk.now) alien → (out : List Line)
+            → (alien : Option (Name × ℕ)) → IsAlien (non_zero_u32_get limit) (D.files devices.old.disk.now) alien → (out : List Entry)
             → MadeOn D.files D.image X.held (store_opening None (length (open_calls (D.files devices.old.disk.now))) alien)
             (ended_as (λ store. (store.dealings, store.acks, store.logs)) result) devices.old devices.new out out }
         // Where there is a record that is not whole, or, where all are, a first body that is no event within the limit, the answer is Corrupt at its
@@ -664,7 +664,7 @@ impl<Dir: Drop> Store<Dir> {
         ensures same { X.held devices.new.secrets.now ≡ X.held devices.old.secrets.now }
         ensures disk { devices.new.disk.now ≡ devices.old.disk.now }
         ensures fuse { devices.new.fuse ≡ devices.old.fuse }
-        ensures acts { IsTrue D.tells → IsTrue X.tells → (out : List Line) → MadeOn D.files D.image X.held
+        ensures acts { IsTrue D.tells → IsTrue X.tells → (out : List Entry) → MadeOn D.files D.image X.held
             (sharing epoch)
             (ended result) devices.old devices.new out out }
         ensures called { Called ⊤ D.made X.made D.faults X.faults (made_in false result)
@@ -691,7 +691,7 @@ impl<Dir: Drop> Store<Dir> {
         ensures same { X.held devices.new.secrets.now ≡ X.held devices.old.secrets.now }
         ensures disk { devices.new.disk.now ≡ devices.old.disk.now }
         ensures fuse { devices.new.fuse ≡ devices.old.fuse }
-        ensures acts { IsTrue D.tells → IsTrue X.tells → (out : List Line) → MadeOn D.files D.image X.held
+        ensures acts { IsTrue D.tells → IsTrue X.tells → (out : List Entry) → MadeOn D.files D.image X.held
             (sharing_below epoch)
             (ended result) devices.old devices.new out out }
         ensures called { Called ⊤ D.made X.made D.faults X.faults (made_in false result)
@@ -718,7 +718,7 @@ impl<Dir: Drop> Store<Dir> {
         ensures same { X.held devices.new.secrets.now ≡ X.held devices.old.secrets.now }
         ensures disk { devices.new.disk.now ≡ devices.old.disk.now }
         ensures fuse { devices.new.fuse ≡ devices.old.fuse }
-        ensures acts { IsTrue D.tells → IsTrue X.tells → (out : List Line) → MadeOn D.files D.image X.held
+        ensures acts { IsTrue D.tells → IsTrue X.tells → (out : List Entry) → MadeOn D.files D.image X.held
             (seeding epoch)
             (ended result) devices.old devices.new out out }
         ensures called { Called ⊤ D.made X.made D.faults X.faults (made_in false result)
@@ -749,7 +749,7 @@ impl<Dir: Drop> Store<Dir> {
         ensures holds { (pairs : Pairs) → HoldsDealings pairs (D.image devices.old.disk.now) (X.held devices.old.secrets.now)
             → HoldsDealings pairs (D.image devices.new.disk.now) (X.held devices.new.secrets.now) }
         // The share, if there is one, and then the seed: both at Ok, and at any other exit a part.
-        ensures acts { IsTrue D.tells → IsTrue X.tells → (out : List Line) → MadeOn D.files D.image X.held
+        ensures acts { IsTrue D.tells → IsTrue X.tells → (out : List Entry) → MadeOn D.files D.image X.held
             (committing info.epoch seed share)
             (ended result) devices.old devices.new out out }
         ensures called { Called ⊤ D.made X.made D.faults X.faults (made_in true result)
@@ -794,7 +794,7 @@ impl<Dir: Drop> Store<Dir> {
         ensures shrinks { IsTrue D.tells → Shrinks min (made_in true result)
             (D.files devices.old.disk.now) (D.files devices.new.disk.now) (D.image devices.old.disk.now) (D.image devices.new.disk.now) }
         // The journal, and then the secrets: both at Ok, and at any other exit a part, whatever image is left.
-        ensures acts { IsTrue D.tells → IsTrue X.tells → (out : List Line) → MadeOn D.files D.image X.held
+        ensures acts { IsTrue D.tells → IsTrue X.tells → (out : List Entry) → MadeOn D.files D.image X.held
             (pruning min)
             (ended result) devices.old devices.new out out }
         ensures called { Called (IsTrue D.tells) D.made X.made D.faults X.faults (made_in true result)
@@ -843,7 +843,7 @@ impl<Dir: Drop> Store<Dir> {
             epoch (event_spelling (events.Dealing dealer public))
             (D.files devices.old.disk.now) (D.files devices.new.disk.now) (D.image devices.old.disk.now) (D.image devices.new.disk.now) }
         // The put, and then the append, where it was not recorded: both at Ok, and at any other exit a part, whatever image is left.
-        ensures acts { IsTrue D.tells → IsTrue X.tells → (out : List Line) → MadeOn D.files D.image X.held
+        ensures acts { IsTrue D.tells → IsTrue X.tells → (out : List Entry) → MadeOn D.files D.image X.held
             (recording (map.contains_key self.old.dealings (epoch, dealer)) epoch dealer public private)
             (ended result) devices.old devices.new out out }
         ensures called { Called ⊤ D.made X.made D.faults X.faults (result_ok result)
@@ -900,7 +900,7 @@ impl<Dir: Drop> Store<Dir> {
             (D.files devices.old.disk.now) (D.files devices.new.disk.now) (D.image devices.old.disk.now) (D.image devices.new.disk.now) }
         ensures secrets { devices.new.secrets.now ≡ devices.old.secrets.now }
         // The append, where it was not recorded: all of it at Ok, and at any other exit a part, whatever image is left.
-        ensures acts { IsTrue D.tells → (out : List Line) → MadeOn D.files D.image X.held
+        ensures acts { IsTrue D.tells → (out : List Entry) → MadeOn D.files D.image X.held
             (noting (map.contains_key self.old.acks (epoch, player)) (epoch, event_spelling (events.Ack player ack)))
             (ended result) devices.old devices.new out out }
         ensures called { Called ⊤ D.made X.made D.faults X.faults (result_ok result)
@@ -958,7 +958,7 @@ impl<Dir: Drop> Store<Dir> {
             (D.files devices.old.disk.now) (D.files devices.new.disk.now) (D.image devices.old.disk.now) (D.image devices.new.disk.now) }
         ensures secrets { devices.new.secrets.now ≡ devices.old.secrets.now }
         // The append, where it was not recorded: all of it at Ok, and at any other exit a part, whatever image is left.
-        ensures acts { IsTrue D.tells → (out : List Line) → MadeOn D.files D.image X.held
+        ensures acts { IsTrue D.tells → (out : List Entry) → MadeOn D.files D.image X.held
             (noting (map.contains_key self.old.logs (epoch, dealer)) (epoch, event_spelling (events.LogAt dealer height log)))
             (ended result) devices.old devices.new out out }
         ensures called { Called ⊤ D.made X.made D.faults X.faults (result_ok result)

@@ -1,7 +1,7 @@
 //! Four calls of a store in a row, with an early return in between: their acts are made as those of one call.
 ghost use Rattle.std.specs.Prelude.{◌≡◌, ◌<◌, ◌+◌, ◌^◌, List, length, OnOk, IsTrue};
 ghost use Rattle.std.specs.FinMap as map;
-ghost use Rattle.dkg_infos.specs.declared.entry.Entry.{Entry as Line};
+ghost use Rattle.dkg_infos.specs.declared.entry.Entry.{Entry};
 ghost use Rattle.dkg_journal.specs.Journals.{IsOpen};
 ghost use Rattle.dkg_store.specs.Acts.{MadeOn, Goes, bind};
 ghost use Rattle.dkg_store.specs.Calls.{ended, recording, noting, pruning};
@@ -32,7 +32,7 @@ fn noted_and_pruned<D: Disk, X: SecretStore, Dir: Drop>(
 ) -> Result<bool, StoreError>
     requires open { IsTrue D.tells → IsOpen store.old.journal (D.files devices.old.disk.now) (D.image devices.old.disk.now) }
     ensures open { OnOk result (IsTrue D.tells → IsOpen store.new.journal (D.files devices.new.disk.now) (D.image devices.new.disk.now)) }
-    ensures acts { IsTrue D.tells → IsTrue X.tells → (out : List Line) → MadeOn D.files D.image X.held
+    ensures acts { IsTrue D.tells → IsTrue X.tells → (out : List Entry) → MadeOn D.files D.image X.held
         (bind (noting (map.contains_key store.old.acks (epoch, dealer)) (epoch, event_spelling (events.Ack dealer ack))) (λ noted. bind (pruning epoch) (λ gone. Goes new)))
         (ended result) devices.old devices.new out out }
     ensures same_disk { devices.new.disk.ghost_name ≡ devices.old.disk.ghost_name }
@@ -59,7 +59,7 @@ fn taken<D: Disk, X: SecretStore, Dir: Drop>(
     requires open { IsTrue D.tells → IsOpen store.old.journal (D.files devices.old.disk.now) (D.image devices.old.disk.now) }
     ensures open { OnOk result (IsTrue D.tells → IsOpen store.new.journal (D.files devices.new.disk.now) (D.image devices.new.disk.now)) }
     // One after another, as far as it came, whatever image is left.
-    ensures acts { IsTrue D.tells → IsTrue X.tells → (out : List Line) → MadeOn D.files D.image X.held
+    ensures acts { IsTrue D.tells → IsTrue X.tells → (out : List Entry) → MadeOn D.files D.image X.held
         (taking (recording (map.contains_key store.old.dealings (epoch, dealer)) epoch dealer public private)
         (map.contains_key store.old.acks (epoch, dealer)) (epoch, event_spelling (events.Ack dealer ack)) epoch)
         (ended result) devices.old devices.new out out }

@@ -5,7 +5,7 @@ use Rattle.std.specs.Option.{option_map_or}
 use Rattle.dkg_ceremony.specs.declared.output.Output.{Output}
 use Rattle.dkg_infos.specs.InfoCodes.{peers_of}
 use Rattle.dkg_infos.specs.NextInfos.{Provided, info_by, info_with}
-use Rattle.dkg_infos.specs.declared.entry.Entry.{Entry as Line}
+use Rattle.dkg_infos.specs.declared.entry.Entry.{Entry}
 use Rattle.dkg_infos.specs.declared.fault.Fault.{Fault}
 use Rattle.dkg_infos.specs.declared.fault.Fault.TheVariants.{HeightRange, InvalidParticipants}
 use Rattle.dkg_infos.specs.declared.fault.ParticipantsCause.TheVariants.{ProviderEmpty, ProviderAbove}
@@ -90,7 +90,7 @@ own_unprovided participants limit epoch = by_test (nat_le (2 ^ 64) (epoch + 2)) 
     by_test false false false = tt
 
 module _ {Dir S : Type 0} (acts : Course Dir Fault S) where
-  pub fault_speaks : (o : Option Fault) (stop : Stop) → IsFaultOrWant o stop → IfSome o (λ its. cause_in its ≡ None) → (out : List Line) → Speaks (stops_by o acts) (by_stop stop) out out
+  pub fault_speaks : (o : Option Fault) (stop : Stop) → IsFaultOrWant o stop → IfSome o (λ its. cause_in its ≡ None) → (out : List Entry) → Speaks (stops_by o acts) (by_stop stop) out out
   fault_speaks None stop want own out = wants_speaks acts stop want out out refl
   fault_speaks (Some its) stop (inl want) own out = let stops : Course Dir Fault S = Stops its in wants_speaks stops stop want out out refl
   fault_speaks (Some its) stop (inr ends) own out = let stops : Course Dir Fault S = Stops its in gives_speaks stops stop its ends refl own out

@@ -3,7 +3,7 @@ use Rattle.std.proofs.Common.{◌≡◌, ℕ, List, Option, Some, None, sym, sub
 use Rattle.dkg_ceremony.specs.Outcomes.{LogMap}
 use Rattle.dkg_fence.specs.Readiness.{Readiness}
 use Rattle.dkg_journal.specs.Names.{Files}
-use Rattle.dkg_infos.specs.declared.entry.Entry.{Entry as Line}
+use Rattle.dkg_infos.specs.declared.entry.Entry.{Entry}
 use Rattle.dkg_artifact.specs.declared.artifact.Artifact as artifact
 use Rattle.dkg_secrets.specs.Secrets.{Secrets}
 use Rattle.dkg_store.specs.Acts.{went}
@@ -30,7 +30,7 @@ module _ {C Dir Signer Cfg : Type 0} (c : Fixed Dir) (reshare : c.oneshot ≡ No
     abbrev KeptAt : Life Dir → Type 0
     KeptAt l = IsSeen new_its (including.retains c r (live_of answered_beside fence l)).inclusion
 
-    module _ {D X : Type 0} (files : D → Files) (image : D → Files → Type 0) (held : X → Secrets) (old new : Devices D X) (out now : List Line) where
+    module _ {D X : Type 0} (files : D → Files) (image : D → Files → Type 0) (held : X → Secrets) (old new : Devices D X) (out now : List Entry) where
       pub ended_makes : KeptAt now_life
           → Makes files image held (including.artifact c r (live_of beside fence life) (including.answers_request c request)) (went (telling request (caching cache (live_of beside fence life)))) old new out now
           → EndsWith beside (λ i. IsSeen new_its i) NoMore (λ b. Makes files image held (including.completes c r (live_of beside fence life)) (went (live_of b fence now_life)) old new out now)
@@ -38,7 +38,7 @@ module _ {C Dir Signer Cfg : Type 0} (c : Fixed Dir) (reshare : c.oneshot ≡ No
           subst (λ (l : Life Dir). KeptAt l → EndsWith beside (λ i. IsSeen new_its i) NoMore (λ b. Makes files image held (including.completes c r (live_of beside fence life)) (went (live_of b fence l)) old new out now))
           (sym same) (λ is. completed_makes c reshare r beside fence life request waits cache files image held old new out now is made) kept
 
-    pub ended_told : (out now : List Line) → KeptAt now_life
+    pub ended_told : (out now : List Entry) → KeptAt now_life
         → Tells (including.artifact c r (live_of beside fence life) (including.answers_request c request)) (went (telling request (caching cache (live_of beside fence life)))) out now
         → EndsWith beside (λ i. IsSeen new_its i) NoMore (λ b. Tells (including.completes c r (live_of beside fence life)) (went (live_of b fence now_life)) out now)
     ended_told out now kept told =

@@ -11,7 +11,7 @@ use Rattle.dkg_ceremony.specs.Schedule.{midpoint}
 use Rattle.dkg_fence.specs.Readiness.{Readiness}
 use Rattle.dkg_journal.specs.Names.{Files}
 use Rattle.dkg_types.specs.PayloadCodes.{info_payload}
-use Rattle.dkg_infos.specs.declared.entry.Entry.{Entry as Line}
+use Rattle.dkg_infos.specs.declared.entry.Entry.{Entry}
 use Rattle.dkg_infos.specs.declared.fault.Fault.{Fault}
 use Rattle.dkg_infos.specs.declared.fault.Fault.TheVariants.{LocalState, NoMemory}
 use Rattle.dkg_infos.specs.declared.fault.LocalCause.TheVariants.{StoredDealing}
@@ -84,7 +84,7 @@ module _ {Dir : Type 0} (c : Fixed Dir) (round : Round) (logs : LogMap) (request
     }
 
     pub started : job_of j ≡ including.job_for c round logs (live_of beside fence life) → refusal_for c round logs (live_of beside fence life) ≡ None
-        → EndsWith beside (λ i. IsSeen (record its { verification = v; waiter = Some request }) i) NoMore (λ now. (out : List Line) → Speaks starting (went (live_of now fence life)) out out)
+        → EndsWith beside (λ i. IsSeen (record its { verification = v; waiter = Some request }) i) NoMore (λ now. (out : List Entry) → Speaks starting (went (live_of now fence life)) out out)
     started is passes =
         ends_with beside running_now seen_started refl
         (λ out. goes_speaks starting (live_of (record beside { inclusion = running_now }) fence life)
@@ -93,7 +93,7 @@ module _ {Dir : Type 0} (c : Fixed Dir) (round : Round) (logs : LogMap) (request
 
   pub unstarted : {IsNow : core.Inclusion Dir → Type 0} (stop : Stop)
       → (stop ≡ Faulted NoMemory) ⊎ ((dealer : ℕ) × (stop ≡ Faulted (LocalState (StoredDealing round.number dealer))) × (refusal_for c round logs (live_of beside fence life) ≡ Some dealer))
-      → IsNow beside.inclusion → EndsWith beside IsNow NoMore (λ now. (out : List Line) → Speaks starting (by_stop stop) out out)
+      → IsNow beside.inclusion → EndsWith beside IsNow NoMore (λ now. (out : List Entry) → Speaks starting (by_stop stop) out out)
   unstarted stop (inl none) is = ends_beside beside is refl (λ out. wants_speaks starting stop none out out refl)
   unstarted stop (inr a) is =
       ends_beside beside is refl (λ out. gives_speaks starting stop (LocalState (StoredDealing round.number a.0)) a.1 (starts_as (Some a.0) a.2) refl out)
@@ -114,10 +114,10 @@ module _ {Dir : Type 0} (c : Fixed Dir) (reshare : c.oneshot ≡ None) (r : core
   answers_kept = artifact_kept c reshare r st (including.answers_request c request)
 
   module _ {D X : Type 0} (files : D → Files) (image : D → Files → Type 0) (held : X → Secrets) (old new : Devices D X) where
-    pub unkept_makes : (stop : Stop) (out now : List Line) → Makes files image held keeping (by_stop stop) old new out now → Makes files image held answering (by_stop stop) old new out now
+    pub unkept_makes : (stop : Stop) (out now : List Entry) → Makes files image held keeping (by_stop stop) old new out now → Makes files image held answering (by_stop stop) old new out now
     unkept_makes stop out now made = same_made answers_kept (early_makes keeping behind stop made)
 
-  pub unkept_told : (stop : Stop) {out now : List Line} → Tells keeping (by_stop stop) out now → Tells answering (by_stop stop) out now
+  pub unkept_told : (stop : Stop) {out now : List Entry} → Tells keeping (by_stop stop) out now → Tells answering (by_stop stop) out now
   unkept_told stop told = same_told answers_kept (early_told keeping behind stop told)
 
   module _ (cache : Option (LogMap × artifact.Artifact Dir)) (k : LogMap × artifact.Artifact Dir) (is : cache ≡ Some k) (of : k.0 ≡ r.logs) where
@@ -136,24 +136,24 @@ module _ {Dir : Type 0} (c : Fixed Dir) (reshare : c.oneshot ≡ None) (r : core
     telling_is =
         ap (λ (q : Option (LogMap × artifact.Artifact Dir)). with_told request (GaveInfo (option_and_then (λ d. option_map info_payload d.artifact.info) (option_map cached_of q))) kept_st) is
 
-    abbrev said_of : Live Dir → Result (Unit {0}) Stop → List Line → List Line → Type 0
+    abbrev said_of : Live Dir → Result (Unit {0}) Stop → List Entry → List Entry → Type 0
     said_of end result out now = Speaks (including.answers_request c request (artifact_of k.1) kept_st) (ends_in end result) out now
 
-    says_behind : (result : Result (Unit {0}) Stop) (out now : List Line) → said_of (with_told request (GaveInfo (option_map info_payload k.1.info)) kept_st) result out now
+    says_behind : (result : Result (Unit {0}) Stop) (out now : List Entry) → said_of (with_told request (GaveInfo (option_map info_payload k.1.info)) kept_st) result out now
         → Speaks (behind kept_st) (ends_in (telling request kept_st) result) out now
     says_behind result out now says =
         subst (λ (x : Course Dir Fault (Live Dir)). Speaks x (ends_in (telling request kept_st) result) out now) (sym behind_is)
         (subst (λ (end : Live Dir). said_of end result out now) (sym telling_is) says)
 
     module _ {D X : Type 0} (files : D → Files) (image : D → Files → Type 0) (held : X → Secrets) (old new : Devices D X) where
-      pub answered_makes : (result : Result (Unit {0}) Stop) (out mid now : List Line) → Makes files image held keeping (went kept_st) old new out mid
+      pub answered_makes : (result : Result (Unit {0}) Stop) (out mid now : List Entry) → Makes files image held keeping (went kept_st) old new out mid
           → Speaks (including.answers_request c request (artifact_of k.1) kept_st) (ends_in (with_told request (GaveInfo (option_map info_payload k.1.info)) kept_st) result) mid now
           → Makes files image held answering (ends_in (telling request kept_st) result) old new out now
       answered_makes result out mid now made says =
           let how = ends_in (telling request kept_st) result in
           same_made answers_kept (then_makes keeping behind kept_st how made (speaks_makes (behind kept_st) how (files new.disk.now) (image new.disk.now) (says_behind result mid now says)))
 
-    pub answered_told : (result : Result (Unit {0}) Stop) (out mid now : List Line) → Tells keeping (went kept_st) out mid
+    pub answered_told : (result : Result (Unit {0}) Stop) (out mid now : List Entry) → Tells keeping (went kept_st) out mid
         → Speaks (including.answers_request c request (artifact_of k.1) kept_st) (ends_in (with_told request (GaveInfo (option_map info_payload k.1.info)) kept_st) result) mid now
         → Tells answering (ends_in (telling request kept_st) result) out now
     answered_told result out mid now told says =
@@ -286,7 +286,7 @@ module _ {Dir : Type 0} (c : Fixed Dir) (reshare : c.oneshot ≡ None) (r : core
     alone : completing ≡ Goes (including.retains c r st)
     alone = ap (λ (w : Option ℕ). including.completes_in c r st w) nobody
 
-    pub alone_speaks : {IsNow : core.Inclusion Dir → Type 0} → IsNow (including.retains c r st).inclusion → (out : List Line)
+    pub alone_speaks : {IsNow : core.Inclusion Dir → Type 0} → IsNow (including.retains c r st).inclusion → (out : List Entry)
         → EndsWith beside IsNow NoMore (λ now. Speaks completing (went (live_of now fence life)) out out)
     alone_speaks is out =
         ends_with beside (including.retains c r st).inclusion is refl (goes_speaks completing (including.retains c r st) (including.retains c r st) alone refl out)
@@ -306,7 +306,7 @@ module _ {Dir : Type 0} (c : Fixed Dir) (reshare : c.oneshot ≡ None) (r : core
       abbrev ended : core.Inclusion Dir
       ended = (including.retains c r answered).inclusion
 
-      module _ {D X : Type 0} (files : D → Files) (image : D → Files → Type 0) (held : X → Secrets) (old new : Devices D X) (out now : List Line) {IsNow : core.Inclusion Dir → Type 0} where
+      module _ {D X : Type 0} (files : D → Files) (image : D → Files → Type 0) (held : X → Secrets) (old new : Devices D X) (out now : List Entry) {IsNow : core.Inclusion Dir → Type 0} where
         pub completed_makes : IsNow ended → Makes files image held answers (went answered) old new out now
             → EndsWith beside IsNow NoMore (λ b. Makes files image held completing (went (live_of b fence life)) old new out now)
         completed_makes is made =
@@ -323,17 +323,17 @@ module _ {Dir : Type 0} (c : Fixed Dir) (reshare : c.oneshot ≡ None) (r : core
             → EndsWith beside IsNow NoMore (λ b. Makes files image held completing (by_stop stop) old new out now)
         unanswered_makes stop now_is made = ends_beside beside now_is refl (same_made for_request (early_makes answers keeps stop made))
 
-      pub completed_told : {IsNow : core.Inclusion Dir → Type 0} (out now : List Line) → IsNow ended → Tells answers (went answered) out now → EndsWith beside IsNow NoMore (λ b. Tells completing (went (live_of b fence life)) out now)
+      pub completed_told : {IsNow : core.Inclusion Dir → Type 0} (out now : List Entry) → IsNow ended → Tells answers (went answered) out now → EndsWith beside IsNow NoMore (λ b. Tells completing (went (live_of b fence life)) out now)
       completed_told out now is told =
           ends_with beside ended is refl (same_told for_request (then_told answers keeps answered (went (including.retains c r answered)) told (goes_told Dir (including.retains c r answered) now)))
 
-      pub forgotten_told : {IsNow : core.Inclusion Dir → Type 0} (stop : Stop) → stop ≡ Faulted NoMemory → (out now : List Line) → IsNow beside.inclusion → Tells answers (went answered) out now
+      pub forgotten_told : {IsNow : core.Inclusion Dir → Type 0} (stop : Stop) → stop ≡ Faulted NoMemory → (out now : List Entry) → IsNow beside.inclusion → Tells answers (went answered) out now
           → EndsWith beside IsNow NoMore (λ b. Tells completing (by_stop stop) out now)
       forgotten_told stop is out now now_is told =
           ends_beside beside now_is refl (same_told for_request (then_told answers keeps answered (by_stop stop) told
           (speaks_tells (keeps answered) (by_stop stop) (wants_speaks (keeps answered) stop is now now refl))))
 
-      pub unanswered_told : {IsNow : core.Inclusion Dir → Type 0} (stop : Stop) (out now : List Line) → IsNow beside.inclusion → Tells answers (by_stop stop) out now → EndsWith beside IsNow NoMore (λ b. Tells completing (by_stop stop) out now)
+      pub unanswered_told : {IsNow : core.Inclusion Dir → Type 0} (stop : Stop) (out now : List Entry) → IsNow beside.inclusion → Tells answers (by_stop stop) out now → EndsWith beside IsNow NoMore (λ b. Tells completing (by_stop stop) out now)
       unanswered_told stop out now now_is told = ends_beside beside now_is refl (same_told for_request (early_told answers keeps stop told))
 
 -- THE RUNNING ONE

@@ -12,7 +12,7 @@ use Rattle.dkg_ceremony.specs.Outcomes.{LogMap}
 use Rattle.dkg_ceremony.specs.declared.output.Output.{Output}
 use Rattle.dkg_artifact.specs.declared.artifact.Artifact as artifact
 use Rattle.dkg_artifact.specs.declared.verified.Verified as verified
-use Rattle.dkg_infos.specs.declared.entry.Entry.{Entry as Line}
+use Rattle.dkg_infos.specs.declared.entry.Entry.{Entry}
 use Rattle.dkg_infos.specs.declared.fault.Fault.{Fault}
 use Rattle.dkg_infos.specs.declared.fault.Fault.TheVariants.{HeightRange, InvalidParticipants, DirectoryMismatch, NoMemory}
 use Rattle.dkg_infos.specs.declared.fault.ParticipantsCause.TheVariants.{ProviderEmpty, ProviderAbove}
@@ -119,7 +119,7 @@ module _ {Dir : Type 0} (c : Fixed Dir) (info : EpochInfo Dir) where
     own_made its is files image m =
         subst (λ (o : Option verified.Verified). MakesAt (on_devices (reads_share c info (option_map verified_of o))) (went its.share) files image files image m m) (sym is) (makes_nothing files image m refl)
 
-    pub own_told : (its : verified.Verified) → found ≡ Some its → (out : List Line) → Tells reads_its (went its.share) out out
+    pub own_told : (its : verified.Verified) → found ≡ Some its → (out : List Entry) → Tells reads_its (went its.share) out out
     own_told its is out =
         subst (λ (o : Option verified.Verified). Tells (reads_share c info (option_map verified_of o)) (went its.share) out out) (sym is) (record { lines = []; added = sym (append-nil out); by = (refl, refl) })
 
@@ -133,7 +133,7 @@ module _ {Dir : Type 0} (c : Fixed Dir) (info : EpochInfo Dir) where
         none_made files image m =
             subst (λ (x : Course Dir Fault (Option ℕ)). MakesAt (on_devices x) (went None) files image files image m m) (sym (as_none ∙ reads_none apart)) (makes_nothing files image m refl)
 
-        pub none_told : (out : List Line) → Tells reads_its (went None) out out
+        pub none_told : (out : List Entry) → Tells reads_its (went None) out out
         none_told out =
             subst (λ (x : Course Dir Fault (Option ℕ)). Tells x (went None) out out) (sym (as_none ∙ reads_none apart)) (record { lines = []; added = sym (append-nil out); by = (refl, refl) })
 
@@ -143,7 +143,7 @@ module _ {Dir : Type 0} (c : Fixed Dir) (info : EpochInfo Dir) where
         as_looked = as_none ∙ reads_holder holds
 
         pub share_made : {D : Type 0} (files : D → Files) (image : D → Files → Type 0) (share : Option ℕ)
-            → {old new : D} {out : List Line} {s t : Secrets} {f g : Burn} → new ≡ old → t ≡ s → g ≡ f → share ≡ get s.shares info.epoch
+            → {old new : D} {out : List Entry} {s t : Secrets} {f g : Burn} → new ≡ old → t ≡ s → g ≡ f → share ≡ get s.shares info.epoch
             → MakesAt (on_devices reads_its) (went share) (files old) (image old) (files new) (image new) (moment out s f) (moment out t g)
         share_made files image share {old} {new} {out} {s} {t} {f} {g} same kept still is =
             let h = held_in (files old) s in
@@ -152,7 +152,7 @@ module _ {Dir : Type 0} (c : Fixed Dir) (info : EpochInfo Dir) where
             (still_makes files image (on_devices looking) (went share) same still (made_read (files old) (image old) share_in kept one))
 
         -- whatever is told: one such share is held somewhere
-        pub share_told : (share : Option ℕ) (out : List Line) → Tells reads_its (went share) out out
+        pub share_told : (share : Option ℕ) (out : List Entry) → Tells reads_its (went share) out out
         share_told share out =
             let h : Held = record { journaled = nothing_held.journaled; secrets = record { shares = one_at info.epoch share; seeds = maps.empty; privates = maps.empty } } in
             let one : share ≡ share_in h = sym (one_is info.epoch share) ∙ sym (looked_up info.epoch (one_at info.epoch share)) ∙ sym (ap (λ (seen : Held → Seen). lookup info.epoch (seen h).shares) planless) in
@@ -190,10 +190,10 @@ module _ {Dir : Type 0} (c : Fixed Dir) (info : EpochInfo Dir) (r : VerifiedLogs
 
   -- without a set nothing is read
   module _ (stop : Stop) (refused : IsFaultOrWant (unprovided c.provided.participants c.limit info.epoch) stop) (own : IfSome (unprovided c.provided.participants c.limit info.epoch) (λ its. cause_in its ≡ None)) where
-    pub unprovided_made : (files : Files) (image : Files → Type 0) {out : List Line} {s : Secrets} {f : Burn} → MakesAt (on_devices (derives_in c info r)) (by_stop stop) files image files image (moment out s f) (moment out s f)
+    pub unprovided_made : (files : Files) (image : Files → Type 0) {out : List Entry} {s : Secrets} {f : Burn} → MakesAt (on_devices (derives_in c info r)) (by_stop stop) files image files image (moment out s f) (moment out s f)
     unprovided_made files image {out} = speaks_makes (derives_in c info r) (by_stop stop) files image (fault_speaks (bind reads goes_on) (unprovided c.provided.participants c.limit info.epoch) stop refused own out)
 
-    pub unprovided_told : (out : List Line) → Tells (derives_in c info r) (by_stop stop) out out
+    pub unprovided_told : (out : List Entry) → Tells (derives_in c info r) (by_stop stop) out out
     unprovided_told out = speaks_tells (derives_in c info r) (by_stop stop) (fault_speaks (bind reads goes_on) (unprovided c.provided.participants c.limit info.epoch) stop refused own out)
 
   module _ (is_one : unprovided c.provided.participants c.limit info.epoch ≡ None) where
@@ -206,12 +206,12 @@ module _ {Dir : Type 0} (c : Fixed Dir) (info : EpochInfo Dir) (r : VerifiedLogs
     unread_made stop {files} {files_now} {image} {now} {old} {new} first =
         subst (λ (x : Course Dir Fault (Artifact Dir)). MakesAt (on_devices x) (by_stop stop) files image files_now now old new) (sym as_read) (early_makes reads goes_on stop first)
 
-    pub unread_told : (stop : Stop) {out now : List Line} → Tells reads (by_stop stop) out now → Tells (derives_in c info r) (by_stop stop) out now
+    pub unread_told : (stop : Stop) {out now : List Entry} → Tells reads (by_stop stop) out now → Tells (derives_in c info r) (by_stop stop) out now
     unread_told stop {out} {now} first = subst (λ (x : Course Dir Fault (Artifact Dir)). Tells x (by_stop stop) out now) (sym as_read) (early_told reads goes_on stop first)
 
     -- the directory is of other peers, or there was no memory for the info
     module _ (share : Option ℕ) (stop : Stop) (refused : IsFaultOrWant (mismatch_of c its_info) stop) where
-      pub mismatch_made : {files files_now : Files} {image now : Files → Type 0} {old : Moment} {out : List Line} {s : Secrets} {f : Burn}
+      pub mismatch_made : {files files_now : Files} {image now : Files → Type 0} {old : Moment} {out : List Entry} {s : Secrets} {f : Burn}
           → MakesAt (on_devices reads) (went share) files image files_now now old (moment out s f)
           → MakesAt (on_devices (derives_in c info r)) (by_stop stop) files image files_now now old (moment out s f)
       mismatch_made {files} {files_now} {image} {now} {old} {out} {s} {f} first =
@@ -219,7 +219,7 @@ module _ {Dir : Type 0} (c : Fixed Dir) (info : EpochInfo Dir) (r : VerifiedLogs
           (then_makes reads goes_on share (by_stop stop) first
           (speaks_makes (goes_on share) (by_stop stop) files_now now (fault_speaks (Goes (with_share share)) (mismatch_of c its_info) stop refused own_mismatch out)))
 
-      pub mismatch_told : {out now : List Line} → Tells reads (went share) out now → Tells (derives_in c info r) (by_stop stop) out now
+      pub mismatch_told : {out now : List Entry} → Tells reads (went share) out now → Tells (derives_in c info r) (by_stop stop) out now
       mismatch_told {out} {now} first =
           subst (λ (x : Course Dir Fault (Artifact Dir)). Tells x (by_stop stop) out now) (sym as_read)
           (then_told reads goes_on share (by_stop stop) first
@@ -237,7 +237,7 @@ module _ {Dir : Type 0} (c : Fixed Dir) (info : EpochInfo Dir) (r : VerifiedLogs
           (then_makes reads goes_on share (went end) first
           (subst (λ (x : Course Dir Fault (Artifact Dir)). MakesAt (on_devices x) (went end) files_now now files_now now new new) (sym as_done) (makes_nothing files_now now new is)))
 
-      pub derived_told : {out now : List Line} → Tells reads (went share) out now → Tells (derives_in c info r) (went end) out now
+      pub derived_told : {out now : List Entry} → Tells reads (went share) out now → Tells (derives_in c info r) (went end) out now
       derived_told {out} {now} first =
           subst (λ (x : Course Dir Fault (Artifact Dir)). Tells x (went end) out now) (sym as_read)
           (then_told reads goes_on share (went end) first
@@ -269,7 +269,7 @@ module _ {Dir : Type 0} (c : Fixed Dir) (info its : EpochInfo Dir) (r read : Ver
       subst (λ (x : EpochInfo Dir). MakesAt (on_devices (derives_in c x r)) how files image files_now now old new) same
       (subst (λ (x : VerifiedLogs). MakesAt (on_devices (derives_in c its x)) how files image files_now now old new) as_read made)
 
-  pub for_info_told : {out now : List Line} → Tells (derives_in c its read) how out now → Tells (derives_in c info r) how out now
+  pub for_info_told : {out now : List Entry} → Tells (derives_in c its read) how out now → Tells (derives_in c info r) how out now
   for_info_told {out} {now} told =
       subst (λ (x : EpochInfo Dir). Tells (derives_in c x r) how out now) same (subst (λ (x : VerifiedLogs). Tells (derives_in c its x) how out now) as_read told)
 
@@ -282,10 +282,10 @@ has_one (Some a) some = (a, refl)
 
 -- There was no memory, before anything was done.
 module _ {Dir S : Type 0} (course : Course Dir Fault S) where
-  pub want_made : (files : Files) (image : Files → Type 0) {out : List Line} {s : Secrets} {f : Burn} → MakesAt (on_devices course) (by_stop (Faulted NoMemory)) files image files image (moment out s f) (moment out s f)
+  pub want_made : (files : Files) (image : Files → Type 0) {out : List Entry} {s : Secrets} {f : Burn} → MakesAt (on_devices course) (by_stop (Faulted NoMemory)) files image files image (moment out s f) (moment out s f)
   want_made files image {out} = speaks_makes course (by_stop (Faulted NoMemory)) files image (want_speaks course out)
 
-  pub want_told : (out : List Line) → Tells course (by_stop (Faulted NoMemory)) out out
+  pub want_told : (out : List Entry) → Tells course (by_stop (Faulted NoMemory)) out out
   want_told out = speaks_tells course (by_stop (Faulted NoMemory)) (want_speaks course out)
 
 -- WHICH ONE IS KEPT
@@ -312,7 +312,7 @@ module _ {Dir : Type 0} (c : Fixed Dir) (r : VerifiedLogs) (st : Live Dir) (cach
     kept_made files image m =
         subst (λ (x : Course Dir Fault (Live Dir)). MakesAt (on_devices x) (went (caching cache st)) files image files image m m) (sym as_kept) (makes_nothing files image m still_caching)
 
-    pub kept_told : (out : List Line) → Tells keeps (went (caching cache st)) out out
+    pub kept_told : (out : List Entry) → Tells keeps (went (caching cache st)) out out
     kept_told out = subst (λ (x : Course Dir Fault (Live Dir)). Tells x (went (caching cache st)) out out) (sym as_kept) (record { lines = []; added = sym (append-nil out); by = (refl, still_caching) })
 
   module _ (reshare : c.oneshot ≡ None) (info : EpochInfo Dir) (current : st.participation.current ≡ Some info) (apart : IsSomeAnd cache (λ k. k.0 ≡ r.logs) → ⊥) where
@@ -329,17 +329,17 @@ module _ {Dir : Type 0} (c : Fixed Dir) (r : VerifiedLogs) (st : Live Dir) (cach
     underived_made stop {files} {files_now} {image} {now} {old} {new} first =
         subst (λ (x : Course Dir Fault (Live Dir)). MakesAt (on_devices x) (by_stop stop) files image files_now now old new) (sym as_derived) (early_makes (derives_in c info r) keeps_it stop first)
 
-    pub underived_told : (stop : Stop) {out now : List Line} → Tells (derives_in c info r) (by_stop stop) out now → Tells keeps (by_stop stop) out now
+    pub underived_told : (stop : Stop) {out now : List Entry} → Tells (derives_in c info r) (by_stop stop) out now → Tells keeps (by_stop stop) out now
     underived_told stop {out} {now} first = subst (λ (x : Course Dir Fault (Live Dir)). Tells x (by_stop stop) out now) (sym as_derived) (early_told (derives_in c info r) keeps_it stop first)
 
     -- it was, and there was no memory for its logs
-    pub unkept_made : (made : Artifact Dir) (stop : Stop) → stop ≡ Faulted NoMemory → {files files_now : Files} {image now : Files → Type 0} {old : Moment} {out : List Line} {s : Secrets} {f : Burn}
+    pub unkept_made : (made : Artifact Dir) (stop : Stop) → stop ≡ Faulted NoMemory → {files files_now : Files} {image now : Files → Type 0} {old : Moment} {out : List Entry} {s : Secrets} {f : Burn}
         → MakesAt (on_devices (derives_in c info r)) (went made) files image files_now now old (moment out s f) → MakesAt (on_devices keeps) (by_stop stop) files image files_now now old (moment out s f)
     unkept_made made stop want {files} {files_now} {image} {now} {old} {out} {s} {f} first =
         subst (λ (x : Course Dir Fault (Live Dir)). MakesAt (on_devices x) (by_stop stop) files image files_now now old (moment out s f)) (sym as_derived)
         (then_makes (derives_in c info r) keeps_it made (by_stop stop) first (speaks_makes (keeps_it made) (by_stop stop) files_now now (wants_speaks (keeps_it made) stop want out out refl)))
 
-    pub unkept_told : (made : Artifact Dir) (stop : Stop) → stop ≡ Faulted NoMemory → {out now : List Line} → Tells (derives_in c info r) (went made) out now → Tells keeps (by_stop stop) out now
+    pub unkept_told : (made : Artifact Dir) (stop : Stop) → stop ≡ Faulted NoMemory → {out now : List Entry} → Tells (derives_in c info r) (went made) out now → Tells keeps (by_stop stop) out now
     unkept_told made stop want {out} {now} first =
         subst (λ (x : Course Dir Fault (Live Dir)). Tells x (by_stop stop) out now) (sym as_derived)
         (then_told (derives_in c info r) keeps_it made (by_stop stop) first (speaks_tells (keeps_it made) (by_stop stop) (wants_speaks (keeps_it made) stop want now now refl)))
@@ -351,7 +351,7 @@ module _ {Dir : Type 0} (c : Fixed Dir) (r : VerifiedLogs) (st : Live Dir) (cach
         subst (λ (x : Course Dir Fault (Live Dir)). MakesAt (on_devices x) (went end) files image files_now now old new) (sym as_derived)
         (then_makes (derives_in c info r) keeps_it made (went end) first (makes_nothing files_now now new is))
 
-    pub newly_told : (made : Artifact Dir) (end : Live Dir) → end ≡ including.with_cached r.logs made st → {out now : List Line} → Tells (derives_in c info r) (went made) out now → Tells keeps (went end) out now
+    pub newly_told : (made : Artifact Dir) (end : Live Dir) → end ≡ including.with_cached r.logs made st → {out now : List Entry} → Tells (derives_in c info r) (went made) out now → Tells keeps (went end) out now
     newly_told made end is {out} {now} first =
         subst (λ (x : Course Dir Fault (Live Dir)). Tells x (went end) out now) (sym as_derived)
         (then_told (derives_in c info r) keeps_it made (went end) first (record { lines = []; added = sym (append-nil now); by = (refl, is) }))

@@ -14,7 +14,7 @@ use Rattle.dkg_ceremony.specs.declared.signed_log.SignedDealerLog.{SignedDealerL
 use Rattle.dkg_artifact.specs.declared.artifact.Artifact as artifact
 use Rattle.dkg_fence.specs.Readiness.{Readiness}
 use Rattle.dkg_types.specs.PayloadCodes.{log_payload, payload_spelling}
-use Rattle.dkg_infos.specs.declared.entry.Entry.{Entry as Line}
+use Rattle.dkg_infos.specs.declared.entry.Entry.{Entry}
 use Rattle.dkg_infos.specs.declared.entry.Entry.TheVariants.{Log}
 use Rattle.dkg_infos.specs.declared.fault.Fault.{Fault}
 use Rattle.dkg_infos.specs.declared.fault.Fault.TheVariants.{NoMemory}
@@ -148,12 +148,12 @@ module _ {Dir : Type 0} (beside : Beside Dir) {IsNow : core.Inclusion Dir → Ty
 
 -- A LINE, and then no memory
 
-module _ {Dir S : Type 0} (course : Course Dir Fault S) (line : Line) (its : S) (is : course ≡ Say line (Goes its)) where
-  pub said_wants : (stop : Stop) → stop ≡ Faulted NoMemory → (out now : List Line) → now ≡ out ++ line ∷ [] → Speaks course (by_stop stop) out now
+module _ {Dir S : Type 0} (course : Course Dir Fault S) (line : Entry) (its : S) (is : course ≡ Say line (Goes its)) where
+  pub said_wants : (stop : Stop) → stop ≡ Faulted NoMemory → (out now : List Entry) → now ≡ out ++ line ∷ [] → Speaks course (by_stop stop) out now
   said_wants stop ends out now told =
       subst (λ (s : Stop). Speaks course (by_stop {S = S} s) out now) (sym ends)
       (subst (λ (x : Course Dir Fault S). Speaks x (broken by_want) out now) (sym is)
-      (subst (λ (l : List Line). Speaks {Dir = Dir} {F = Fault} (Say line (Goes its)) (broken by_want) out l) (sym told)
+      (subst (λ (l : List Entry). Speaks {Dir = Dir} {F = Fault} (Say line (Goes its)) (broken by_want) out l) (sym told)
       (λ h f. inr (breaks_none {F = Fault} by_want tt (acts_of.Goes its) (record { out = out ++ line ∷ []; held = h; fuse = f })))))
 
 -- THE OWN LOG IS SERVED
@@ -176,7 +176,7 @@ module _ {C Dir Signer Cfg : Type 0} (c : Fixed Dir) (spelling : Dir → List �
     abbrev given : Option SignedDealerLog → core.Inclusion Dir
     given o = record st.inclusion { served = served_by o st.inclusion.served; used = request ∷ st.inclusion.used; told = (request, core.GaveLog (payload_in o)) ∷ st.inclusion.told }
 
-    abbrev line_of : Option SignedDealerLog → Line
+    abbrev line_of : Option SignedDealerLog → Entry
     line_of o = Log request (option_map (payload_spelling spelling) (payload_in o))
 
     lines_alike : (o : Option SignedDealerLog) → line_of o ≡ Log request (option_map (λ log. including.payload_bytes c (log_payload log)) o)
@@ -185,14 +185,14 @@ module _ {C Dir Signer Cfg : Type 0} (c : Fixed Dir) (spelling : Dir → List �
 
     gives_as : (o : Option SignedDealerLog) → including.gives_log c request height o (core.with_used request st) ≡ Say (line_of o) (Goes (record st { inclusion = given o }))
     gives_as None = refl
-    gives_as (Some log) = ap (λ (line : Line). let its : Course Dir Fault (Live Dir) = Say line (Goes (record st { inclusion = given (Some log) })) in its) (sym (lines_alike (Some log)))
+    gives_as (Some log) = ap (λ (line : Entry). let its : Course Dir Fault (Live Dir) = Say line (Goes (record st { inclusion = given (Some log) })) in its) (sym (lines_alike (Some log)))
 
     seen_given : (o : Option SignedDealerLog) → IsSeen (record its { served = served_by o its.served; told = insert its.told request (told.Log (payload_in o)) }) (given o)
     seen_given o =
         subst (λ (s : Option ℕ). IsSeen (record its { served = served_by o its.served; told = insert its.told request (told.Log (payload_in o)) }) (record (given o) { served = s })) (ap (λ (s : Option ℕ). served_by o s) (sym seen.served))
         (seen_made its beside.inclusion request (told.Log (payload_in o)) (core.GaveLog (payload_in o)) refl seen (served_by o its.served))
 
-    module _ (payload : Option (Payload Dir)) (offers : payload ≡ option_map log_payload (including.served_now st)) (line : Option (List ℕ)) (spelled : line ≡ option_map (payload_spelling spelling) payload) (out now : List Line)
+    module _ (payload : Option (Payload Dir)) (offers : payload ≡ option_map log_payload (including.served_now st)) (line : Option (List ℕ)) (spelled : line ≡ option_map (payload_spelling spelling) payload) (out now : List Entry)
         (said : now ≡ out ++ Log request line ∷ [])
       where
         abbrev o : Option SignedDealerLog
@@ -212,7 +212,7 @@ module _ {C Dir Signer Cfg : Type 0} (c : Fixed Dir) (spelling : Dir → List �
         unserved_speaks stop ends = said_wants serving (line_of o) (record st { inclusion = given o }) (gives_as o) stop ends out now said_it
 
     -- no memory before the line
-    pub unspoken : (stop : Stop) → stop ≡ Faulted NoMemory → (out now : List Line) → now ≡ out → Speaks serving (by_stop stop) out now
+    pub unspoken : (stop : Stop) → stop ≡ Faulted NoMemory → (out now : List Entry) → now ≡ out → Speaks serving (by_stop stop) out now
     unspoken stop ends out now same = wants_speaks serving stop ends out now same
 
 -- .. AND TAKEN BACK

@@ -5,7 +5,7 @@ ghost use Rattle.std.specs.Prelude.{◌≡◌, ◌⊎◌, ◌+◌, ◌++◌, ◌
 ghost use Rattle.std.specs.Int.NonZero.{non_zero_u32_get};
 ghost use Rattle.dkg_values.specs.Rising.{set_of};
 ghost use Rattle.dkg_infos.specs.InfoCodes.{peers_of as peers_from};
-ghost use Rattle.dkg_infos.specs.declared.entry.Entry.{Entry as Line};
+ghost use Rattle.dkg_infos.specs.declared.entry.Entry.{Entry};
 ghost use Rattle.dkg_infos.specs.declared.fault.Fault.TheVariants.{DirectoryMismatch, NoMemory as OutOfMemory};
 ghost use Rattle.dkg_core.specs.Courses.{Goes};
 ghost use Rattle.dkg_core.specs.Fixed.{Fixed};
@@ -97,10 +97,10 @@ fn share_by<Dir: Directory + Drop, D: Disk, X: SecretStore>(
     ensures store { store.new ≡ store.old }
     ensures disk { devices.new.disk.now ≡ devices.old.disk.now }
     ensures held { X.held devices.new.secrets.now ≡ X.held devices.old.secrets.now }
-    ensures acts { IsTrue D.tells → IsTrue X.tells → (c : Fixed Dir) → c.me ≡ me → ReadsPlanless c → (out : List Line)
+    ensures acts { IsTrue D.tells → IsTrue X.tells → (c : Fixed Dir) → c.me ≡ me → ReadsPlanless c → (out : List Entry)
         → Makes D.files D.image X.held (reads_share c info.now (option_map verified_of found.now)) (ends (λ share. share) result)
         devices.old devices.new out out }
-    ensures tells { (c : Fixed Dir) → c.me ≡ me → ReadsPlanless c → (out : List Line)
+    ensures tells { (c : Fixed Dir) → c.me ≡ me → ReadsPlanless c → (out : List Entry)
         → Tells (reads_share c info.now (option_map verified_of found.now)) (ends (λ share. share) result) out out }
     ensures moved { Moved D.tells D.made X.made D.faults X.faults devices.old devices.new }
     ensures causes { StopsOver D.faults X.faults devices.old devices.new result }
@@ -198,11 +198,11 @@ fn derive<
         → IsOf terms.now c
         → ReadsPlanless c
         → IncludesBy C.check_log_of C.outcome_of C.finish_of (P.participants_of provider.old) (P.directory_of provider.old) Dir.spelling Dir.matches_of c
-        → (out : List Line) → Makes D.files D.image X.held (derives_in c info (checked_result_of verified.now)) (ends artifact_of result)
+        → (out : List Entry) → Makes D.files D.image X.held (derives_in c info (checked_result_of verified.now)) (ends artifact_of result)
         devices.old devices.new out out }
     ensures tells { IsTrue P.tells → (info : EpochInfo Dir) (c : Fixed Dir) → store.old.current ≡ Some info → IsOf terms.now c → ReadsPlanless c
         → IncludesBy C.check_log_of C.outcome_of C.finish_of (P.participants_of provider.old) (P.directory_of provider.old) Dir.spelling Dir.matches_of c
-        → (out : List Line) → Tells (derives_in c info (checked_result_of verified.now)) (ends artifact_of result) out out }
+        → (out : List Entry) → Tells (derives_in c info (checked_result_of verified.now)) (ends artifact_of result) out out }
     ensures moved { Moved D.tells D.made X.made D.faults X.faults devices.old devices.new }
     ensures causes { StopsOver D.faults X.faults devices.old devices.new result }
 {
@@ -242,12 +242,12 @@ pub fn keep_artifact<
     ensures acts { IsTrue D.tells → IsTrue X.tells → IsTrue P.tells → (c : Fixed Dir) (st : Live Dir) → IsOf terms.now c → ReadsPlanless c
         → IncludesBy C.check_log_of C.outcome_of C.finish_of (P.participants_of provider.old) (P.directory_of provider.old) Dir.spelling Dir.matches_of c
         → st.participation.current ≡ store.old.current → st.inclusion.cached ≡ option_map cached_of cache.old
-        → (out : List Line) → EndsCaching cache.new st (λ now. Makes D.files D.image X.held
+        → (out : List Entry) → EndsCaching cache.new st (λ now. Makes D.files D.image X.held
         (including.artifact c (checked_result_of verified.now) st (λ made st. Goes st)) (ends_in now result) devices.old devices.new out out) }
     ensures tells { IsTrue P.tells → (c : Fixed Dir) (st : Live Dir) → IsOf terms.now c → ReadsPlanless c
         → IncludesBy C.check_log_of C.outcome_of C.finish_of (P.participants_of provider.old) (P.directory_of provider.old) Dir.spelling Dir.matches_of c
         → st.participation.current ≡ store.old.current → st.inclusion.cached ≡ option_map cached_of cache.old
-        → (out : List Line) → EndsCaching cache.new st (λ now. Tells
+        → (out : List Entry) → EndsCaching cache.new st (λ now. Tells
         (including.artifact c (checked_result_of verified.now) st (λ made st. Goes st)) (ends_in now result) out out) }
     ensures moved { Moved D.tells D.made X.made D.faults X.faults devices.old devices.new }
     ensures causes { StopsOver D.faults X.faults devices.old devices.new result }

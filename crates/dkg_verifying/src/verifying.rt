@@ -11,7 +11,7 @@ ghost use Rattle.dkg_core.specs.Including as including;
 ghost use Rattle.dkg_ceremony.specs.Schedule.{midpoint};
 ghost use Rattle.dkg_artifact.specs.Results.{IsResultOfJob, checked};
 ghost use Rattle.dkg_types.specs.PayloadCodes.{info_payload};
-ghost use Rattle.dkg_infos.specs.declared.entry.Entry.{Entry as Line};
+ghost use Rattle.dkg_infos.specs.declared.entry.Entry.{Entry};
 ghost use Rattle.dkg_infos.specs.declared.fault.Fault.TheVariants.{LocalState, NoMemory as OutOfMemory};
 ghost use Rattle.dkg_infos.specs.declared.fault.LocalCause.TheVariants.{StoredDealing};
 ghost use Rattle.dkg_core.specs.Live.{Live};
@@ -149,7 +149,7 @@ pub fn start_verifying<C: Ceremony + Drop, Dir: Directory + Drop>(
     ensures speaks { (c : Fixed Dir) (beside : Beside Dir) (fence : Readiness) → c.me ≡ me → c.rules.bears_ack_of ≡ C.bears_ack_of → c.rules.dealing_of
         ≡ C.dealing_of
         → IsSeen inclusion.old beside.inclusion → EndsWith beside (λ i. OnOk result (IsSeen inclusion.new i)) (λ more. more ≡ [])
-        (λ now. (out : List Line) → Speaks (including.starts_verifying c round.now logs (Some request) (live_of beside fence life.now))
+        (λ now. (out : List Entry) → Speaks (including.starts_verifying c round.now logs (Some request) (live_of beside fence life.now))
         (ends_in (live_of now fence life.now) result) out out) }
     ensures causes { IfErr result (λ stop. IsCaused stop ⊥ ⊥ ⊥) }
 {

@@ -1,6 +1,6 @@
 use Rattle.std.proofs.Common.{◌++◌, ◌∷◌, [], List, inl, inr, refl, subst}
 use Rattle.std.proofs.lemmas.Result.{err_from_is_err_and}
-use Rattle.dkg_infos.specs.declared.entry.Entry.{Entry as Line}
+use Rattle.dkg_infos.specs.declared.entry.Entry.{Entry}
 use Rattle.dkg_lives.specs.Lives.{TakesAll}
 use Rattle.dkg_lives.specs.Moving.{world_of}
 use Rattle.dkg_lives.specs.Ways.{by_lines, by_worlds, trace}
@@ -23,11 +23,11 @@ returns-in_err-push-clause-went g c =
 
 pub returns-clause-lines : goal.returns-clause-lines
 returns-clause-lines g c = inr (λ lived st picks over here view at.
-    subst (λ (l : List Line). TakesAll by_lines lived 1 c.args.life.now.events st (trace l picks) c.take_steps.result (trace c.take_steps.new.out.entries picks))
+    subst (λ (l : List Entry). TakesAll by_lines lived 1 c.args.life.now.events st (trace l picks) c.take_steps.result (trace c.take_steps.new.out.entries picks))
     c.in_ok-push.ensures.ok (c.take_steps.ensures.lines lived st picks over here view at))
 
 pub returns-clause-run : goal.returns-clause-run
 returns-clause-run g c = inr (λ disk secrets lived st over here view at files image.
-    subst (λ (l : List Line). TakesAll by_worlds lived 1 c.args.life.now.events st (world_of g.X.SecretStore.held c.args.devices.now l (g.D.Disk.files c.args.devices.now.disk.now))
+    subst (λ (l : List Entry). TakesAll by_worlds lived 1 c.args.life.now.events st (world_of g.X.SecretStore.held c.args.devices.now l (g.D.Disk.files c.args.devices.now.disk.now))
     c.take_steps.result (world_of g.X.SecretStore.held c.take_steps.new.devices c.take_steps.new.out.entries files))
     c.in_ok-push.ensures.ok (c.take_steps.ensures.run disk secrets lived st over here view at files image))

@@ -2,7 +2,7 @@ use Rattle.std.proofs.Common.{◌≡◌, ℕ, List, inl, inr, ⊎_elim, Bool, So
 use Rattle.std.specs.Prelude.{⊤}
 use Rattle.std.specs.FinMap as map
 use Rattle.std.proofs.lemmas.Result.{err_from_is_err_and}
-use Rattle.dkg_infos.specs.declared.entry.Entry.{Entry as Line}
+use Rattle.dkg_infos.specs.declared.entry.Entry.{Entry}
 use Rattle.dkg_store.specs.Acts.{MadeAt, broken, by_want, moment}
 use Rattle.dkg_store.specs.Calls.{accepting, answered, cause_of}
 use Rattle.dkg_store.specs.Errors.{IsOfDevices}
@@ -22,7 +22,7 @@ returns-in_err-ack-clause-acts g c = λ told_disk told_secrets.
 pub returns-in_err-keep_dealing-clause-acts : goal.returns-in_err-keep_dealing-clause-acts
 returns-in_err-keep_dealing-clause-acts g c = λ told_disk told_secrets.
     let p = err_from_is_err_and c.from_residual-in_err-keep_dealing.result c.from_residual-in_err-keep_dealing.ensures.1 in
-    subst (λ (l : List Line). MadeAt (accepting (g.C.Ceremony.dealing_of c.args.self.now.round c.args.self.now.me c.args.dealer c.args.public c.args.private) c.args.epoch c.args.dealer c.args.public c.args.private (g.C.Ceremony.ack_of c.args.self.now.me c.args.self.now.round c.args.dealer c.args.public)) (answered c.from_residual-in_err-keep_dealing.result) (g.D.Disk.files c.args.devices.now.disk.now) (g.D.Disk.image c.args.devices.now.disk.now) (g.D.Disk.files c.keep_dealing.new.devices.disk.now) (g.D.Disk.image c.keep_dealing.new.devices.disk.now) (moment l (g.X.SecretStore.held c.args.devices.now.secrets.now) c.args.devices.now.fuse) (moment c.keep_dealing.new.out.entries (g.X.SecretStore.held c.keep_dealing.new.devices.secrets.now) c.keep_dealing.new.devices.fuse)) c.ready_answer.ensures.same
+    subst (λ (l : List Entry). MadeAt (accepting (g.C.Ceremony.dealing_of c.args.self.now.round c.args.self.now.me c.args.dealer c.args.public c.args.private) c.args.epoch c.args.dealer c.args.public c.args.private (g.C.Ceremony.ack_of c.args.self.now.me c.args.self.now.round c.args.dealer c.args.public)) (answered c.from_residual-in_err-keep_dealing.result) (g.D.Disk.files c.args.devices.now.disk.now) (g.D.Disk.image c.args.devices.now.disk.now) (g.D.Disk.files c.keep_dealing.new.devices.disk.now) (g.D.Disk.image c.keep_dealing.new.devices.disk.now) (moment l (g.X.SecretStore.held c.args.devices.now.secrets.now) c.args.devices.now.fuse) (moment c.keep_dealing.new.out.entries (g.X.SecretStore.held c.keep_dealing.new.devices.secrets.now) c.keep_dealing.new.devices.fuse)) c.ready_answer.ensures.same
     (accepting_broken _ c.args.epoch c.args.dealer c.args.public _ c.args.private _ c.in_err-keep_dealing.field-0.0 (due_of_devices c.in_err-keep_dealing.field-0.0 _ _ _ _ c.in_err-keep_dealing.ensures.due) (sym c.in_default.ensures) c.in_ok-ack.ensures.told
     (answered_broken c.from_residual-in_err-keep_dealing.result p.0 c.in_err-keep_dealing.field-0.0 p.1 p.2 (due_of_devices c.in_err-keep_dealing.field-0.0 _ _ _ _ c.in_err-keep_dealing.ensures.due))
     (c.in_err-keep_dealing.ensures.acts told_disk told_secrets))
