@@ -7,14 +7,14 @@ use Rattle.std.specs.Option.{option_map_or}
 use Rattle.std.proofs.lemmas.List.{map-append}
 use Rattle.std.proofs.lemmas.Option.{slice_get-map}
 use Rattle.dkg_values.specs.Codec.{IsBytes, whole}
-use Rattle.dkg_types.specs.BlockCodes.{IsBlock, flagged_bytes}
+use Rattle.dkg_types.specs.BlockCodes.{IsBlock, flagged_bytes, zero_digest}
 use Rattle.dkg_types.specs.Blocks as made
 use Rattle.dkg_types.specs.PayloadCodes.{payload_at, payload_spelling}
 use Rattle.dkg_infos.specs.Units.{unit_at, unit_spelling}
 use Rattle.dkg_infos.specs.declared.directory.Unit as directory
 use Rattle.dkg_types.specs.declared.payload.Payload.{Payload}
 use Rattle.dkg_text.specs.declared.script.BlockLine.{BlockLine}
-use Rattle.dkg_script.specs.Blocks.{ScriptBlock, numbered_block, block_of, blocks, zeros}
+use Rattle.dkg_script.specs.Blocks.{ScriptBlock, numbered_block, block_of, blocks}
 use Rattle.dkg_script.specs.Epochs.{IsBlockIn}
 use Rattle.dkg_script.specs.Inclusion.{IsFormOfInclusion}
 use Rattle.dkg_script.specs.Readings.{Limits, unit_payload}
@@ -47,11 +47,11 @@ module _ (s : Setting) (form : IsFormOfInclusion s.script) where
       by_read (Some payload) is some spelled = (is, rest_same (payload_spelling unit_spelling payload) bytes spelled)
 
   -- a parent's digest
-  same_parent : (all : List (made.Block directory.Unit)) (parent : Option ℕ) → parent_digest_in all parent ≡ option_map_or (λ (b : ScriptBlock). b.digest) (option_and_then (slice_get (map seen all)) parent) zeros
+  same_parent : (all : List (made.Block directory.Unit)) (parent : Option ℕ) → parent_digest_in all parent ≡ option_map_or (λ (b : ScriptBlock). b.digest) (option_and_then (slice_get (map seen all)) parent) zero_digest
   same_parent all None = refl
-  same_parent all (Some number) = sym (ap (λ (o : Option ScriptBlock). option_map_or (λ (b : ScriptBlock). b.digest) o zeros) (slice_get-map seen all number) ∙ through (slice_get all number))
+  same_parent all (Some number) = sym (ap (λ (o : Option ScriptBlock). option_map_or (λ (b : ScriptBlock). b.digest) o zero_digest) (slice_get-map seen all number) ∙ through (slice_get all number))
     where
-      through : (o : Option (made.Block directory.Unit)) → option_map_or (λ (b : ScriptBlock). b.digest) (option_map seen o) zeros ≡ option_map_or (λ b. b.digest) o zeros
+      through : (o : Option (made.Block directory.Unit)) → option_map_or (λ (b : ScriptBlock). b.digest) (option_map seen o) zero_digest ≡ option_map_or (λ b. b.digest) o zero_digest
       through None = refl
       through (Some b) = refl
 

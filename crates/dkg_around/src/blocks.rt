@@ -9,7 +9,7 @@ ghost use Rattle.dkg_lives.specs.Given.{AreBytes, block_on, blocks_in, parent_di
 use dkg_ceremony::{Digest, Epoch, Height, Key, Mem};
 use dkg_infos::Unit;
 use dkg_script::{BlockLine, Script, ScriptConfig};
-use dkg_text::Carried;
+use dkg_text::PayloadBytes;
 use dkg_types::{Block, Context, Payload};
 use dkg_values::Shared;
 use std::alloc::Global;
@@ -18,7 +18,7 @@ use std::alloc::Global;
 fn payload_in(
     alloc: Global,
     config: &ScriptConfig,
-    carried: &Carried,
+    carried: &PayloadBytes,
 ) -> Mem<Option<Shared<Payload<Unit>>>>
     ensures payload { IfOk result (λ payload. payload ≡ unit_payload
         (record { limit = non_zero_u32_get config.now.limit; version = config.now.max_mode.0; addressed = false }) carried.now) }

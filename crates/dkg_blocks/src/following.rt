@@ -4,12 +4,13 @@
 ghost use Rattle.std.specs.Prelude.{◌≡◌, ◌<◌, ◌+◌, ◌^◌, IfErr, IfOk, IsSome, IsTrue, OnOk, Some};
 ghost use Rattle.std.specs.Int.NonZero.{non_zero_u32_get, non_zero_u64_get};
 ghost use Rattle.dkg_ceremony.specs.Schedule.{epoch_of};
+ghost use Rattle.dkg_core.specs.Asked.{IsEmptied};
 ghost use Rattle.dkg_core.specs.Blocks as blocks;
 ghost use Rattle.dkg_core.specs.Fixed.{Fixed};
 ghost use Rattle.dkg_life.specs.Ready.{IsReadyLife};
 ghost use Rattle.dkg_life.specs.Ends.{StopsReading, ends_in};
 ghost use Rattle.dkg_life.specs.Given.{IsIn, ReadsPlanless};
-ghost use Rattle.dkg_life.specs.LiveOf.{Beside, EndsBeside, EndsWith, IsFresh, TookSchemes, live_of};
+ghost use Rattle.dkg_life.specs.LiveOf.{Beside, EndsBeside, EndsWith, TookSchemes, live_of};
 ghost use Rattle.dkg_life.specs.Made.{Makes, Tells};
 ghost use Rattle.dkg_life.specs.Rules.{IsRuledBy};
 ghost use Rattle.dkg_life.specs.Steps.{AreBoundsAt, carried_in};
@@ -75,14 +76,14 @@ fn follow_into<C: Ceremony, R: Registrar, Dir: Directory + Drop, D: Disk, X: Sec
     ensures ready { OnOk result (IsReadyLife D.tells D.files D.image C.ack_of C.deal_of C.check_ack_of terms.now life.new devices.new) }
     ensures moves { MovesOn life.old life.new D.tells D.made X.made D.faults X.faults D.image (non_zero_u32_get terms.now.limit) devices.old devices.new }
     ensures current { OnOk result (IsSome life.new.store.current) }
-    ensures acts { IsTrue D.tells → IsTrue X.tells → (c : Fixed Dir) (beside : Beside Dir) → IsFresh beside.inclusion → IsIn terms.now life.old.word c
+    ensures acts { IsTrue D.tells → IsTrue X.tells → (c : Fixed Dir) (beside : Beside Dir) → IsEmptied beside.inclusion → IsIn terms.now life.old.word c
         → ReadsPlanless c
         → IsRuledBy C.round_of C.deal_of C.dealing_of C.ack_of C.check_ack_of C.sign_log_of C.bears_ack_of C.share_public_of C.partial_public_of c.rules
         → EndsBeside beside (λ more. OnOk result (TookSchemes R.tells (R.taken registrar.old) (R.taken registrar.new) more))
         (λ now. Makes D.files D.image X.held (blocks.follows_into c block.now info.now (live_of beside fence.old life.old)) (ends_in
         (live_of now fence.new life.new) result)
         devices.old devices.new out.old.entries out.new.entries) }
-    ensures tells { (c : Fixed Dir) (beside : Beside Dir) → IsFresh beside.inclusion → IsIn terms.now life.old.word c → ReadsPlanless c
+    ensures tells { (c : Fixed Dir) (beside : Beside Dir) → IsEmptied beside.inclusion → IsIn terms.now life.old.word c → ReadsPlanless c
         → IsRuledBy C.round_of C.deal_of C.dealing_of C.ack_of C.check_ack_of C.sign_log_of C.bears_ack_of C.share_public_of C.partial_public_of c.rules
         → EndsBeside beside (λ more. OnOk result (TookSchemes R.tells (R.taken registrar.old) (R.taken registrar.new) more))
         (λ now. Tells (blocks.follows_into c block.now info.now (live_of beside fence.old life.old)) (ends_in (live_of now fence.new life.new) result)

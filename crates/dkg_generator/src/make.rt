@@ -11,7 +11,7 @@ use crate::plan::{EPOCHS, ME, Plan, plan_of};
 use dkg_ceremony::{Blob, Epoch, Height, Map, Mem, Mode, ModeVersion, Value};
 use dkg_infos::{EpochInfo, Unit};
 use dkg_text::{
-    BlockLine, BlockLines, Carried, Events, Life, Lives, PlayerLine, PlayerLines, Script,
+    BlockLine, BlockLines, Events, Life, Lives, PayloadBytes, PlayerLine, PlayerLines, Script,
     ScriptConfig,
 };
 use std::alloc::Global;
@@ -41,12 +41,12 @@ fn bytes_at(alloc: Global, plan: &Plan, place: u64) -> Mem<Option<Blob>>
 }
 
 /// What the block at a place carries.
-fn carried_at(alloc: Global, plan: &Plan, place: u64) -> Mem<Option<Carried>>
+fn carried_at(alloc: Global, plan: &Plan, place: u64) -> Mem<Option<PayloadBytes>>
     requires { place < 64 }
     ensures { IfOk result (λ made. made ≡ carried_at_of plan.now.first plan.now.next plan.now.logs.items place) }
 {
     match bytes_at(alloc, plan, place)? {
-        Some(bytes) => Ok(Some(Carried::new(alloc, bytes)?)),
+        Some(bytes) => Ok(Some(PayloadBytes::new(alloc, bytes)?)),
         None => Ok(None),
     }
 }

@@ -4,8 +4,9 @@ use Rattle.std.specs.Prelude.{IsTrue, OnOk, reverse}
 use Rattle.std.proofs.lemmas.List.{reverse-append}
 use Rattle.dkg_infos.specs.declared.info.EpochInfo.{EpochInfo}
 use Rattle.dkg_types.specs.declared.scheme.SchemeInfo.{SchemeInfo}
+use Rattle.dkg_core.specs.Asked.{IsEmptied}
 use Rattle.dkg_core.specs.Live.{Inclusion, Orchestrator}
-use Rattle.dkg_life.specs.LiveOf.{Beside, EndsBeside, EndsWith, IsFresh, TookSchemes, nothing_beside, scheme_by, with_scheme_of}
+use Rattle.dkg_life.specs.LiveOf.{Beside, EndsBeside, EndsWith, TookSchemes, nothing_beside, scheme_by, with_scheme_of}
 
 module _ {Dir : Type 0} (beside : Beside Dir) (TookThese : List (ℕ × SchemeInfo) → Type 0) (P : Beside Dir → Type 0) where
   -- nothing
@@ -62,20 +63,20 @@ then_well (Err e) so a = tt
 
 -- WHERE NOTHING OF AN EPOCH IS IN WHAT INCLUSION HAS
 
-pub nothing_fresh : {Dir : Type 0} → IsFresh (nothing_beside {Dir = Dir}).inclusion
+pub nothing_fresh : {Dir : Type 0} → IsEmptied (nothing_beside {Dir = Dir}).inclusion
 nothing_fresh = record { served = refl; queue = refl; running = refl; waiter = refl; retained = refl; cached = refl }
 
-pub fresh_as : {Dir : Type 0} (old now : Inclusion Dir) → now ≡ old → IsFresh old → IsFresh now
-fresh_as {Dir} old now same fresh = subst (λ (i : Inclusion Dir). IsFresh i) (sym same) fresh
+pub fresh_as : {Dir : Type 0} (old now : Inclusion Dir) → now ≡ old → IsEmptied old → IsEmptied now
+fresh_as {Dir} old now same fresh = subst (λ (i : Inclusion Dir). IsEmptied i) (sym same) fresh
 
 -- what a setup begins with, of what inclusion has
 abbrev pub emptied : {Dir : Type 0} → Inclusion Dir → Inclusion Dir
 emptied i = record i { served = None; queue = []; running = None; waiter = None; retained = None; cached = None }
 
-pub emptied_fresh : {Dir : Type 0} (i : Inclusion Dir) → IsFresh (emptied i)
+pub emptied_fresh : {Dir : Type 0} (i : Inclusion Dir) → IsEmptied (emptied i)
 emptied_fresh i = record { served = refl; queue = refl; running = refl; waiter = refl; retained = refl; cached = refl }
 
-pub fresh_stays : {Dir : Type 0} (i : Inclusion Dir) → IsFresh i → emptied i ≡ i
+pub fresh_stays : {Dir : Type 0} (i : Inclusion Dir) → IsEmptied i → emptied i ≡ i
 fresh_stays i fresh = λ k. record i {
   served = sym fresh.served k;
   queue = sym fresh.queue k;

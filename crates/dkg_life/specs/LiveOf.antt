@@ -161,15 +161,6 @@ pub record EndsWith {Dir : Type 0} (old : Beside Dir) (IsNow : Inclusion Dir →
   pub orchestrator : now.orchestrator ≡ record old.orchestrator { schemes = now.orchestrator.schemes }
   pub holds : P now
 
--- Nothing of an epoch is in what inclusion has: an epoch's setup begins so.
-pub record IsFresh {Dir : Type 0} (i : Inclusion Dir) : Type 0 where
-  pub served : i.served ≡ None
-  pub queue : i.queue ≡ []
-  pub running : i.running ≡ None
-  pub waiter : i.waiter ≡ None
-  pub retained : i.retained ≡ None
-  pub cached : i.cached ≡ None
-
 -- the height above a life's position
 abbrev pub awaited_of : {Dir : Type 0} → Life Dir → ℕ
 awaited_of l = option_map_or (λ t. t.height + 1) l.tip 0

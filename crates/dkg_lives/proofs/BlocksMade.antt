@@ -10,14 +10,14 @@ use Rattle.dkg_values.specs.Codec.{IsBytes, whole}
 use Rattle.dkg_values.specs.Grammar.{decoded_found}
 use Rattle.dkg_values.specs.Uint.{uint}
 use Rattle.dkg_values.specs.declared.codec.CodecError.{CodecError}
-use Rattle.dkg_types.specs.BlockCodes.{block_bytes, context_bytes, flagged_bytes}
+use Rattle.dkg_types.specs.BlockCodes.{block_bytes, context_bytes, flagged_bytes, zero_digest}
 use Rattle.dkg_types.specs.Blocks as made
 use Rattle.dkg_types.specs.PayloadCodes.{PayloadFits, payload_at, payload_grammar, payload_spelling}
 use Rattle.dkg_infos.specs.Units.{unit_at, unit_grammar, unit_spelling}
 use Rattle.dkg_infos.specs.declared.directory.Unit as directory
 use Rattle.dkg_types.specs.declared.payload.Payload.{Payload}
 use Rattle.dkg_text.specs.declared.script.BlockLine.{BlockLine}
-use Rattle.dkg_script.specs.Blocks.{ScriptBlock, numbered_block, block_of, blocks, digest_of, flagged, zeros}
+use Rattle.dkg_script.specs.Blocks.{ScriptBlock, numbered_block, block_of, blocks, digest_of, flagged}
 use Rattle.dkg_script.specs.Epochs.{IsBlockIn}
 use Rattle.dkg_script.specs.Readings.{Limits, unit_payload}
 use Rattle.dkg_script.specs.Setting.{Setting}
@@ -51,14 +51,14 @@ are_more (a ∷ bs) (one ∷ more) b its are is = (are.0, are_more bs more b its
 
 -- A PARENT
 
-digest_at : (bs : List ScriptBlock) (all : List (made.Block directory.Unit)) (number : ℕ) → AreOf bs all → option_map_or (λ its. its.digest) (slice_get all number) zeros ≡ option_map_or (λ b. b.digest) (slice_get bs number) zeros
+digest_at : (bs : List ScriptBlock) (all : List (made.Block directory.Unit)) (number : ℕ) → AreOf bs all → option_map_or (λ its. its.digest) (slice_get all number) zero_digest ≡ option_map_or (λ b. b.digest) (slice_get bs number) zero_digest
 digest_at [] [] number are = refl
 digest_at [] (its ∷ more) number are = absurd are
 digest_at (b ∷ bs) [] number are = absurd are
 digest_at (b ∷ bs) (its ∷ more) zero are = (are.0).digest
 digest_at (b ∷ bs) (its ∷ more) (suc number) are = digest_at bs more number are.1
 
-parent_is : (bs : List ScriptBlock) (all : List (made.Block directory.Unit)) (parent : Option ℕ) → AreOf bs all → parent_digest_in all parent ≡ option_map_or (λ b. b.digest) (option_and_then (slice_get bs) parent) zeros
+parent_is : (bs : List ScriptBlock) (all : List (made.Block directory.Unit)) (parent : Option ℕ) → AreOf bs all → parent_digest_in all parent ≡ option_map_or (λ b. b.digest) (option_and_then (slice_get bs) parent) zero_digest
 parent_is bs all None are = refl
 parent_is bs all (Some number) are = digest_at bs all number are
 
@@ -87,7 +87,7 @@ module _ (s : Setting) where
   unfolding digest_of block_bytes
   digest_is bs all line are today bytes =
       ap (λ (parent : List ℕ). sha256 (context_bytes (context_in s.script.config line parent) ++ parent ++ uint line.height ++ flagged_bytes unit_spelling (payload_in s.script.config line.payload))) (parent_is bs all line.parent are)
-      ∙ ap (λ (text : List ℕ). let parent : List ℕ = option_map_or (λ b. b.digest) (option_and_then (slice_get bs) line.parent) zeros in
+      ∙ ap (λ (text : List ℕ). let parent : List ℕ = option_map_or (λ b. b.digest) (option_and_then (slice_get bs) line.parent) zero_digest in
       sha256 (context_bytes (context_in s.script.config line parent) ++ parent ++ uint line.height ++ text))
       (flagged_same (non_zero_u32_get s.script.config.limit) s.script.config.max_mode.0 line.payload today bytes)
 

@@ -10,7 +10,7 @@ use Rattle.dkg_ceremony.specs.Schedule.{epoch_of}
 use Rattle.dkg_ceremony.specs.declared.mode.Reveal.TheVariants.{V1}
 use Rattle.dkg_journal.specs.Names.{Files}
 use Rattle.dkg_journal.specs.Opening.{open_calls}
-use Rattle.dkg_types.specs.BlockCodes.{block_bytes}
+use Rattle.dkg_types.specs.BlockCodes.{block_bytes, zero_digest}
 use Rattle.dkg_types.specs.Blocks.{Block}
 use Rattle.dkg_infos.specs.NextInfos.{Provided}
 use Rattle.dkg_infos.specs.Units.{unit_at, unit_spelling}
@@ -27,7 +27,7 @@ use Rattle.dkg_text.specs.declared.script.Event.TheVariants as event
 use Rattle.dkg_text.specs.declared.script.Life.{Life}
 use Rattle.dkg_text.specs.declared.script.Script.{Script}
 use Rattle.dkg_text.specs.declared.script.ScriptConfig.{ScriptConfig}
-use Rattle.dkg_script.specs.Blocks.{delivered_number, zeros}
+use Rattle.dkg_script.specs.Blocks.{delivered_number}
 use Rattle.dkg_script.specs.Players.{players_at}
 use Rattle.dkg_script.specs.Readings.{Limits, unit_payload}
 use Rattle.dkg_core.specs.Courses.{Course, Goes}
@@ -66,7 +66,7 @@ block_on config parent line = record {
 
 -- the digest of the block that a line names as its parent, among the blocks of the lines before it
 abbrev pub parent_digest_in : List (Block directory.Unit) → Option ℕ → List ℕ
-parent_digest_in before parent = option_map_or (λ b. b.digest) (option_and_then (slice_get before) parent) zeros
+parent_digest_in before parent = option_map_or (λ b. b.digest) (option_and_then (slice_get before) parent) zero_digest
 
 -- these blocks, and that of one line more
 abbrev pub with_block : ScriptConfig → List (Block directory.Unit) → BlockLine → List (Block directory.Unit)

@@ -7,7 +7,7 @@ ghost use Rattle.dkg_reading.specs.Lines.{ReadsText, ReadsIf, begins};
 use crate::lines::Lines;
 use crate::stop::Stop;
 use dkg_ceremony::{Blob, Height, Mem};
-use dkg_text::{BlockLine, BlockLines, Carried, ScriptConfig};
+use dkg_text::{BlockLine, BlockLines, PayloadBytes, ScriptConfig};
 use std::alloc::Global;
 use std::num::NonZeroU32;
 
@@ -37,13 +37,13 @@ fn read_payload(
     addressed: bool,
     config: &ScriptConfig,
     payload: Option<Blob>,
-) -> Mem<(Option<Carried>, bool)>
+) -> Mem<(Option<PayloadBytes>, bool)>
     ensures { IfOk result (λ made. (made.0 ≡ payload) × (made.1 ≡ is_payload addressed (limit_of config.now) config.now.max_mode.0 payload)) }
 {
     match payload {
         Some(bytes) => {
             let limits = (limit(config), config.max_mode);
-            let (carried, is_read) = Carried::read(alloc, addressed, limits, bytes)?;
+            let (carried, is_read) = PayloadBytes::read(alloc, addressed, limits, bytes)?;
             Ok((Some(carried), is_read))
         }
         None => Ok((None, true)),

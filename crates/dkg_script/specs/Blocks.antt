@@ -1,5 +1,5 @@
 -- The blocks of a script, and the chain, the epochs' infos and the rounds that they make.
-use Rattle.std.specs.Prelude.{ℕ, zero, suc, List, [], ◌∷◌, ◌++◌, ◌^◌, ◌-◌, ◌==◌, take, Option, Some, None, option_map, option_and_then, option_to_list, slice_get, fold, filter_map, flat_map, find, map, replicate, if◌then◌else◌}
+use Rattle.std.specs.Prelude.{ℕ, zero, suc, List, [], ◌∷◌, ◌++◌, ◌^◌, ◌-◌, ◌==◌, take, Option, Some, None, option_map, option_and_then, option_to_list, slice_get, fold, filter_map, flat_map, find, map, if◌then◌else◌}
 use Rattle.std.specs.Option.{option_map_or}
 use Rattle.std.specs.Result.{result_ok}
 use Rattle.std.specs.FinMap.{get}
@@ -10,7 +10,7 @@ use Rattle.dkg_ceremony.specs.declared.mode.Reveal.TheVariants.{V1}
 use Rattle.dkg_ceremony.specs.declared.round.RoundParts.{RoundParts as Round}
 use Rattle.dkg_ceremony.specs.declared.signed_log.SignedDealerLog.{SignedDealerLog}
 use Rattle.dkg_ceremony.specs.Rounds.{round_of}
-use Rattle.dkg_types.specs.BlockCodes.{context_bytes}
+use Rattle.dkg_types.specs.BlockCodes.{context_bytes, zero_digest}
 use Rattle.dkg_text.specs.declared.script.Anchor.{Anchor}
 use Rattle.dkg_text.specs.declared.script.Anchor.TheVariants.{Processed, Absent}
 use Rattle.dkg_text.specs.declared.script.BlockLine.{BlockLine}
@@ -34,10 +34,6 @@ pub record ScriptBlock : Type 0 where
   pub info : Option Info
   pub log : Option SignedDealerLog
 
--- the digest of a block without a parent's
-abbrev pub zeros : List ℕ
-zeros = replicate 32 0
-
 -- a flag, and the payload's bytes where there is one
 abbrev pub flagged : Option (List ℕ) → List ℕ
 flagged None = 0 ∷ []
@@ -51,7 +47,7 @@ digest_of epoch height view parent payload =
 -- the block of a line, over the blocks of the lines before it
 abbrev pub block_of : Setting → List ScriptBlock → BlockLine → ScriptBlock
 block_of s before line =
-    let parent = option_map_or (λ b. b.digest) (option_and_then (slice_get before) line.parent) zeros
+    let parent = option_map_or (λ b. b.digest) (option_and_then (slice_get before) line.parent) zero_digest
     in record {
       height = line.height;
       digest = digest_of (epoch_of (blocks_per_epoch s) line.height) line.height line.view parent line.payload;

@@ -6,12 +6,12 @@ use Rattle.dkg_types.specs.Blocks as made
 use Rattle.dkg_types.specs.declared.block.Context.{Context}
 use Rattle.dkg_infos.specs.declared.directory.Unit as directory
 use Rattle.dkg_types.specs.declared.payload.Payload.{Payload}
-use Rattle.dkg_types.specs.BlockCodes.{info_of}
+use Rattle.dkg_types.specs.BlockCodes.{info_of, zero_digest}
 use Rattle.dkg_infos.specs.NextInfos.{Provided}
 use Rattle.dkg_types.specs.PayloadCodes.{its_log, payload_spelling}
 use Rattle.dkg_infos.specs.Units.{unit_spelling}
 use Rattle.dkg_text.specs.declared.script.BlockLine.{BlockLine}
-use Rattle.dkg_script.specs.Blocks.{ScriptBlock, zeros}
+use Rattle.dkg_script.specs.Blocks.{ScriptBlock}
 use Rattle.dkg_script.specs.Readings.{Limits, unit_payload, with_spelled}
 use Rattle.dkg_script.specs.Schedule.{epoch_of}
 use Rattle.dkg_script.specs.Setting.{Setting, blocks_per_epoch}
@@ -47,7 +47,7 @@ IsPayloadOf limits _ _ = ⊥
 
 -- the digest of the block that a line names as its parent, among the blocks of the lines before it
 abbrev pub parent_digest : List ScriptBlock → BlockLine → List ℕ
-parent_digest before line = option_map_or (λ b. b.digest) (option_and_then (slice_get before) line.parent) zeros
+parent_digest before line = option_map_or (λ b. b.digest) (option_and_then (slice_get before) line.parent) zero_digest
 
 -- where the block of a line is proposed
 abbrev pub context_on : Setting → (parent : List ℕ) → BlockLine → Context

@@ -22,6 +22,7 @@ use Rattle.dkg_infos.specs.Validation.{previous_validation, validation}
 use Rattle.dkg_store.specs.declared.dealer.Dealer.{Dealer}
 use Rattle.dkg_store.specs.declared.player.Player.{Player}
 use Rattle.dkg_store.specs.Acts.{Ended, Runs, World, went}
+use Rattle.dkg_core.specs.Asked.{IsEmptied}
 use Rattle.dkg_core.specs.Courses.{Course, Goes, Say, Stops, on_devices}
 use Rattle.dkg_core.specs.Fixed.{Fixed}
 use Rattle.dkg_core.specs.Live.{Live, awaited_height, phase_of, with_participation}
@@ -34,7 +35,7 @@ use Rattle.dkg_life.specs.Ends.{IsCaused, by_stop, ends_in}
 use Rattle.dkg_life.specs.Given.{IsOf}
 use Rattle.dkg_fence.specs.Readiness.{Readiness}
 use Rattle.dkg_life.specs.declared.life.Life.{Life}
-use Rattle.dkg_life.specs.LiveOf.{Beside, IsDealing, IsFresh, PlayerSits, IsRoundWithin, dealer_of, live_of, seat_of}
+use Rattle.dkg_life.specs.LiveOf.{Beside, IsDealing, PlayerSits, IsRoundWithin, dealer_of, live_of, seat_of}
 use Rattle.dkg_life.specs.Made.{Speaks}
 use Rattle.dkg_life.specs.Rules.{AckOf, CheckAckOf, DealOf, DealsBy, RoundOf, SignLogOf}
 use Rattle.dkg_life.specs.Steps.{IsFaultOrWant, MakesDealer, MakesPlayer, StandsIn, no_round, refusal_of, refused_by, stage_begun_in}
@@ -174,8 +175,8 @@ sits_drawn ack_of deal_of check_ack_of me key same limit phase new (Err stop) se
 
 -- what is in memory, where the stage began
 pub begun_here : {Dir : Type 0} (c : Fixed Dir) (beside : Beside Dir) (fence : Readiness) (phase : Phase) (old new : Life Dir) (key : ℕ) (deal_of : DealOf) (check_ack_of : CheckAckOf) (sign_log_of : SignLogOf) (r : Result (Unit {0}) Stop)
-    → OnOk r ((f : Fixed Dir) (b : Beside Dir) (w : Readiness) → IsFresh b.inclusion → f.me ≡ key → DealsBy deal_of check_ack_of sign_log_of f.rules → live_of b w new ≡ setup.in_stage f phase (live_of b w old))
-    → IsFresh beside.inclusion → c.me ≡ key → DealsBy deal_of check_ack_of sign_log_of c.rules → OnOk r (live_of beside fence new ≡ setup.in_stage c phase (live_of beside fence old))
+    → OnOk r ((f : Fixed Dir) (b : Beside Dir) (w : Readiness) → IsEmptied b.inclusion → f.me ≡ key → DealsBy deal_of check_ack_of sign_log_of f.rules → live_of b w new ≡ setup.in_stage f phase (live_of b w old))
+    → IsEmptied beside.inclusion → c.me ≡ key → DealsBy deal_of check_ack_of sign_log_of c.rules → OnOk r (live_of beside fence new ≡ setup.in_stage c phase (live_of beside fence old))
 begun_here c beside fence phase old new key deal_of check_ack_of sign_log_of (Ok done) begun fresh mine deals = begun c beside fence fresh mine deals
 begun_here c beside fence phase old new key deal_of check_ack_of sign_log_of (Err stop) begun fresh mine deals = tt
 

@@ -17,6 +17,7 @@ use Rattle.dkg_journal.specs.Names.{Files}
 use Rattle.dkg_journal.specs.declared.journal.Journal.{Journal}
 use Rattle.dkg_store.specs.declared.devices.Devices.{Devices}
 use Rattle.dkg_store.specs.declared.store.Store.{Store}
+use Rattle.dkg_core.specs.Asked.{IsEmptied}
 use Rattle.dkg_core.specs.Courses.{Stops}
 use Rattle.dkg_core.specs.Fixed.{Fixed, Rules, stand_in}
 use Rattle.dkg_core.specs.Live.{Live, awaited_height}
@@ -28,7 +29,7 @@ use Rattle.dkg_life.specs.declared.life.Stage.{Stage}
 use Rattle.dkg_life.specs.declared.life.Stage.TheVariants.{Dealing, Including, Following}
 use Rattle.dkg_life.specs.declared.config.Terms.{Terms}
 use Rattle.dkg_life.specs.Ready.{IsReadyLife, IsSetUp}
-use Rattle.dkg_life.specs.LiveOf.{Beside, IsDealing, IsFresh, IsPlaced, PlayerSits, IsRoundWithin, awaited_of, live_of}
+use Rattle.dkg_life.specs.LiveOf.{Beside, IsDealing, IsPlaced, PlayerSits, IsRoundWithin, awaited_of, live_of}
 use Rattle.dkg_life.specs.Moved.{IsFirm}
 use Rattle.dkg_life.specs.Given.{IsLent, IsOf, ReadsPlanless}
 use Rattle.dkg_life.specs.Rules.{AckOf, BearsAckOf, CheckAckOf, DealOf, DealingOf, IsRuledBy, PartialPublicOf, RoundOf, SharePublicOf, SignLogOf}
@@ -47,7 +48,7 @@ equal a b same = grind (arith, nat_tests, same)
 
 -- NO EPOCH IN RANGE
 
-module _ {Dir : Type 0} (c : Fixed Dir) (n : ℕ) (same : c.blocks_per_epoch ≡ n) (beside : Beside Dir) (fresh : IsFresh beside.inclusion) (fence : Readiness) (old : Life Dir) where
+module _ {Dir : Type 0} (c : Fixed Dir) (n : ℕ) (same : c.blocks_per_epoch ≡ n) (beside : Beside Dir) (fresh : IsEmptied beside.inclusion) (fence : Readiness) (old : Life Dir) where
   abbrev st : Live Dir
   st = live_of beside fence old
 

@@ -19,6 +19,7 @@ ghost use Rattle.dkg_types.specs.Schemes.{scheme_of};
 ghost use Rattle.dkg_infos.specs.Validation.{validation};
 ghost use Rattle.dkg_infos.specs.declared.entry.Entry.{Entry};
 ghost use Rattle.dkg_infos.specs.declared.fault.Fault.TheVariants.{HeightRange, NoMemory as OutOfMemory};
+ghost use Rattle.dkg_core.specs.Asked.{IsEmptied};
 ghost use Rattle.dkg_core.specs.Agreeing.{AreAgreed};
 ghost use Rattle.dkg_core.specs.Courses.{bind};
 ghost use Rattle.dkg_core.specs.Fixed.{Fixed, has};
@@ -28,7 +29,7 @@ ghost use Rattle.dkg_core.specs.Setup as setup;
 ghost use Rattle.dkg_life.specs.Ready.{IsReadyLife, IsSetUp};
 ghost use Rattle.dkg_life.specs.Ends.{IsCaused, IsCausedBy, IsOutside, StopsReading, by_stop, ends, ends_in};
 ghost use Rattle.dkg_life.specs.Given.{CanRead, GivesBoth, GivesSeed, GivesShare, IsIn, IsLent, IsOf, ReadsPlanless};
-ghost use Rattle.dkg_life.specs.LiveOf.{Beside, DealsFor, EndsBeside, IsDealing, IsFresh, PlayerSits, IsToSign, IsRoundWithin, SitsIn, TookSchemes, awaited_of, dealer_of, live_of, records_of, scheme_by, seat_of, with_scheme_of};
+ghost use Rattle.dkg_life.specs.LiveOf.{Beside, DealsFor, EndsBeside, IsDealing, PlayerSits, IsToSign, IsRoundWithin, SitsIn, TookSchemes, awaited_of, dealer_of, live_of, records_of, scheme_by, seat_of, with_scheme_of};
 ghost use Rattle.dkg_life.specs.Made.{Makes, Speaks, Tells, UnlessBroken};
 ghost use Rattle.dkg_life.specs.Moved.{IsFirm, Moved, StaysAbove, StaysFrom, StaysWhole};
 ghost use Rattle.dkg_life.specs.Opened.{epoch_above};
@@ -528,7 +529,7 @@ fn begin_stage<C: Ceremony, Dir: Directory + Drop>(
 ) -> Result<(), Stop>
     requires signs { IfSome life.old.dealer (IsToSign C.deal_of C.check_ack_of (C.Signer.key_of signer.now) life.old.round) }
     requires unsigned { IfSome life.old.dealer (λ dealer. dealer.finalized ≡ None) }
-    ensures begun { OnOk result ((c : Fixed Dir) (beside : Beside Dir) (fence : Readiness) → IsFresh beside.inclusion → c.me ≡ C.Signer.key_of signer.now
+    ensures begun { OnOk result ((c : Fixed Dir) (beside : Beside Dir) (fence : Readiness) → IsEmptied beside.inclusion → c.me ≡ C.Signer.key_of signer.now
         → DealsBy C.deal_of C.check_ack_of C.sign_log_of c.rules → live_of beside fence life.new ≡ setup.in_stage c phase (live_of beside fence life.old)) }
     ensures rest { life.new ≡ record life.old { stage = life.new.stage; dealer = life.new.dealer } }
     ensures stage { OnOk result (life.new.stage ≡ stage_begun_in phase) }
@@ -562,7 +563,7 @@ fn draw_up<C: Ceremony, Dir: Directory + Drop>(
     ensures rest { life.new ≡ record life.old { stage = life.new.stage; round = life.new.round; dealer = life.new.dealer; player = life.new.player } }
     ensures sits { OnOk result (PlayerSits C.ack_of terms.now.me life.new × IsDealing C.deal_of C.check_ack_of terms.now.me life.new
         × IsRoundWithin (non_zero_u32_get terms.now.limit) life.new.round × IsSome life.new.round × (life.new.stage ≡ stage_begun_in phase)) }
-    ensures speaks { (c : Fixed Dir) (beside : Beside Dir) (fence : Readiness) → IsFresh beside.inclusion → IsOf terms.now c
+    ensures speaks { (c : Fixed Dir) (beside : Beside Dir) (fence : Readiness) → IsEmptied beside.inclusion → IsOf terms.now c
         → IsRuledBy C.round_of C.deal_of C.dealing_of C.ack_of C.check_ack_of C.sign_log_of C.bears_ack_of C.share_public_of C.partial_public_of c.rules
         → StandsIn c (live_of beside fence life.old) phase → Speaks (setup.draws_up c (setup.participants_of info.now) (Some info.now.output)
         secrets.now.share secrets.now.seed (live_of beside fence life.old)) (ends_in (live_of beside fence life.new) result)
@@ -681,7 +682,7 @@ fn set_up_by<C: Ceremony, R: Registrar, Dir: Directory + Drop, D: Disk, X: Secre
       player = life.new.player;
     } }
     ensures current { OnOk result (IsSome life.new.store.current) }
-    ensures acts { IsTrue D.tells → IsTrue X.tells → (c : Fixed Dir) (beside : Beside Dir) → IsFresh beside.inclusion → IsIn terms.now life.old.word c
+    ensures acts { IsTrue D.tells → IsTrue X.tells → (c : Fixed Dir) (beside : Beside Dir) → IsEmptied beside.inclusion → IsIn terms.now life.old.word c
         → ReadsPlanless c
         → IsRuledBy C.round_of C.deal_of C.dealing_of C.ack_of C.check_ack_of C.sign_log_of C.bears_ack_of C.share_public_of C.partial_public_of c.rules
         → StandsIn c (live_of beside fence.old life.old) phase
@@ -690,7 +691,7 @@ fn set_up_by<C: Ceremony, R: Registrar, Dir: Directory + Drop, D: Disk, X: Secre
         (ends_in (live_of now fence.new life.new) result)
         devices.old devices.new out.old.entries out.new.entries) }
     // Whatever the devices tell, its lines are those of one that has read some shares and seeds.
-    ensures tells { (h : Held) × ((c : Fixed Dir) (beside : Beside Dir) → IsFresh beside.inclusion → IsIn terms.now life.old.word c → CanRead c h
+    ensures tells { (h : Held) × ((c : Fixed Dir) (beside : Beside Dir) → IsEmptied beside.inclusion → IsIn terms.now life.old.word c → CanRead c h
         → IsRuledBy C.round_of C.deal_of C.dealing_of C.ack_of C.check_ack_of C.sign_log_of C.bears_ack_of C.share_public_of C.partial_public_of c.rules
         → StandsIn c (live_of beside fence.old life.old) phase
         → EndsBeside beside (λ more. OnOk result (TookSchemes R.tells (R.taken registrar.old) (R.taken registrar.new) more))
@@ -796,14 +797,14 @@ pub(crate) fn set_up<
     ensures ready { OnOk result (IsReadyLife D.tells D.files D.image C.ack_of C.deal_of C.check_ack_of terms.now life.new devices.new) }
     ensures word { life.new.word ≡ life.old.word }
     ensures current { OnOk result ((life.new.stage ≡ Stage.Following → ⊥) → IsSome life.new.store.current) }
-    ensures acts { IsTrue D.tells → IsTrue X.tells → (c : Fixed Dir) (beside : Beside Dir) → IsFresh beside.inclusion
+    ensures acts { IsTrue D.tells → IsTrue X.tells → (c : Fixed Dir) (beside : Beside Dir) → IsEmptied beside.inclusion
         → IsLent terms.now (B.answers source.now) life.old.word c → ReadsPlanless c
         → IsRuledBy C.round_of C.deal_of C.dealing_of C.ack_of C.check_ack_of C.sign_log_of C.bears_ack_of C.share_public_of C.partial_public_of c.rules
         → EndsBeside beside (λ more. OnOk result (TookSchemes R.tells (R.taken registrar.old) (R.taken registrar.new) more))
         (λ now. Makes D.files D.image X.held (setup.setup c None (live_of beside fence.old life.old)) (ends_in (live_of now fence.new life.new) result)
         devices.old devices.new out.old.entries out.new.entries) }
     // Whatever the devices tell, its lines are those of one that has read some shares and seeds.
-    ensures tells { (h : Held) × ((c : Fixed Dir) (beside : Beside Dir) → IsFresh beside.inclusion
+    ensures tells { (h : Held) × ((c : Fixed Dir) (beside : Beside Dir) → IsEmptied beside.inclusion
         → IsLent terms.now (B.answers source.now) life.old.word c → CanRead c h
         → IsRuledBy C.round_of C.deal_of C.dealing_of C.ack_of C.check_ack_of C.sign_log_of C.bears_ack_of C.share_public_of C.partial_public_of c.rules
         → EndsBeside beside (λ more. OnOk result (TookSchemes R.tells (R.taken registrar.old) (R.taken registrar.new) more))
@@ -868,14 +869,14 @@ pub fn set_up_committed<C: Ceremony, R: Registrar, Dir: Directory + Drop, D: Dis
     ensures ready { OnOk result (IsReadyLife D.tells D.files D.image C.ack_of C.deal_of C.check_ack_of terms.now life.new devices.new) }
     ensures word { life.new.word ≡ life.old.word }
     ensures current { OnOk result (IsSome life.new.store.current) }
-    ensures acts { IsTrue D.tells → IsTrue X.tells → (c : Fixed Dir) (beside : Beside Dir) → IsFresh beside.inclusion → IsIn terms.now life.old.word c
+    ensures acts { IsTrue D.tells → IsTrue X.tells → (c : Fixed Dir) (beside : Beside Dir) → IsEmptied beside.inclusion → IsIn terms.now life.old.word c
         → ReadsPlanless c
         → IsRuledBy C.round_of C.deal_of C.dealing_of C.ack_of C.check_ack_of C.sign_log_of C.bears_ack_of C.share_public_of C.partial_public_of c.rules
         → EndsBeside beside (λ more. OnOk result (TookSchemes R.tells (R.taken registrar.old) (R.taken registrar.new) more))
         (λ now. Makes D.files D.image X.held (setup.setup c None (live_of beside fence.old life.old)) (ends_in (live_of now fence.new life.new) result)
         devices.old devices.new out.old.entries out.new.entries) }
     // Whatever the devices tell, its lines are those of one that has read some shares and seeds.
-    ensures tells { (h : Held) × ((c : Fixed Dir) (beside : Beside Dir) → IsFresh beside.inclusion → IsIn terms.now life.old.word c → CanRead c h
+    ensures tells { (h : Held) × ((c : Fixed Dir) (beside : Beside Dir) → IsEmptied beside.inclusion → IsIn terms.now life.old.word c → CanRead c h
         → IsRuledBy C.round_of C.deal_of C.dealing_of C.ack_of C.check_ack_of C.sign_log_of C.bears_ack_of C.share_public_of C.partial_public_of c.rules
         → EndsBeside beside (λ more. OnOk result (TookSchemes R.tells (R.taken registrar.old) (R.taken registrar.new) more))
         (λ now. Tells (setup.setup c None (live_of beside fence.old life.old)) (ends_in (live_of now fence.new life.new) result)

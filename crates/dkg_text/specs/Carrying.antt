@@ -1,8 +1,8 @@
 -- What a block carries by its line.
 use Rattle.std.specs.Prelude.{ℕ, List}
 use Rattle.dkg_text.specs.FoundPayloads.{found_bytes}
-use Rattle.dkg_text.specs.declared.carried.Form.{Form}
-use Rattle.dkg_text.specs.declared.carried.Form.TheVariants.{Plain, Read}
+use Rattle.dkg_text.specs.declared.payload_bytes.Form.{Form}
+use Rattle.dkg_text.specs.declared.payload_bytes.Form.TheVariants.{Plain, Read}
 
 -- the bytes, however they lie
 abbrev pub carried_bytes : Form → List ℕ

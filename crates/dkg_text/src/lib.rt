@@ -4,11 +4,11 @@
 //! read scripts, say what a run of one promises, and run it.
 #![tactic(auto)]
 
-mod carried;
 mod events;
 mod fault;
 mod held;
 mod payload;
+mod payload_bytes;
 mod print;
 mod script;
 mod tallies;
@@ -16,10 +16,10 @@ mod text;
 mod words;
 mod write;
 
-pub use carried::Carried;
 pub use events::Events;
 pub use held::{Ancestry, MessageBytes};
 pub use payload::{MOST_PARTICIPANTS, is_info};
+pub use payload_bytes::PayloadBytes;
 pub use print::print_of;
 pub use script::{
     Anchor, BlockLine, BlockLines, Cut, Event, Indexes, Life, Lives, PlayerLine, PlayerLines,

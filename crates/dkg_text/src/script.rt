@@ -5,9 +5,9 @@
 //! bytes that decode; numbers of blocks count the block lines from 0.
 ghost use Rattle.std.specs.Prelude.{◌≡◌};
 
-use crate::carried::Carried;
 use crate::events::Events;
 use crate::held::{Ancestry, MessageBytes};
+use crate::payload_bytes::PayloadBytes;
 use dkg_ceremony::{Blob, Epoch, Height, Key, Map, Mode, ModeVersion, Set};
 use dkg_types::Address;
 use std::marker::Model;
@@ -69,7 +69,7 @@ pub struct BlockLine {
     pub height: Height,
     pub parent: Option<u32>,
     pub view: u64,
-    pub payload: Option<Carried>,
+    pub payload: Option<PayloadBytes>,
 }
 
 /// Lines of blocks, which contracts see as a list.

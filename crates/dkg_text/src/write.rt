@@ -6,8 +6,8 @@ ghost use Rattle.std.specs.List.{flat_map};
 ghost use Rattle.dkg_text.specs.Fields.{bytes_field, number_field};
 ghost use Rattle.dkg_text.specs.Writing.{address_fields, address_line, anchor_line, block_line, bytes_or_dash, config_text, cut_line, event_line, event_text, held_line, life_text, limits_text, mode_number, number_or_dash, numbers_fields, oneshot_line, opening_text, players_line, probe_line, provided_text, socket_fields, start_text, sync_line, text_of, text_or_none};
 
-use crate::carried::Carried;
 use crate::events::Events;
+use crate::payload_bytes::PayloadBytes;
 use crate::script::{
     Anchor, BlockLine, Cut, Event, Life, PlayerLine, ProbeLine, Script, ScriptConfig, SyncLine,
 };
@@ -169,7 +169,7 @@ fn put_number_or_dash(text: &mut Text, number: Option<u64>) -> Mem<()>
     }
 }
 
-fn put_carried(text: &mut Text, carried: &Option<Carried>) -> Mem<()>
+fn put_carried(text: &mut Text, carried: &Option<PayloadBytes>) -> Mem<()>
     ensures { OnOk result (text.new ≡ text.old ++ bytes_or_dash carried.now) }
 {
     match carried {

@@ -46,11 +46,11 @@ enum Form {
 
 /// The encoding of a payload, which contracts see as its bytes.
 #[derive(Drop)]
-pub struct Carried {
+pub struct PayloadBytes {
     form: Form,
 }
 
-impl Model for Carried {
+impl Model for PayloadBytes {
     ghost use Rattle.std.specs.Prelude.{List, ℕ};
 
     ghost Value = { List ℕ };
@@ -130,34 +130,38 @@ fn read_addressed(
     alloc: Global,
     limits: (NonZeroU32, ModeVersion),
     bytes: Blob,
-) -> Mem<(Carried, bool)>
+) -> Mem<(PayloadBytes, bool)>
     ensures { IfOk result (λ made. (made.0 ≡ bytes) × (made.1 ≡ is_some (payload_kind true (non_zero_u32_get limits.0) limits.1.0 bytes))) }
 {
     let is_read = carried_by(alloc, true, limits, bytes.as_slice())?.is_some();
-    Ok((Carried::new(alloc, bytes)?, is_read))
+    Ok((PayloadBytes::new(alloc, bytes)?, is_read))
 }
 
 /// The bytes, and whether they spell a payload whose directories say nothing. Where they do, it lies in their place.
 #[tactic(auto, unfolding(crate::specs::PayloadKinds::payload_kind, crate::specs::PayloadKinds::unit_kind))]
-fn read_unit(alloc: Global, limits: (NonZeroU32, ModeVersion), bytes: Blob) -> Mem<(Carried, bool)>
+fn read_unit(
+    alloc: Global,
+    limits: (NonZeroU32, ModeVersion),
+    bytes: Blob,
+) -> Mem<(PayloadBytes, bool)>
     ensures { IfOk result (λ made. (made.0 ≡ bytes) × (made.1 ≡ is_some (payload_kind false (non_zero_u32_get limits.0) limits.1.0 bytes))) }
 {
     match find(alloc, limits, bytes.as_slice())? {
         Some(found) => {
             let form = Form::Read(found);
-            Ok((Carried { form }, true))
+            Ok((PayloadBytes { form }, true))
         }
-        None => Ok((Carried::new(alloc, bytes)?, false)),
+        None => Ok((PayloadBytes::new(alloc, bytes)?, false)),
     }
 }
 
-impl Carried {
+impl PayloadBytes {
     /// The bytes as they are.
-    pub fn new(alloc: Global, bytes: Blob) -> Mem<Carried>
+    pub fn new(alloc: Global, bytes: Blob) -> Mem<PayloadBytes>
         ensures { IfOk result (λ made. made ≡ bytes) }
     {
         let form = Form::Plain(Shared::of(alloc, bytes)?);
-        Ok(Carried { form })
+        Ok(PayloadBytes { form })
     }
 
     /// The bytes, and whether they spell a payload under limits.
@@ -166,7 +170,7 @@ impl Carried {
         addressed: bool,
         limits: (NonZeroU32, ModeVersion),
         bytes: Blob,
-    ) -> Mem<(Carried, bool)>
+    ) -> Mem<(PayloadBytes, bool)>
         ensures { IfOk result (λ made. (made.0 ≡ bytes) × (made.1 ≡ is_some (payload_kind addressed (non_zero_u32_get limits.0) limits.1.0 bytes))) }
     {
         if addressed {

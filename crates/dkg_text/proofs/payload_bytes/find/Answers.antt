@@ -2,7 +2,7 @@ use Rattle.std.proofs.Common.{ap, arith}
 use Rattle.std.specs.Int.NonZero.{non_zero_u32_get}
 use Rattle.std.specs.Result.{result_ok}
 use Rattle.dkg_text.specs.FoundPayloads.{is_found}
-use Rattle.dkg_text.proofs.carried.find.Goals as goal
+use Rattle.dkg_text.proofs.payload_bytes.find.Goals as goal
 
 pub found_of-requires : goal.found_of-requires
 found_of-requires c =
