@@ -24,6 +24,7 @@ pub trait Sink {
         ensures takes { IfOk result (λ n. IsTrue tells → held self.new ≡ held self.old ++ take n piece.now) }
         ensures lost { OnErr result (IsTrue tells → held self.new ≡ held self.old) }
         ensures later { faults self.old ≤ faults self.new }
+        ensures went { OnOk result (faults self.new ≡ faults self.old) }
         ensures failed { OnErr result (Rose (faults self.old) (faults self.new)) };
 }
 
@@ -77,6 +78,7 @@ impl Sink for MemorySink {
         ensures takes { IfOk result (λ n. self.new.bytes.items ≡ self.old.bytes.items ++ take n piece.now) }
         ensures lost { OnErr result (self.new.bytes.items ≡ self.old.bytes.items) }
         ensures later { self.old.calls.faults ≤ self.new.calls.faults }
+        ensures went { OnOk result (self.new.calls.faults ≡ self.old.calls.faults) }
         ensures failed { OnErr result (Rose self.old.calls.faults self.new.calls.faults) }
         // It counts one call more, and fails where that is named; else memory was wanting.
         ensures made { self.new.calls.made ≡ min (self.old.calls.made + 1) (2 ^ 64 - 1) }

@@ -33,6 +33,7 @@ pub trait Source {
         ensures gives { IfOk result (λ n. IsTrue tells → TookPiece n into.new (left self.old) (left self.new)) }
         ensures lost { OnErr result (left self.new ≡ left self.old) }
         ensures later { faults self.old ≤ faults self.new }
+        ensures went { OnOk result (faults self.new ≡ faults self.old) }
         ensures failed { OnErr result (Rose (faults self.old) (faults self.new)) };
 
     /// Takes back all that was read of it, where that is needed no more.
@@ -99,6 +100,7 @@ impl Source for MemorySource {
         ensures gives { IfOk result (λ n. TookPiece n into.new (drop self.old.place self.old.bytes.items) (drop self.new.place self.new.bytes.items)) }
         ensures lost { OnErr result (drop self.new.place self.new.bytes.items ≡ drop self.old.place self.old.bytes.items) }
         ensures later { self.old.calls.faults ≤ self.new.calls.faults }
+        ensures went { OnOk result (self.new.calls.faults ≡ self.old.calls.faults) }
         ensures failed { OnErr result (Rose self.old.calls.faults self.new.calls.faults) }
         // It counts one call more, and fails exactly where that is named.
         ensures made { self.new.calls.made ≡ min (self.old.calls.made + 1) (2 ^ 64 - 1) }
@@ -113,7 +115,9 @@ impl Source for MemorySource {
     }
 
     /// It forgets them.
-    fn give_back(&mut self, _text: Vec<u8>) {}
+    fn give_back(&mut self, _text: Vec<u8>)
+        ensures { self.new ≡ self.old }
+    {}
 }
 
 /// A source over bytes in memory that never fails.
@@ -151,5 +155,7 @@ impl Source for SureSource {
     }
 
     /// It forgets them.
-    fn give_back(&mut self, _text: Vec<u8>) {}
+    fn give_back(&mut self, _text: Vec<u8>)
+        ensures { self.new ≡ self.old }
+    {}
 }

@@ -1,5 +1,5 @@
 //! Any reader as a source and any writer as a sink, as `main` makes of standard input and output. They tell no content.
-ghost use Rattle.std.specs.Prelude.{◌≡◌, ◌<◌, ◌≤◌, IfSome, IfNone, IfOk, OnErr, length, take};
+ghost use Rattle.std.specs.Prelude.{◌≡◌, ◌<◌, ◌≤◌, IfSome, IfNone, IfOk, OnErr, OnOk, length, take};
 ghost use Rattle.std.specs.Io.KnownBytes.{ReadConsumes, WriteAppends, Consumes, Appends, IsAtEnd, Keeps};
 ghost use Rattle.dkg_journal.specs.Disk.{Rose};
 
@@ -58,6 +58,7 @@ impl<R: io::Read> Source for StdSource<R> {
     fn read(&mut self, into: &mut [u8]) -> Result<usize, Failed>
         ensures within { IfOk result (λ n. n ≤ length into.new) }
         ensures later { self.old.faults ≤ self.new.faults }
+        ensures went { OnOk result (self.new.faults ≡ self.old.faults) }
         ensures failed { OnErr result (Rose self.old.faults self.new.faults) }
         // Where the reader's type tells what its readers will give, just that is given.
         ensures bytes { ReadConsumes (R.remaining self.old.reader) (R.remaining self.new.reader) result into.new }
@@ -72,7 +73,9 @@ impl<R: io::Read> Source for StdSource<R> {
     }
 
     /// It forgets them.
-    fn give_back(&mut self, _text: Vec<u8>) {}
+    fn give_back(&mut self, _text: Vec<u8>)
+        ensures { self.new ≡ self.old }
+    {}
 }
 
 /// Standard output, or any other writer. A write that was interrupted is made again, and one that takes nothing of a
@@ -131,6 +134,7 @@ impl<W: io::Write> Sink for StdSink<W> {
         ensures within { IfOk result (λ n. n ≤ length piece.now) }
         ensures some { IfOk result (λ n. 0 < length piece.now → 0 < n) }
         ensures later { self.old.faults ≤ self.new.faults }
+        ensures went { OnOk result (self.new.faults ≡ self.old.faults) }
         ensures failed { OnErr result (Rose self.old.faults self.new.faults) }
         // Where the writer's type tells what its writers hold, just that is added.
         ensures bytes { WriteAppends (W.contents self.old.writer) (W.contents self.new.writer) result piece.now }
