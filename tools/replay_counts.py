@@ -3,6 +3,20 @@ import os
 
 REPLAY = os.path.join(os.path.dirname(os.path.dirname(os.path.abspath(__file__))), "crates", "dkg_replay")
 STDOUT = os.path.join(REPLAY, "stdout")
+DATA = os.path.join(REPLAY, "data")
+BAD_SCRIPT = b"3"
+
+
+def written():
+    """How many scripts the files of all forms have, the texts that are none left out."""
+    with open(os.path.join(DATA, "forms")) as forms:
+        names = forms.read().split()
+    count = 0
+    for name in names:
+        with open(os.path.join(DATA, name + ".cases"), "rb") as cases:
+            heads = [line.split(b" ") for line in cases if line.startswith(b"case ")]
+        count += sum(1 for head in heads if head[2] != BAD_SCRIPT)
+    return count
 
 
 def put_count(file, cases):
@@ -11,6 +25,7 @@ def put_count(file, cases):
         had = [line.split(":") for line in lines]
     counts = {name: int(rest.split()[0]) for name, rest in had if name != "all"}
     counts[file] = cases
+    counts["written"] = written()
     counts["all"] = sum(counts.values())
     with open(STDOUT, "w") as lines:
         lines.write("".join(f"{name}: {number} cases, 0 differ\n" for name, number in counts.items()))
