@@ -9,13 +9,13 @@ use crate::asserts::is;
 use crate::dealing::{ME, round_of};
 use crate::memory::{Memory, opened};
 use dkg_ceremony::{
-    Ceremony, DealerLog, FinishError, Output, Private, Public, Round, Share, SignedDealerLog,
-    Signer, StandCeremony, StandSigner, decode_cfg,
+    Ceremony, DealerLog, FinishError, Output, Private, Public, Round, Share, Signer, StandCeremony,
+    StandSigner, decode_cfg,
 };
 use dkg_infos::{Transcript, Unit};
 use dkg_journal::{Disk, MemoryDisk};
 use dkg_store::{Devices, MemorySecrets, Player, SecretStore, Store};
-use dkg_values::{CodecError, Element, Epoch, Key, Map};
+use dkg_values::{Element, Epoch, Key, Map};
 use std::alloc::Global;
 use std::test::Fail;
 
@@ -129,35 +129,49 @@ fn played<C: Ceremony, D: Disk, X: SecretStore, Dir: Drop>(
     Ok(player.finalize(alloc, ceremony, logs))
 }
 
-/// The logs of dealers 1 to 3 in the round, as an executable model signs them: each deals 55779 + 1926x + 11950x², and all four players acknowledge.
-const LOGS: [[u8; 56]; 3] = [
+/// What each dealer deals: 55779 + 1926x + 11950x².
+const PUBLIC: [u8; 7] = [3, 217, 227, 7, 134, 46, 174];
+
+/// The acknowledgements of the dealers 1 to 3 by all four players, as an executable model signs them.
+const ACKS: [[[u8; 8]; 4]; 3] = [
     [
-        0, 0, 0, 1, 3, 217, 227, 7, 134, 46, 174, 4, 0, 157, 175, 223, 238, 53, 87, 195, 182, 0,
-        86, 116, 41, 205, 101, 20, 133, 159, 0, 130, 10, 157, 65, 209, 103, 89, 70, 0, 51, 80, 187,
-        54, 204, 126, 143, 137, 255, 61, 32, 231, 116, 79, 112, 201,
+        [157, 175, 223, 238, 53, 87, 195, 182],
+        [86, 116, 41, 205, 101, 20, 133, 159],
+        [130, 10, 157, 65, 209, 103, 89, 70],
+        [51, 80, 187, 54, 204, 126, 143, 137],
     ],
     [
-        0, 0, 0, 2, 3, 217, 227, 7, 134, 46, 174, 4, 0, 52, 83, 37, 119, 162, 76, 232, 200, 0, 217,
-        1, 158, 104, 205, 206, 203, 143, 0, 61, 40, 13, 195, 223, 226, 199, 206, 0, 18, 81, 166,
-        76, 221, 111, 91, 26, 186, 134, 117, 110, 46, 15, 5, 167,
+        [52, 83, 37, 119, 162, 76, 232, 200],
+        [217, 1, 158, 104, 205, 206, 203, 143],
+        [61, 40, 13, 195, 223, 226, 199, 206],
+        [18, 81, 166, 76, 221, 111, 91, 26],
     ],
     [
-        0, 0, 0, 3, 3, 217, 227, 7, 134, 46, 174, 4, 0, 225, 248, 87, 14, 35, 29, 31, 114, 0, 186,
-        11, 144, 171, 8, 64, 60, 246, 0, 129, 45, 8, 192, 201, 206, 111, 73, 0, 241, 100, 81, 125,
-        242, 88, 242, 52, 130, 34, 132, 129, 239, 7, 140, 235,
+        [225, 248, 87, 14, 35, 29, 31, 114],
+        [186, 11, 144, 171, 8, 64, 60, 246],
+        [129, 45, 8, 192, 201, 206, 111, 73],
+        [241, 100, 81, 125, 242, 88, 242, 52],
     ],
 ];
 
-fn read_log(alloc: Global, bytes: &[u8]) -> Result<SignedDealerLog, CodecError> {
-    decode_cfg::<SignedDealerLog>(alloc, bytes, &4)
+/// A dealer's log, with these acknowledgements.
+fn log_of(alloc: Global, acks: &[[u8; 8]]) -> Result<DealerLog, Fail> {
+    let mut bytes = PUBLIC.to_vec(alloc)?;
+    bytes.push(4)?;
+    for ack in acks {
+        bytes.push(0)?;
+        bytes.extend_from_slice(ack)?;
+    }
+    Ok(decode_cfg::<DealerLog>(alloc, bytes.as_slice(), &4)?)
 }
 
 /// The logs by dealer.
 fn logs(alloc: Global) -> Result<Map<DealerLog>, Fail> {
     let mut pairs = Vec::new(alloc);
-    for bytes in LOGS.iter() {
-        let signed = read_log(alloc, bytes)?;
-        pairs.push((signed.dealer, signed.log))?;
+    let mut dealer = 0u32;
+    for acks in ACKS.iter() {
+        dealer = dealer.wrapping_add(1);
+        pairs.push((Key(dealer), log_of(alloc, acks)?))?;
     }
     if pairs.len() > 9 {
         return Err(Fail::from("too many logs"));
@@ -165,24 +179,20 @@ fn logs(alloc: Global) -> Result<Map<DealerLog>, Fail> {
     Ok(Map::from_any(alloc, pairs)?)
 }
 
-/// What the dealer of a log deals to this node.
-fn dealing_of(alloc: Global, bytes: &[u8]) -> Result<Heard, Fail> {
-    let SignedDealerLog { dealer, log, .. } = read_log(alloc, bytes)?;
-    let DealerLog { public, .. } = log;
-    let private = Private(Element::new(4134).ok_or("no element")?);
+/// What a dealer deals to this node.
+fn dealing_of(alloc: Global, dealer: u32) -> Result<Heard, Fail> {
     Ok(Heard {
-        dealer,
-        public,
-        private,
+        dealer: Key(dealer),
+        public: decode_cfg::<Public>(alloc, &PUBLIC, &4)?,
+        private: Private(Element::new(4134).ok_or("no element")?),
     })
 }
 
-/// What the dealers of the logs at these places deal to this node, each one behind the other.
-fn dealings_of(alloc: Global, places: &[usize]) -> Result<Vec<Heard>, Fail> {
+/// What these dealers deal to this node, each one behind the other.
+fn dealings_of(alloc: Global, dealers: &[u32]) -> Result<Vec<Heard>, Fail> {
     let mut heard = Vec::new(alloc);
-    for place in places {
-        let bytes = LOGS.get(*place).ok_or("no log")?;
-        heard.push(dealing_of(alloc, bytes)?)?;
+    for dealer in dealers {
+        heard.push(dealing_of(alloc, *dealer)?)?;
     }
     Ok(heard)
 }
@@ -247,14 +257,14 @@ fn share_by(
     }
 }
 
-/// The share that comes of the dealings of these places, over empty devices.
+/// The share that comes of these dealers' dealings, over empty devices.
 fn share_in_memory(
     alloc: Global,
-    places: &[usize],
+    dealers: &[u32],
     round: &Round,
     logs: &Map<DealerLog>,
 ) -> Result<Result<Option<u16>, FinishError>, Fail> {
-    let heard = dealings_of(alloc, places)?;
+    let heard = dealings_of(alloc, dealers)?;
     let mut memory = Memory::new(alloc);
     let share = share_by(alloc, heard, &mut memory.devices(), round, logs);
     drop(memory);
@@ -264,19 +274,19 @@ fn share_in_memory(
 /// That in a round of four.
 fn share_among_four(
     alloc: Global,
-    places: &[usize],
+    dealers: &[u32],
     logs: &Map<DealerLog>,
 ) -> Result<Result<Option<u16>, FinishError>, Fail> {
     let round = round_of(alloc, &StandCeremony)?;
-    let share = share_in_memory(alloc, places, &round, logs);
+    let share = share_in_memory(alloc, dealers, &round, logs);
     drop(round);
     share
 }
 
 /// That with the logs of the three.
-fn share_of(alloc: Global, places: &[usize]) -> Result<Result<Option<u16>, FinishError>, Fail> {
+fn share_of(alloc: Global, dealers: &[u32]) -> Result<Result<Option<u16>, FinishError>, Fail> {
     let logs = logs(alloc)?;
-    let share = share_among_four(alloc, places, &logs);
+    let share = share_among_four(alloc, dealers, &logs);
     drop(logs);
     share
 }
@@ -284,8 +294,8 @@ fn share_of(alloc: Global, places: &[usize]) -> Result<Result<Option<u16>, Finis
 #[test]
 fn a_player_ends_its_round_from_its_own_dealings(rt: HostRuntime) -> Result<(), Fail> {
     let missing = FinishError::MissingDealing { dealer: Key(2) };
-    is(&rt, share_of(rt.alloc(), &[2, 0, 1])?, Ok(Some(12402)));
-    is(&rt, share_of(rt.alloc(), &[2, 0])?, Err(missing));
+    is(&rt, share_of(rt.alloc(), &[3, 1, 2])?, Ok(Some(12402)));
+    is(&rt, share_of(rt.alloc(), &[3, 1])?, Err(missing));
     Ok(())
 }
 
