@@ -23,7 +23,7 @@ fn first(requests: &mut Requests<Unit>) -> Option<(u64, usize, bool)> {
 }
 
 /// A block that carries nothing.
-fn bare(alloc: Global, parent: Digest, height: u64) -> Mem<Block<Unit>> {
+pub(crate) fn bare(alloc: Global, parent: Digest, height: u64) -> Mem<Block<Unit>> {
     let context = Context {
         epoch: Epoch(0),
         view: height,

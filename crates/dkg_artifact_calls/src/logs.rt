@@ -2,40 +2,39 @@
 //! is dealt to player 1. The bytes are an independent program's.
 
 use dkg_ceremony::{Ceremony, DealerLog, Mode, Reveal, Round};
-use dkg_values::{Key, Map, MapCfg, Read, Set, decode_cfg};
+use dkg_values::{Key, Map, MapCfg, Set, decode_cfg};
 use std::alloc::Global;
 use std::test::Fail;
 
-/// The logs of both dealers.
-const BOTH: &str = "\
-02000000020000000302033f6c4791de4804016554004ff5af45bfe86c4d00c0f17a0fefc115c5009bccbffea38197fb\
-032703fa7e0a1a04012baa008a23942934bb7b6b00fff9ce644d4d1fac000fd80077ec945c46";
+/// Key 2's log.
+const SECOND: &str = "033f6c4791de4804016554004ff5af45bfe86c4d00c0f17a0fefc115c5009bccbffea38197fb";
 
-/// Key 2's log alone.
-const ONE: &str =
-    "010000000201033f6c4791de4804016554004ff5af45bfe86c4d00c0f17a0fefc115c5009bccbffea38197fb";
+/// Key 3's log.
+const THIRD: &str = "032703fa7e0a1a04012baa008a23942934bb7b6b00fff9ce644d4d1fac000fd80077ec945c46";
 
-/// The value that pairs of digits stand for.
-pub(crate) fn read<T: Read + Drop>(alloc: Global, text: &str, cfg: &T::Cfg) -> Result<T, Fail> {
+/// The logs that these pairs of digits spell, one behind the other.
+fn logs(alloc: Global, pieces: &[&str]) -> Result<Map<DealerLog>, Fail> {
+    let mut text = String::new(alloc);
+    for piece in pieces {
+        text.push_str(piece)?;
+    }
     let bytes = hex::decode(alloc, text.as_bytes())?;
-    Ok(decode_cfg::<T>(alloc, bytes.as_slice(), cfg)?)
-}
-
-fn logs(alloc: Global, text: &str) -> Result<Map<DealerLog>, Fail> {
     let limits = MapCfg {
         least: 0,
         most: 4,
         value: 4,
     };
-    read::<Map<DealerLog>>(alloc, text, &limits)
+    Ok(decode_cfg::<Map<DealerLog>>(alloc, bytes.as_slice(), &limits)?)
 }
 
+/// The logs of both dealers, behind their keys.
 pub(crate) fn both(alloc: Global) -> Result<Map<DealerLog>, Fail> {
-    logs(alloc, BOTH)
+    logs(alloc, &["02", "00000002", "00000003", "02", SECOND, THIRD])
 }
 
+/// Key 2's log alone.
 pub(crate) fn one(alloc: Global) -> Result<Map<DealerLog>, Fail> {
-    logs(alloc, ONE)
+    logs(alloc, &["01", "00000002", "01", SECOND])
 }
 
 pub(crate) fn round<C: Ceremony>(alloc: Global, ceremony: &C) -> Result<Round, Fail> {

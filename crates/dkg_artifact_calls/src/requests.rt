@@ -1,20 +1,13 @@
 //! Requests that wait, and a gate for the work that they make.
 
 use crate::asserts::{holds, is, is_copied};
-use crate::logs::read;
+use crate::fed::bare;
 use dkg_artifact::{Path, Request, Requests, WorkGate};
-use dkg_ceremony::ModeVersion;
-use dkg_infos::{Directory, Unit};
+use dkg_infos::Directory;
 use dkg_types::{Addresses, Block};
-use dkg_values::{Mem, Value};
+use dkg_values::{Digest, Mem, Value};
 use std::alloc::Global;
-use std::num::NonZeroU32;
 use std::test::Fail;
-
-/// A block with a dealer's log.
-const BLOCK: &str = "\
-000600000001000000000000000000000000000000000000000000000000000000000000000000e926f4cc1e45d580d99dc6583f2baa924ffab3e4aae5490b2b697e05a48a1738\
-0601000000000203bb9dd4a244740401d4c200f490adaf4b64393400e972ea55c1f97cf100c417eba59addc6f1a48bf47bafad256e";
 
 fn request<Dir: Directory>(alloc: Global, number: u64) -> Request<Dir> {
     Request {
@@ -67,14 +60,10 @@ fn compared<Dir: Directory + Drop>(alloc: Global, block: Block<Dir>) -> Mem<(boo
     Ok((copied, fed.same(&request(alloc, 4))))
 }
 
-fn block(alloc: Global) -> Result<Block<Unit>, Fail> {
-    let limit = NonZeroU32::new(4).ok_or("no limit")?;
-    read::<Block<Unit>>(alloc, BLOCK, &(limit, ModeVersion(0)))
-}
-
 #[test]
 fn a_request_is_what_it_was_fed(rt: HostRuntime) -> Result<(), Fail> {
-    let alike = compared(rt.alloc(), block(rt.alloc())?)?;
+    let block = bare(rt.alloc(), Digest([0; 32]), 6)?;
+    let alike = compared(rt.alloc(), block)?;
     is(&rt, alike, (true, false));
     Ok(())
 }
