@@ -1,71 +1,27 @@
 use crate::asserts::{holds, is, is_at};
-use crate::reading::faults_of;
 use dkg_ceremony::*;
 use std::alloc::Global;
 use std::test::Fail;
 
-/// Four players, 5 + x + 2x², each dealt by all four.
-const OUTPUT: [u8; 52] = [
-    0, 0, 0, 0, 0, 0, 0, 0, 0, 4, 3, 0, 5, 0, 1, 0, 2, 4, 0, 0, 0, 1, 0, 0, 0, 2, 0, 0, 0, 3, 0, 0,
-    0, 4, 4, 0, 0, 0, 1, 0, 0, 0, 2, 0, 0, 0, 3, 0, 0, 0, 4, 0,
-];
+/// The keys 1 to 4 as a set is spelled.
+const FOUR: [u8; 17] = [4, 0, 0, 0, 1, 0, 0, 0, 2, 0, 0, 0, 3, 0, 0, 0, 4];
 
-/// Bytes of a public half, and what reading them gives.
-const PUBLICS: &str = "\
-01fff0 None
-- Some(EndOfBuffer)
-0100 Some(EndOfBuffer)
-8000 Some(InvalidVarint)
-00 Some(InvalidLength { got: 0, max: 4 })
-05 Some(InvalidLength { got: 5, max: 4 })
-01fff1 Some(Invalid(Element))
-01000500 Some(ExtraData)
-";
-
-#[test]
-fn publics_are_refused(rt: HostRuntime) -> Result<(), Fail> {
-    let told = faults_of::<Public>(rt.alloc(), PUBLICS, &4)?;
-    is(&rt, told.as_str(), PUBLICS);
-    Ok(())
+/// The bytes of the worked output: four players, 5 + x + 2x², each dealt by all four.
+fn worked_bytes(alloc: Global) -> Mem<Vec<u8>> {
+    let mut bytes = [0; 8].to_vec(alloc)?;
+    bytes.extend_from_slice(&[0, 4, 3, 0, 5, 0, 1, 0, 2])?;
+    bytes.extend_from_slice(&FOUR)?;
+    bytes.extend_from_slice(&FOUR)?;
+    bytes.push(0)?;
+    Ok(bytes)
 }
 
-/// The worked output's bytes, of which one is another, and what reading them gives.
-const EDITS: &str = "\
-07000000000000000004030005000100020400000001000000020000000300000004040000000100000002000000030000000400 None
-00000000000000000104030005000100020400000001000000020000000300000004040000000100000002000000030000000400 Some(InvalidEnum(1))
-00000000000000000204030005000100020400000001000000020000000300000004040000000100000002000000030000000400 Some(InvalidEnum(2))
-00000000000000000003030005000100020400000001000000020000000300000004040000000100000002000000030000000400 Some(Invalid(Output))
-00000000000000000004850005000100020400000001000000020000000300000004040000000100000002000000030000000400 Some(InvalidVarint)
-00000000000000000004030005000100020500000001000000020000000300000004040000000100000002000000030000000400 Some(InvalidLength { got: 5, max: 4 })
-00000000000000000004030005000100020400000001000000010000000300000004040000000100000002000000030000000400 Some(Invalid(Set))
-00000000000000000004030005000100020400000001000000020000000300000004030000000100000002000000030000000400 Some(Invalid(Output))
-00000000000000000004030005000100020400000001000000020000000300000004040000000100000002000000030000000401 Some(EndOfBuffer)
-";
-
-/// Bytes of an output whose parts are each read, and what reading them gives.
-const OUTPUTS: &str = "\
-000000000000000001010100050001000000070100000007 None
-00000000000000000001020005000100010000000700 Some(Invalid(Output))
-00000000000000000000010005000000 Some(Invalid(Output))
-000000000000000000010100050001000000070100000008 Some(Invalid(Output))
-0000000000000000000101fff100010000000700 Some(Invalid(Element))
-000000000000000000010100050001000000070000 Some(ExtraData)
-";
-
-#[test]
-fn outputs_whose_parts_differ_are_refused(rt: HostRuntime) -> Result<(), Fail> {
-    let told = faults_of::<Output>(rt.alloc(), EDITS, &(4, ModeVersion(0)))?;
-    is(&rt, told.as_str(), EDITS);
-    let told = faults_of::<Output>(rt.alloc(), OUTPUTS, &(4, ModeVersion(1)))?;
-    is(&rt, told.as_str(), OUTPUTS);
-    Ok(())
+pub(crate) fn output(alloc: Global) -> Result<Output, Fail> {
+    let bytes = worked_bytes(alloc)?;
+    Ok(decode_cfg::<Output>(alloc, &bytes, &(4, ModeVersion(0)))?)
 }
 
-pub(crate) fn output(alloc: Global) -> Result<Output, CodecError> {
-    decode_cfg::<Output>(alloc, &OUTPUT, &(4, ModeVersion(0)))
-}
-
-fn public(alloc: Global, bytes: &[u8]) -> Result<Public, CodecError> {
+pub(crate) fn public(alloc: Global, bytes: &[u8]) -> Result<Public, CodecError> {
     decode_cfg::<Public>(alloc, bytes, &4)
 }
 
@@ -208,24 +164,25 @@ fn dealings_are_checked(rt: HostRuntime) -> Result<(), Fail> {
     Ok(())
 }
 
-/// What a player of any ceremony answers dealer 2.
-fn acknowledge<C: Ceremony>(
+/// What a player of any ceremony answers a dealer.
+pub(crate) fn acknowledge<C: Ceremony>(
     ceremony: &C,
     alloc: Global,
     signer: &C::Signer,
     round: &Round,
+    dealer: Key,
     public: &Public,
 ) -> Mem<Option<Ack>> {
     if !round.parts().players.has(signer.public_key()) {
         return Ok(None);
     }
-    Ok(Some(ceremony.ack(alloc, signer, round, Key(2), public)?))
+    Ok(Some(ceremony.ack(alloc, signer, round, dealer, public)?))
 }
 
 fn ack_of(alloc: Global, round: &Round) -> Result<Option<Ack>, Fail> {
     let public = public(alloc, &[3, 0, 15, 0, 7, 0, 1])?;
     let me = StandSigner::new(Key(1));
-    Ok(acknowledge(&StandCeremony, alloc, &me, round, &public)?)
+    Ok(acknowledge(&StandCeremony, alloc, &me, round, Key(2), &public)?)
 }
 
 fn worked_ack(alloc: Global, follows: bool) -> Result<Option<Ack>, Fail> {
@@ -342,7 +299,7 @@ fn copied_bytes(alloc: Global) -> Result<Blob, Fail> {
 #[test]
 fn a_copied_output_spells_the_same(rt: HostRuntime) -> Result<(), Fail> {
     let bytes = copied_bytes(rt.alloc())?;
-    is(&rt, bytes.as_slice(), OUTPUT.as_slice());
+    is(&rt, bytes.as_slice(), worked_bytes(rt.alloc())?.as_slice());
     is(&rt, output(rt.alloc())?.encode_size(), 52);
     Ok(())
 }

@@ -11,8 +11,6 @@ mod epochers;
 #[cfg(test)]
 mod logs;
 #[cfg(test)]
-mod reading;
-#[cfg(test)]
 mod rounds;
 #[cfg(test)]
 mod values;

@@ -1,61 +1,75 @@
-//! Logs as bytes, and the worked round of three of them.
+//! Logs, and what a player takes from the worked round of three of them.
 use crate::asserts::{holds, is, is_at};
-use crate::ceremony::{followed_round, output, worked_round};
-use crate::reading::faults_of;
-use crate::rounds::{deal, finish, is_seen, map_of, observe};
+use crate::ceremony::{acknowledge, followed_round, output, public, worked_round};
+use crate::rounds::{deal, finish, is_seen, map_of};
 use dkg_ceremony::*;
 use std::alloc::Global;
 use std::test::Fail;
 
-/// The logs of dealers 1 to 3 in the worked round: 8 + x, 15 + 7x + x², 26 + 2x², acknowledged by all four players.
-const LOGS: [[u8; 56]; 3] = [
-    [
-        0, 0, 0, 1, 3, 0, 8, 0, 1, 0, 0, 4, 0, 243, 36, 54, 95, 5, 4, 11, 77, 0, 202, 99, 46, 102,
-        53, 126, 227, 24, 0, 10, 174, 228, 245, 252, 35, 133, 51, 0, 187, 99, 121, 57, 58, 145, 80,
-        46, 128, 61, 213, 209, 22, 57, 115, 56,
-    ],
-    [
-        0, 0, 0, 2, 3, 0, 15, 0, 7, 0, 1, 4, 0, 19, 72, 132, 72, 111, 147, 125, 53, 0, 60, 186,
-        180, 173, 37, 5, 89, 187, 0, 98, 236, 155, 100, 172, 158, 60, 96, 0, 53, 210, 90, 111, 49,
-        249, 160, 0, 128, 143, 198, 40, 248, 59, 24, 184,
-    ],
-    [
-        0, 0, 0, 3, 3, 0, 26, 0, 0, 0, 2, 4, 0, 27, 45, 144, 165, 241, 5, 57, 239, 0, 82, 236, 240,
-        25, 14, 254, 97, 191, 0, 244, 139, 153, 157, 100, 143, 47, 116, 0, 44, 51, 218, 46, 0, 233,
-        119, 127, 111, 205, 33, 53, 114, 47, 239, 110,
-    ],
+/// What dealers 1 to 3 deal in the worked round: 8 + x, 15 + 7x + x², 26 + 2x² as they are spelled, and player 1's private halves.
+const DEALT: [(u32, [u8; 7], u16); 3] = [
+    (1, [3, 0, 8, 0, 1, 0, 0], 9),
+    (2, [3, 0, 15, 0, 7, 0, 1], 23),
+    (3, [3, 0, 26, 0, 0, 0, 2], 28),
 ];
 
-/// The output of the three: 5 - 18x - x² modulo 65,521.
-const OUTCOME: [u8; 52] = [
-    129, 254, 124, 14, 58, 13, 227, 188, 0, 4, 3, 0, 5, 255, 223, 255, 240, 4, 0, 0, 0, 1, 0, 0, 0,
-    2, 0, 0, 0, 3, 0, 0, 0, 4, 4, 0, 0, 0, 1, 0, 0, 0, 2, 0, 0, 0, 3, 0, 0, 0, 4, 0,
-];
-
-fn read_log(alloc: Global, bytes: &[u8]) -> Result<SignedDealerLog, CodecError> {
-    decode_cfg::<SignedDealerLog>(alloc, bytes, &4)
+/// The acknowledgements of all four players.
+fn entries_of(
+    alloc: Global,
+    round: &Round,
+    dealer: u32,
+    public: &Public,
+) -> Result<LogEntries, Fail> {
+    let mut entries = Vec::new(alloc);
+    for player in 1..5 {
+        let me = StandSigner::new(Key(player));
+        let ack = acknowledge(&StandCeremony, alloc, &me, round, Key(dealer), public)?;
+        entries.push(LogEntry::Ack(ack.ok_or("a player acknowledges")?))?;
+    }
+    if entries.len() > 9 {
+        return Err(Fail::from("too many entries"));
+    }
+    Ok(LogEntries::new(alloc, entries)?)
 }
 
-fn logs(alloc: Global, count: usize) -> Result<Map<DealerLog>, Fail> {
+/// A dealer's log in the worked round, which all four players acknowledged.
+fn log_of(alloc: Global, round: &Round, dealer: u32, bytes: &[u8]) -> Result<DealerLog, Fail> {
+    let public = public(alloc, bytes)?;
+    let entries = entries_of(alloc, round, dealer, &public)?;
+    Ok(DealerLog { public, entries })
+}
+
+/// The log of dealer 2, with the mark that an independent program gives it.
+fn signed(alloc: Global) -> Result<SignedDealerLog, Fail> {
+    let round = followed_round(alloc)?;
+    let log = log_of(alloc, &round, 2, &[3, 0, 15, 0, 7, 0, 1])?;
+    Ok(SignedDealerLog {
+        dealer: Key(2),
+        log,
+        mark: Mark([0x80, 0x8f, 0xc6, 0x28, 0xf8, 0x3b, 0x18, 0xb8]),
+    })
+}
+
+fn logs(alloc: Global, round: &Round, count: usize) -> Result<Map<DealerLog>, Fail> {
     let mut pairs = Vec::new(alloc);
-    for bytes in LOGS.iter().take(count) {
-        let signed = read_log(alloc, bytes)?;
-        pairs.push((signed.dealer, signed.log))?;
+    for (dealer, bytes, _) in DEALT.iter().take(count) {
+        pairs.push((Key(*dealer), log_of(alloc, round, *dealer, bytes)?))?;
     }
     map_of(alloc, pairs)
+}
+
+/// What a dealer deals to player 1.
+fn dealing(alloc: Global, bytes: &[u8], value: u16) -> Result<(Public, Private), Fail> {
+    let element = Element::new(value).ok_or("an element")?;
+    Ok((public(alloc, bytes)?, Private(element)))
 }
 
 /// The dealings of the three to player 1, but for one dealer's.
 fn dealings(alloc: Global, without: u32) -> Result<Map<(Public, Private)>, Fail> {
     let mut pairs = Vec::new(alloc);
-    let values = [9, 23, 28];
-    for (place, bytes) in LOGS.iter().enumerate() {
-        let SignedDealerLog { dealer, log, .. } = read_log(alloc, bytes)?;
-        let DealerLog { public, .. } = log;
-        let value = values.get(place).copied().unwrap_or(0);
-        let private = Private(Element::new(value).ok_or("an element")?);
-        if dealer.0 != without {
-            pairs.push((dealer, (public, private)))?;
+    for (dealer, bytes, value) in &DEALT {
+        if *dealer != without {
+            pairs.push((Key(*dealer), dealing(alloc, bytes, *value)?))?;
         }
     }
     map_of(alloc, pairs)
@@ -76,7 +90,7 @@ fn share_of(
     without: u32,
 ) -> Result<Result<Option<u16>, FinishError>, Fail> {
     let round = followed_round(alloc)?;
-    let logs = logs(alloc, count)?;
+    let logs = logs(alloc, &round, count)?;
     let dealings = dealings(alloc, without)?;
     match finish(&StandCeremony, alloc, &round, Key(1), &dealings, &logs)? {
         Ok(found) => Ok(Ok(share_in(&found))),
@@ -96,21 +110,6 @@ fn dealings_may_be_missing(rt: HostRuntime) -> Result<(), Fail> {
         let share = share_of(rt.alloc(), count, without)?;
         is_at(&rt, share, want, (count, without));
     }
-    Ok(())
-}
-
-/// The bytes of what all see of the three logs.
-fn seen_bytes(alloc: Global) -> Result<Blob, Fail> {
-    let round = followed_round(alloc)?;
-    let logs = logs(alloc, 3)?;
-    let seen = observe(&StandCeremony, alloc, &round, &logs)?;
-    Ok(encode(alloc, &seen.ok_or("three logs are enough")?)?)
-}
-
-#[test]
-fn worked_logs_make_the_outcome(rt: HostRuntime) -> Result<(), Fail> {
-    let bytes = seen_bytes(rt.alloc())?;
-    is(&rt, bytes.as_slice(), OUTCOME.as_slice());
     Ok(())
 }
 
@@ -142,7 +141,7 @@ fn is_accepted<C: Ceremony>(
 /// What is said of the log of dealer 2, under another dealer's name or its own.
 fn acceptance(alloc: Global, dealer: u32, player: u32) -> Result<(bool, bool), Fail> {
     let round = followed_round(alloc)?;
-    let mut signed = read_log(alloc, &LOGS[1])?;
+    let mut signed = signed(alloc)?;
     signed.dealer = Key(dealer);
     Ok(is_accepted(&StandCeremony, alloc, &round, &signed, Key(player))?)
 }
@@ -201,26 +200,6 @@ fn shares_are_asked_for(rt: HostRuntime) -> Result<(), Fail> {
     Ok(())
 }
 
-/// Bytes of a log, and what reading them gives.
-const LOG_FAULTS: &str = "\
-01000501010005 None
-01000500 None
-010005 Some(EndOfBuffer)
-0000 Some(InvalidLength { got: 0, max: 4 })
-01000505 Some(InvalidLength { got: 5, max: 4 })
-01000501020005 Some(InvalidEnum(2))
-010005010001020304050607 Some(EndOfBuffer)
-0100050101fff1 Some(Invalid(Element))
-0100050009 Some(ExtraData)
-";
-
-#[test]
-fn logs_are_refused(rt: HostRuntime) -> Result<(), Fail> {
-    let told = faults_of::<DealerLog>(rt.alloc(), LOG_FAULTS, &4)?;
-    is(&rt, told.as_str(), LOG_FAULTS);
-    Ok(())
-}
-
 /// A log that is written and read again, where the limit allows it.
 fn log_again(
     alloc: Global,
@@ -238,7 +217,7 @@ fn log_again(
 
 #[test]
 fn logs_are_written_and_read(rt: HostRuntime) -> Result<(), Fail> {
-    let signed = read_log(rt.alloc(), &LOGS[0])?;
+    let signed = signed(rt.alloc())?;
     let again = log_again(rt.alloc(), &signed, 4)?;
     holds(&rt, again.ok_or("the limit allows it")?.same(&signed));
     let few = log_again(rt.alloc(), &signed, 3)?;
@@ -248,7 +227,7 @@ fn logs_are_written_and_read(rt: HostRuntime) -> Result<(), Fail> {
 
 #[test]
 fn logs_are_copied(rt: HostRuntime) -> Result<(), Fail> {
-    let signed = read_log(rt.alloc(), &LOGS[0])?;
+    let signed = signed(rt.alloc())?;
     holds(&rt, signed.copy(rt.alloc())?.same(&signed));
     is(&rt, signed.encode_size(), 56);
     no_prefix::<SignedDealerLog>();

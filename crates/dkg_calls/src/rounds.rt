@@ -64,16 +64,6 @@ pub(crate) fn finish<C: Ceremony>(
     Ok(ceremony.finish(alloc, round, me, dealings, logs))
 }
 
-/// What all see of a round of any ceremony.
-pub(crate) fn observe<C: Ceremony>(
-    ceremony: &C,
-    alloc: Global,
-    round: &Round,
-    logs: &Map<DealerLog>,
-) -> Mem<Option<Output>> {
-    ceremony.observe(alloc, round, logs)
-}
-
 /// Whether a share's public element is the one that an output of any ceremony has for player 1.
 pub(crate) fn is_seen<C: Ceremony>(ceremony: &C, output: &Output, share: &Share) -> bool {
     ceremony.partial_public(output, Key(1)) == Some(ceremony.share_public(share))
