@@ -1,7 +1,7 @@
 use crate::asserts::{holds, is, is_at};
 use dkg_ceremony::{
-    CodecError, Digest, Element, EncodeSize, Epoch, Height, Key, Map, Mark, Mem, ModeVersion,
-    NoMemory, Private, Public, Read, Set, Share, Value, Write, decode_cfg, encode, round_trip,
+    Digest, Element, EncodeSize, Epoch, Height, Key, Map, Mark, Mem, ModeVersion, NoMemory,
+    Private, Public, Set, Share, Value, decode_cfg, encode, round_trip,
 };
 use dkg_infos::*;
 use dkg_types::*;
@@ -9,19 +9,28 @@ use std::alloc::Global;
 use std::num::NonZeroU32;
 use std::test::Fail;
 
-/// Success, epoch 0, four players who share 5 + x + 2x², the same players now and next.
-const INFO: [u8; 88] = [
-    0, 0, 0, 0, 0, 0, 0, 0, 0, 0, 0, 4, 3, 0, 5, 0, 1, 0, 2, 4, 0, 0, 0, 1, 0, 0, 0, 2, 0, 0, 0, 3,
-    0, 0, 0, 4, 4, 0, 0, 0, 1, 0, 0, 0, 2, 0, 0, 0, 3, 0, 0, 0, 4, 0, 4, 0, 0, 0, 1, 0, 0, 0, 2, 0,
-    0, 0, 3, 0, 0, 0, 4, 4, 0, 0, 0, 1, 0, 0, 0, 2, 0, 0, 0, 3, 0, 0, 0, 4,
-];
+/// The keys 1 to 4 as a set is spelled.
+const FOUR: [u8; 17] = [4, 0, 0, 0, 1, 0, 0, 0, 2, 0, 0, 0, 3, 0, 0, 0, 4];
+
+/// The bytes of an info: success, epoch 0, four players who share 5 + x + 2x², the same players now and next.
+fn info_bytes(alloc: Global) -> Mem<Vec<u8>> {
+    let mut bytes = [0; 10].to_vec(alloc)?;
+    bytes.extend_from_slice(&[0, 4, 3, 0, 5, 0, 1, 0, 2])?;
+    bytes.extend_from_slice(&FOUR)?;
+    bytes.extend_from_slice(&FOUR)?;
+    bytes.push(0)?;
+    bytes.extend_from_slice(&FOUR)?;
+    bytes.extend_from_slice(&FOUR)?;
+    Ok(bytes)
+}
 
 fn four() -> Result<NonZeroU32, Fail> {
     Ok(NonZeroU32::new(4).ok_or("four is not zero")?)
 }
 
 fn info(alloc: Global) -> Result<EpochInfo<Unit>, Fail> {
-    Ok(decode_cfg::<EpochInfo<Unit>>(alloc, &INFO, &limits()?)?)
+    let bytes = info_bytes(alloc)?;
+    Ok(decode_cfg::<EpochInfo<Unit>>(alloc, &bytes, &limits()?)?)
 }
 
 fn keys(alloc: Global, count: u32) -> Result<Set, Fail> {
@@ -39,55 +48,18 @@ fn limits() -> Result<(NonZeroU32, ModeVersion), Fail> {
     Ok((four()?, ModeVersion(0)))
 }
 
-/// The worked info as a payload.
-const PAYLOAD: [u8; 89] = [
-    1, 0, 0, 0, 0, 0, 0, 0, 0, 0, 0, 0, 4, 3, 0, 5, 0, 1, 0, 2, 4, 0, 0, 0, 1, 0, 0, 0, 2, 0, 0, 0,
-    3, 0, 0, 0, 4, 4, 0, 0, 0, 1, 0, 0, 0, 2, 0, 0, 0, 3, 0, 0, 0, 4, 0, 4, 0, 0, 0, 1, 0, 0, 0, 2,
-    0, 0, 0, 3, 0, 0, 0, 4, 4, 0, 0, 0, 1, 0, 0, 0, 2, 0, 0, 0, 3, 0, 0, 0, 4,
-];
-
-/// A payload that is a log: dealer 2's of 15 + 7x + x², acknowledged by all four players.
-const LOG: [u8; 57] = [
-    0, 0, 0, 0, 2, 3, 0, 15, 0, 7, 0, 1, 4, 0, 19, 72, 132, 72, 111, 147, 125, 53, 0, 60, 186, 180,
-    173, 37, 5, 89, 187, 0, 98, 236, 155, 100, 172, 158, 60, 96, 0, 53, 210, 90, 111, 49, 249, 160,
-    0, 128, 143, 198, 40, 248, 59, 24, 184,
-];
+/// A payload that is a log: dealer 2's of one coefficient, and no entry.
+const LOG: [u8; 17] = [0, 0, 0, 0, 2, 1, 0, 5, 0, 1, 2, 3, 4, 5, 6, 7, 8];
 
 fn payload_of(alloc: Global, bytes: &[u8]) -> Result<Payload<Unit>, Fail> {
     Ok(decode_cfg::<Payload<Unit>>(alloc, bytes, &limits()?)?)
-}
-
-/// Whether the bytes are a value of which a copy is spelled so again.
-fn is_spelled<T: Read + Value + Write + EncodeSize + Drop>(
-    alloc: Global,
-    bytes: &[u8],
-    cfg: &T::Cfg,
-) -> Result<bool, Fail>
-    requires { (v : T) → T.can_size v }
-{
-    let value = decode_cfg::<T>(alloc, bytes, cfg)?;
-    let copy = value.copy(alloc)?;
-    Ok(copy.same(&value) && encode(alloc, &copy)?.as_slice() == bytes)
-}
-
-#[test]
-fn payloads_are_spelled_as_they_were_read(rt: HostRuntime) -> Result<(), Fail> {
-    holds(
-        &rt,
-        is_spelled::<Payload<Unit>>(rt.alloc(), &LOG, &limits()?)?,
-    );
-    holds(
-        &rt,
-        is_spelled::<Payload<Unit>>(rt.alloc(), &PAYLOAD, &limits()?)?,
-    );
-    Ok(())
 }
 
 #[test]
 fn a_log_is_no_info(rt: HostRuntime) -> Result<(), Fail> {
     let alloc = rt.alloc();
     let log = payload_of(alloc, &LOG)?;
-    holds(&rt, !log.same(&payload_of(alloc, &PAYLOAD)?));
+    holds(&rt, !log.same(&Payload::EpochInfo(info(alloc)?)));
     let block = block_of(alloc, log)?;
     holds(&rt, block.payload().is_some());
     holds(&rt, block.epoch_info().is_none());
@@ -165,32 +137,17 @@ fn participants_are_validated_in_order(rt: HostRuntime) -> Result<(), Fail> {
 }
 
 #[test]
-fn outcomes_and_messages_are_read(rt: HostRuntime) -> Result<(), Fail> {
+fn outcomes_are_read(rt: HostRuntime) -> Result<(), Fail> {
     let alloc = rt.alloc();
-    let rows: [(&[u8], Result<EpochOutcome, CodecError>); 3] = [
-        (&[0], Ok(EpochOutcome::Success)),
-        (&[1], Ok(EpochOutcome::Failure)),
-        (&[2], Err(CodecError::InvalidEnum(2))),
-    ];
-    for (bytes, want) in rows {
-        is(&rt, decode_cfg::<EpochOutcome>(alloc, bytes, &()), want);
-    }
+    is(
+        &rt,
+        decode_cfg::<EpochOutcome>(alloc, &[0], &()),
+        Ok(EpochOutcome::Success),
+    );
     is(
         &rt,
         round_trip(alloc, &EpochOutcome::Failure, &()),
         Ok(EpochOutcome::Failure),
-    );
-    Ok(())
-}
-
-#[test]
-fn messages_are_spelled_as_they_were_read(rt: HostRuntime) -> Result<(), Fail> {
-    let alloc = rt.alloc();
-    let dealing = [0, 3, 0, 15, 0, 7, 0, 1, 0, 23];
-    holds(&rt, is_spelled::<Message>(alloc, &dealing, &4)?);
-    holds(
-        &rt,
-        is_spelled::<Message>(alloc, &[1, 1, 2, 3, 4, 5, 6, 7, 8], &4)?,
     );
     Ok(())
 }
@@ -299,24 +256,6 @@ fn a_block_has_the_digest_of_its_encoding(rt: HostRuntime) -> Result<(), Fail> {
     is(&rt, block.parent(), Digest([9; 32]));
     is(&rt, block.context().view, 300);
     holds(&rt, block.epoch_info().is_some());
-    Ok(())
-}
-
-/// The bytes of that block.
-const BLOCK: [u8; 163] = [
-    1, 0xac, 2, 0, 0, 0, 3, 2, 0, 1, 2, 3, 4, 5, 6, 7, 8, 9, 0x0a, 0x0b, 0x0c, 0x0d, 0x0e, 0x0f,
-    0x10, 0x11, 0x12, 0x13, 0x14, 0x15, 0x16, 0x17, 0x18, 0x19, 0x1a, 0x1b, 0x1c, 0x1d, 0x1e, 0x1f,
-    9, 9, 9, 9, 9, 9, 9, 9, 9, 9, 9, 9, 9, 9, 9, 9, 9, 9, 9, 9, 9, 9, 9, 9, 9, 9, 9, 9, 9, 9, 9, 9,
-    0x0f, 1, 1, 0, 0, 0, 0, 0, 0, 0, 0, 0, 0, 0, 4, 3, 0, 5, 0, 1, 0, 2, 4, 0, 0, 0, 1, 0, 0, 0, 2,
-    0, 0, 0, 3, 0, 0, 0, 4, 4, 0, 0, 0, 1, 0, 0, 0, 2, 0, 0, 0, 3, 0, 0, 0, 4, 0, 4, 0, 0, 0, 1, 0,
-    0, 0, 2, 0, 0, 0, 3, 0, 0, 0, 4, 4, 0, 0, 0, 1, 0, 0, 0, 2, 0, 0, 0, 3, 0, 0, 0, 4,
-];
-
-#[test]
-fn a_block_is_spelled_with_its_payload(rt: HostRuntime) -> Result<(), Fail> {
-    let block = later_block(rt.alloc())?;
-    let bytes = encode(rt.alloc(), &block)?;
-    is(&rt, bytes.as_slice(), BLOCK.as_slice());
     Ok(())
 }
 
@@ -600,7 +539,7 @@ fn entries_are_copied_and_compared(rt: HostRuntime) -> Result<(), Fail> {
 #[test]
 fn what_is_held_is_within_its_bound(rt: HostRuntime) -> Result<(), Fail> {
     let alloc = rt.alloc();
-    let block = block_of(alloc, payload_of(alloc, &PAYLOAD)?)?;
+    let block = later_block(alloc)?;
     block.fits_limits();
     is(&rt, block.encode_size(), 163);
     is(&rt, Block::<Unit>::max_encode_size(four()?), 253);
