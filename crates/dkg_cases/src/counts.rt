@@ -66,6 +66,31 @@ fn first_difference<'a>(wanted: &'a [u8], got: &'a [u8]) -> (u64, &'a [u8], &'a 
     (number, none, others.next().unwrap_or(none))
 }
 
+/// Tells the first line in which what was written isn't what is wanted, and both lines.
+fn tell_first<W: Write>(alloc: Global, wanted: &[u8], got: &[u8], sink: &mut W) -> io::Result<()> {
+    let (number, wanted, got) = first_difference(wanted, got);
+    let line = format!(in alloc; "line {number}: wanted ")?;
+    sink.write_all(line.as_bytes())?;
+    sink.write_all(wanted)?;
+    sink.write_all(b", got ")?;
+    sink.write_all(got)?;
+    sink.write_all(b"\n")
+}
+
+/// Tells a case that differs: the first line in which what was told isn't what is wanted, and both lines.
+pub(crate) fn tell_difference<W: Write>(
+    alloc: Global,
+    form: &str,
+    name: &str,
+    wanted: &[u8],
+    got: &[u8],
+    sink: &mut W,
+) -> io::Result<()> {
+    let line = format!(in alloc; "{form} {name}: ")?;
+    sink.write_all(line.as_bytes())?;
+    tell_first(alloc, wanted, got, sink)
+}
+
 /// Tells a case that differs: the status that it ended with, the first line in which what was written isn't what is wanted, and both lines.
 pub fn tell_lines<W: Write>(
     alloc: Global,
@@ -75,14 +100,10 @@ pub fn tell_lines<W: Write>(
     bytes: &[u8],
     sink: &mut W,
 ) -> io::Result<()> {
-    let (number, wanted, got) = first_difference(case.transcript, bytes);
     let line = format!(in alloc;
-        "{form} {}: status {status} for {}, line {number}: wanted ",
+        "{form} {}: status {status} for {}, ",
         case.name, case.status
     )?;
     sink.write_all(line.as_bytes())?;
-    sink.write_all(wanted)?;
-    sink.write_all(b", got ")?;
-    sink.write_all(got)?;
-    sink.write_all(b"\n")
+    tell_first(alloc, case.transcript, bytes, sink)
 }

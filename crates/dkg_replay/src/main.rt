@@ -1,6 +1,6 @@
 //! Replays scripts whose transcripts an independent model wrote, and tells each difference.
 //!
-//! Beside the program lie a file of the forms' names, a file a form, one of encoded values and one of scanned ancestries, which
+//! Beside the program lie a file of the forms' names, a file a form, one of encoded values, one of scanned ancestries and one of probes, which
 //! `tools/replay-data` makes, the examples, whose transcripts it makes, and a file of what persons are told, which `tools/told-cases` makes. It prints a line a file, one for the examples, one for the scripts that were written again, and a total,
 //! and ends with status 1 where something differs or a file can't be read.
 #![tactic(auto)]
@@ -45,6 +45,16 @@ fn scan_paths(rt: &HostRuntime) -> io::Result<Count> {
     Ok(count)
 }
 
+/// Plays the probes.
+fn play_probes(rt: &HostRuntime) -> io::Result<Count> {
+    let alloc = rt.alloc();
+    let bytes = fs::read(rt, "probes.cases")?;
+    let mut sink = io::writer(rt);
+    let count = dkg_cases::play_probes(alloc, bytes.as_slice(), &mut sink)?;
+    tell_count(alloc, "probes", &count, &mut sink)?;
+    Ok(count)
+}
+
 /// Runs the scripts of which a person is told something.
 fn tell_persons(rt: &HostRuntime) -> io::Result<Count> {
     let alloc = rt.alloc();
@@ -67,13 +77,14 @@ fn replay_forms(rt: &HostRuntime, total: &mut Count) -> io::Result<()> {
     Ok(())
 }
 
-/// Runs the examples, replays all forms, reads all values, scans all ancestries, and compares what
-/// persons are told.
+/// Runs the examples, replays all forms, reads all values, scans all ancestries, plays all probes, and
+/// compares what persons are told.
 fn replay_all(rt: &HostRuntime) -> io::Result<Count> {
     let mut total = examples::all(rt, &mut io::writer(rt))?;
     replay_forms(rt, &mut total)?;
     total.add(&read_values(rt)?);
     total.add(&scan_paths(rt)?);
+    total.add(&play_probes(rt)?);
     total.add(&tell_persons(rt)?);
     tell_count(rt.alloc(), "all", &total, &mut io::writer(rt))?;
     Ok(total)
