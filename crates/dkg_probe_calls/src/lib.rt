@@ -1,15 +1,11 @@
-//! Tests of `dkg_probe`: its steps against an executable model, the bytes of its messages, and a probe behind a lock.
+//! Tests of `dkg_probe`: a directory without one of the peers, the bytes of its messages, and a probe behind a lock.
 #![tactic(auto)]
 
+#[cfg(test)]
+mod addresses;
 #[cfg(test)]
 mod asserts;
 #[cfg(test)]
 mod lock;
-#[cfg(test)]
-mod parts;
-#[cfg(test)]
-mod probe_cases;
-#[cfg(test)]
-mod steps;
 #[cfg(test)]
 mod wire;

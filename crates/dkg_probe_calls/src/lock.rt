@@ -4,7 +4,7 @@ ghost use Rattle.dkg_probe.specs.Mailboxes.{Meets};
 ghost use Rattle.dkg_turn.specs.Passes.{IsPassOf};
 
 use crate::asserts::{holds, is};
-use crate::parts::{Held, Probe, chain, new_probe};
+use dkg_cases::{HeldBlocks, PlainProbe, held_blocks, plain_probe};
 use dkg_ceremony::{Mem, Value};
 use dkg_infos::{Directory, Transcript, Unit};
 use dkg_probe::{Actor, Artifact, Blocks, Event, HasProbe, Mailbox, ProbeStop};
@@ -39,8 +39,8 @@ where
 /// A probe behind a lock, with its source. Want of memory stops it.
 #[derive(Drop)]
 struct Node {
-    probe: Probe,
-    source: Held,
+    probe: PlainProbe,
+    source: HeldBlocks,
     out: Transcript,
     stopped: bool,
 }
@@ -197,8 +197,8 @@ fn asked<Dir: Drop, T: HasProbe<Dir>, R: Wait>(
 
 /// A node that nobody asked anything yet.
 fn new_node(alloc: Global) -> Result<Node, Fail> {
-    let source = chain(alloc, 0)?;
-    let probe = new_probe(alloc, 1, None)?;
+    let source = held_blocks(alloc, 0).ok_or("no source")?;
+    let probe = plain_probe(alloc, 1, None).ok_or("no probe")?;
     Ok(Node {
         probe,
         source,

@@ -1,7 +1,7 @@
 //! The bytes of requests, finalizations and blocks, and a sample.
 
 use crate::asserts::{holds, is};
-use crate::parts::{block_at, limits, sealed};
+use dkg_cases::{held_block, probe_limits, sealed};
 use dkg_ceremony::{CodecError, Digest, Epoch, Key, What, encode};
 use dkg_infos::Unit;
 use dkg_probe::{
@@ -56,7 +56,7 @@ fn is_latest(alloc: Global, bytes: &[u8], finalization: &Finalization) -> bool {
 #[test]
 fn finalizations_have_their_bytes(rt: HostRuntime) -> Result<(), Fail> {
     let alloc = rt.alloc();
-    let one = sealed(alloc, 1, 9, 1)?;
+    let one = sealed(alloc, 1, 9, 1).ok_or("no finalization")?;
     let bytes = encode(alloc, &Message::<Unit>::LatestResponse(one))?;
     holds(&rt, bytes.as_slice().starts_with(&[5]));
     holds(&rt, is_latest(alloc, bytes.as_slice(), &one));
@@ -65,7 +65,7 @@ fn finalizations_have_their_bytes(rt: HostRuntime) -> Result<(), Fail> {
 
 /// Whether a body is read as the block of one digest, and refused as that of another.
 fn is_block(alloc: Global, body: &[u8], one: &Digest, other: &Digest) -> Result<bool, Fail> {
-    let limits = limits()?;
+    let limits = probe_limits().ok_or("no limits")?;
     let read = read_block::<Unit>(alloc, body, one, &limits);
     let refused = read_block::<Unit>(alloc, body, other, &limits);
     Ok(read.is_ok() && refused.err() == Some(CodecError::Invalid(What::Commitment)))
@@ -99,12 +99,13 @@ fn is_answer(alloc: Global, bytes: &[u8], epoch: Epoch, digest: &Digest) -> Resu
 fn blocks_have_their_bytes(rt: HostRuntime) -> Result<(), Fail> {
     let alloc = rt.alloc();
     let epoch = Epoch(300);
-    let block = block_at(alloc, 1, Digest([1; 32]))?;
+    let block = held_block(alloc, 1, Digest([1; 32])).ok_or("no block")?;
     let digest = block.digest();
     let bytes = encode(alloc, &Message::BlockResponse { epoch, block })?;
     let right = is_answer(alloc, bytes.as_slice(), epoch, &digest)?;
     holds(&rt, right);
-    is(&rt, max_payload_size::<Unit>(limits()?.0), 264);
+    let (most, _) = probe_limits().ok_or("no limits")?;
+    is(&rt, max_payload_size::<Unit>(most), 264);
     is(&rt, Message::<Unit>::max_encode_size(4, 253), 264);
     Ok(())
 }
@@ -121,8 +122,8 @@ fn record_three(sample: &mut Sample, one: Finalization, two: Finalization) -> Re
 
 #[test]
 fn a_sample_chooses_the_highest(rt: HostRuntime) -> Result<(), Fail> {
-    let one = sealed(rt.alloc(), 1, 9, 1)?;
-    let two = sealed(rt.alloc(), 2, 3, 2)?;
+    let one = sealed(rt.alloc(), 1, 9, 1).ok_or("no finalization")?;
+    let two = sealed(rt.alloc(), 2, 3, 2).ok_or("no finalization")?;
     let mut sample = Sample::new(rt.alloc(), Epoch(1));
     is(&rt, sample.minimum(), Epoch(1));
     let right = record_three(&mut sample, one, two)?;
