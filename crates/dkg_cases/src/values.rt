@@ -51,15 +51,17 @@ fn what_of(name: &str) -> Option<What> {
 }
 
 /// The error of a number, and of the fields behind it.
-fn fault_of<'a>(number: u8, mut fields: impl Iterator<Item = &'a str>) -> Option<CodecError> {
-    let field = fields.next()?;
+fn fault_of(number: u8, fields: &str) -> Option<CodecError> {
     match number {
-        3 => Some(CodecError::InvalidLength {
-            got: field.parse::<u64>().ok()?,
-            max: fields.next()?.parse::<u64>().ok()?,
-        }),
-        4 => Some(CodecError::InvalidEnum(field.parse::<u8>().ok()?)),
-        5 => Some(CodecError::Invalid(what_of(field)?)),
+        3 => {
+            let (got, max) = fields.split_once(':')?;
+            Some(CodecError::InvalidLength {
+                got: got.parse::<u64>().ok()?,
+                max: max.parse::<u64>().ok()?,
+            })
+        }
+        4 => Some(CodecError::InvalidEnum(fields.parse::<u8>().ok()?)),
+        5 => Some(CodecError::Invalid(what_of(fields)?)),
         _ => None,
     }
 }
@@ -71,8 +73,7 @@ fn wanted_of(text: &str) -> Option<Wanted> {
             number => Wanted::Number(number),
         });
     };
-    let fault = fault_of(number.parse::<u8>().ok()?, fields.split(':'))?;
-    Some(Wanted::Fault(fault))
+    Some(Wanted::Fault(fault_of(number.parse::<u8>().ok()?, fields)?))
 }
 
 fn line_of(text: &str) -> Option<Line<'_>> {
