@@ -1,5 +1,5 @@
 -- A player that has acknowledged nothing, and what a recording leaves.
-use Rattle.std.proofs.Common.{◌≡◌, inr, ℕ, List, Option, Some, None, Result, Err, IsErr, Contains, IfSome, IsSome, is_some, if◌then◌else◌, refl, ap, subst, sym, ◌∙◌}
+use Rattle.std.proofs.Common.{◌≡◌, inr, ℕ, List, Option, Some, None, Result, Err, IsErr, Contains, IfSome, IsSome, refl, ap, subst, sym, ◌∙◌}
 use Rattle.dkg_ceremony.specs.declared.ceremony.DealingError.{DealingError}
 use Rattle.dkg_journal.specs.Journals.{IsOpen}
 use Rattle.dkg_journal.specs.Names.{Files}
@@ -13,7 +13,7 @@ use Rattle.dkg_store.specs.Player.{Acknowledges, IsPlayerOf}
 use Rattle.dkg_store.specs.declared.player.Player.{Player}
 use Rattle.dkg_store.proofs.Pairs.{get_other}
 use Rattle.dkg_store.proofs.Playing.{not_none}
-use Rattle.dkg_example.specs.Sent.{IsFair, IsNodePlaying, Stays}
+use Rattle.dkg_example.specs.Sent.{IsFair, IsNodePlaying}
 use Rattle.dkg_example.specs.declared.Node.{Node}
 
 none_kept : (acks : FinMap nat_cmp (List ℕ)) (dealer : ℕ) → acks ≡ empty → get acks dealer ≡ None
@@ -35,22 +35,10 @@ pub fresh_player : (ack_of : ℕ → Round → ℕ → List ℕ → List ℕ) (m
 fresh_player ack_of me round made node is mine its none sits = playing ack_of me round node (subst (λ (m : Option Player). IfSome m (λ p. p.me ≡ me)) is mine)
     (subst (λ (m : Option Player). IfSome m (λ p. p.round ≡ round)) is its) (subst (λ (m : Option Player). IfSome m (λ p. p.acks ≡ empty)) is none) sits
 
-added : (pairs : Pairs) (key : ℕ × ℕ) (pair : List ℕ × ℕ) (epoch dealer : ℕ) → get pairs key ≡ None → IsSome (get pairs (epoch, dealer)) → get (insert pairs key pair) (epoch, dealer) ≡ get pairs (epoch, dealer)
+-- what is recorded stays where another's dealing is
+pub added : (pairs : Pairs) (key : ℕ × ℕ) (pair : List ℕ × ℕ) (epoch dealer : ℕ) → get pairs key ≡ None → IsSome (get pairs (epoch, dealer)) → get (insert pairs key pair) (epoch, dealer) ≡ get pairs (epoch, dealer)
 added pairs key pair epoch dealer none there =
     get_other pairs key (epoch, dealer) pair (λ e. not_none (get pairs (epoch, dealer)) there (ap (λ (k : ℕ × ℕ). get pairs k) e ∙ none))
-
-kept_at : (found : Option (List ℕ × ℕ)) (pairs : Pairs) (key : ℕ × ℕ) (pair : List ℕ × ℕ) (epoch dealer : ℕ) → get pairs key ≡ found → IsSome (get pairs (epoch, dealer))
-    → get (if is_some found then pairs else insert pairs key pair) (epoch, dealer) ≡ get pairs (epoch, dealer)
-kept_at None pairs key pair epoch dealer none there = added pairs key pair epoch dealer none there
-kept_at (Some p) pairs key pair epoch dealer some there = refl
-
--- what is recorded stays where a dealing is recorded, if it is new
-pub recorded_stays : (pairs later : Pairs) (key : ℕ × ℕ) (pair : List ℕ × ℕ) → later ≡ (if is_some (get pairs key) then pairs else insert pairs key pair) → Stays pairs later
-recorded_stays pairs later key pair is = λ epoch dealer there.
-    ap (λ (m : Pairs). get m (epoch, dealer)) is ∙ kept_at (get pairs key) pairs key pair epoch dealer refl there
-
-pub stays_same : (pairs later : Pairs) → later ≡ pairs → Stays pairs later
-stays_same pairs later is = λ epoch dealer there. ap (λ (m : Pairs). get m (epoch, dealer)) is
 
 -- the node still plays, behind a message
 pub plays_on : (ack_of : ℕ → Round → ℕ → List ℕ → List ℕ) (old new : Node) → new.player.me ≡ old.player.me → new.player.round ≡ old.player.round → IsNodePlaying ack_of old

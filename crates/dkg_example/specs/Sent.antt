@@ -1,8 +1,11 @@
 -- What a node answers, beside what it has recorded.
-use Rattle.std.specs.Prelude.{◌≡◌, ◌-◌, ◌<◌, ◌⊎◌, ℕ, nat_le, List, length, Contains, IsErr, IsSome, Option, Some, None, Result}
-use Rattle.std.specs.FinMap.{get, retain_keys}
+use Rattle.std.specs.Prelude.{◌≡◌, ◌-◌, ◌<◌, ◌⊎◌, ℕ, nat_le, List, [], ◌∷◌, ◌++◌, length, Contains, IsErr, IsSome, Option, Some, None, Result, Ok, Err}
+use Rattle.std.specs.FinMap.{get, insert, retain_keys}
+use Rattle.std.specs.Option.{option_map_or}
 use Rattle.dkg_ceremony.specs.declared.ceremony.DealingError.{DealingError}
 use Rattle.dkg_ceremony.specs.declared.round.RoundParts.{RoundParts as Round}
+use Rattle.dkg_infos.specs.declared.entry.Entry.{Entry as Line}
+use Rattle.dkg_infos.specs.declared.entry.Entry.TheVariants.{Recorded}
 use Rattle.dkg_store.specs.Pairs.{Pairs}
 use Rattle.dkg_store.specs.Player.{Acknowledges, IsPlayerOf}
 use Rattle.dkg_types.specs.declared.message.Message.{Message}
@@ -31,9 +34,10 @@ abbrev pub IsSoundAnswer : (ack_of : ℕ → Round → ℕ → List ℕ → List
 IsSoundAnswer ack_of me round pairs epoch dealer (Send ack) = Acknowledges ack_of me round pairs epoch dealer ack
 IsSoundAnswer ack_of me round pairs epoch dealer Block = Unit {0}
 
--- A dealer is blocked of whom nothing is recorded, and whose dealing the round refuses; or whose polynomial is longer than any round's.
+-- A dealer is answered of whom a dealing is recorded, or whose dealing passes the round's check. Blocked is a dealer of whom nothing is recorded, and whose
+-- dealing the round refuses; or whose polynomial is longer than any round's.
 abbrev pub IsFair : (check : Result (Unit {0}) DealingError) (public : List ℕ) (pairs : Pairs) (epoch dealer : ℕ) → Answer → Type 0
-IsFair check public pairs epoch dealer (Send ack) = Unit {0}
+IsFair check public pairs epoch dealer (Send ack) = IsSome (get pairs (epoch, dealer)) ⊎ (check ≡ Ok tt)
 IsFair check public pairs epoch dealer Block = (65520 < length public) ⊎ (IsErr check × (get pairs (epoch, dealer) ≡ None))
 
 -- Of what was heard: whoever sends no dealing is blocked.
@@ -42,6 +46,16 @@ IsFairTo check (Some (Dealer public private)) pairs epoch sender answer = IsFair
 IsFairTo check (Some (Ack ack)) pairs epoch sender answer = answer ≡ Block
 IsFairTo check None pairs epoch sender answer = answer ≡ Block
 
--- What is recorded of a dealer stays.
-abbrev pub Stays : Pairs → Pairs → Type 0
-Stays pairs later = (epoch dealer : ℕ) → IsSome (get pairs (epoch, dealer)) → get later (epoch, dealer) ≡ get pairs (epoch, dealer)
+-- The dealing that is recorded then: the one that was heard, where it is answered and is its dealer's first.
+abbrev pub first_heard : {E : Type 0} → Result Answer E → (heard : Option Message) → (recorded : Option (List ℕ × ℕ)) → Option (List ℕ × ℕ)
+first_heard (Err e) heard recorded = None
+first_heard (Ok Block) heard recorded = None
+first_heard (Ok (Send ack)) None recorded = None
+first_heard (Ok (Send ack)) (Some (Ack other)) recorded = None
+first_heard (Ok (Send ack)) (Some (Dealer public private)) None = Some (public, private)
+first_heard (Ok (Send ack)) (Some (Dealer public private)) (Some pair) = None
+
+-- Just this dealing of an epoch's dealer is recorded and told, if there is one.
+pub record RecordsJust (dealing : Option (List ℕ × ℕ)) (epoch dealer : ℕ) (pairs later : Pairs) (out now : List Line) : Type 0 where
+  pub recorded : later ≡ option_map_or (λ pair. insert pairs (epoch, dealer) pair) dealing pairs
+  pub told : now ≡ option_map_or (λ pair. out ++ Recorded epoch dealer pair.0 pair.1 ∷ []) dealing out

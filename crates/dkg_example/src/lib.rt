@@ -3,7 +3,8 @@
 //! `docs/EMBEDDING.md` goes through it.
 #![tactic(auto)]
 
-ghost use Rattle.std.specs.Prelude.{◌≡◌, Contains, IfOk, IfSome, IsTrue, OnOk};
+ghost use Rattle.std.specs.Prelude.{◌≡◌, Contains, IfOk, IfSome, IsTrue, OnOk, Some};
+ghost use Rattle.std.specs.FinMap as map;
 ghost use Rattle.std.specs.Int.NonZero.{non_zero_u32_get};
 ghost use Rattle.std.specs.Result.{result_ok};
 ghost use Rattle.dkg_values.specs.Codec.{whole};
@@ -11,7 +12,7 @@ ghost use Rattle.dkg_journal.specs.Journals.{IsOpen};
 ghost use Rattle.dkg_journal.specs.Records.{entries};
 ghost use Rattle.dkg_store.specs.Pairs.{recovered};
 ghost use Rattle.dkg_types.specs.MessageCodes.{message_at};
-ghost use Rattle.dkg_example.specs.Sent.{IsFair, IsFairTo, IsNodePlaying, IsSameSeat, IsSoundAnswer, Stays, since_below};
+ghost use Rattle.dkg_example.specs.Sent.{IsFair, IsFairTo, IsNodePlaying, IsSameSeat, IsSoundAnswer, RecordsJust, first_heard, since_below};
 
 #[cfg(test)]
 mod tests;
@@ -106,7 +107,8 @@ impl Node {
         ensures sound { IfOk result (IsSoundAnswer C.ack_of self.new.player.me self.new.player.round self.new.store.dealings self.new.epoch from) }
         ensures fair { IfOk result (IsFair (C.dealing_of self.old.player.round self.old.player.me from public private) public
             self.old.store.dealings self.old.epoch from) }
-        ensures stays { Stays self.old.store.dealings self.new.store.dealings }
+        ensures records { RecordsJust (first_heard result (Some (Message.Dealer public private)) (map.get self.old.store.dealings (self.old.epoch, from)))
+            self.old.epoch from self.old.store.dealings self.new.store.dealings out.old.entries out.new.entries }
         ensures same_disk { devices.new.disk.ghost_name ≡ devices.old.disk.ghost_name }
         ensures same_secrets { devices.new.secrets.ghost_name ≡ devices.old.secrets.ghost_name }
     {
@@ -150,12 +152,15 @@ impl Node {
         ensures seat { IsSameSeat self.old self.new }
         ensures open { OnOk result (IsTrue D.tells → IsOpen self.new.store.journal (D.files devices.new.disk.now) (D.image devices.new.disk.now)) }
         ensures playing { IsNodePlaying C.ack_of self.new }
-        // What is sent is the acknowledgement of the dealing that is recorded, and what is recorded stays.
+        // What is sent is the acknowledgement of the dealing that is recorded.
         ensures sound { IfOk result (IsSoundAnswer C.ack_of self.new.player.me self.new.player.round self.new.store.dealings self.new.epoch from) }
-        // Whose message is no dealing is blocked, and a dealing's sender only where that is fair.
+        // Whose message is no dealing is blocked, and a dealing's sender only where that is fair; answered is a dealing that passes, or whose dealer's is recorded.
         ensures fair { IfOk result (IsFairTo (C.dealing_of self.old.player.round self.old.player.me from)
             (result_ok (whole (message_at (non_zero_u32_get self.old.limit) bytes.now))) self.old.store.dealings self.old.epoch from) }
-        ensures stays { Stays self.old.store.dealings self.new.store.dealings }
+        // Recorded and told is the dealing that was heard, where it is answered and is its dealer's first; and else nothing.
+        ensures records { RecordsJust (first_heard result (result_ok (whole (message_at (non_zero_u32_get self.old.limit) bytes.now)))
+            (map.get self.old.store.dealings (self.old.epoch, from)))
+            self.old.epoch from self.old.store.dealings self.new.store.dealings out.old.entries out.new.entries }
         ensures same_disk { devices.new.disk.ghost_name ≡ devices.old.disk.ghost_name }
         ensures same_secrets { devices.new.secrets.ghost_name ≡ devices.old.secrets.ghost_name }
     {

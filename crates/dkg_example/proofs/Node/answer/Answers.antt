@@ -1,9 +1,11 @@
 use Rattle.std.proofs.Common.{List, ap, length, refl, subst, ◌≤◌, ℕ}
+use Rattle.dkg_store.specs.declared.call.StoreError.{StoreError}
 use Rattle.dkg_store.specs.declared.devices.Devices.{Devices}
 use Rattle.dkg_store.specs.declared.store.Store.{Store}
 use Rattle.dkg_infos.specs.declared.directory.Unit.{Unit as Directory}
-use Rattle.dkg_store.proofs.Handling.{answer_refused, handled_answer, handled_no_pair, handled_pairs, handled_player}
-use Rattle.dkg_example.proofs.Recording.{open_still, plays_on, recorded_stays, refused_fair, sent_by, stays_same}
+use Rattle.dkg_store.proofs.Handling.{answer_refused, handled_answer, handled_no_pair, handled_pairs, handled_passed, handled_player, handled_told, handled_untold}
+use Rattle.dkg_example.proofs.Heard.{answered_fair, records_first, records_none}
+use Rattle.dkg_example.proofs.Recording.{open_still, plays_on, refused_fair, sent_by}
 use Rattle.dkg_example.proofs.Short.{event_short}
 use Rattle.dkg_example.proofs.Node.answer.Goals as goal
 
@@ -28,10 +30,16 @@ returns-in-Ok-clause-sound g c =
     let its = c.in-Ok.ensures.handled in
     sent_by g.C.Ceremony.ack_of _ _ _ _ _ _ _ _ its.me its.round (handled_answer g.C.Ceremony.ack_of g.C.Ceremony.dealing_of _ _ _ _ _ _ _ _ _ _ _ its c.requires.playing.answers)
 
-pub returns-in-Ok-clause-stays : goal.returns-in-Ok-clause-stays
-returns-in-Ok-clause-stays g c =
-    recorded_stays c.args.self.now.store.dealings c.handle-handled.new.store.dealings (c.args.self.now.epoch, c.args.from) (c.args.public, c.args.private)
-    (handled_pairs g.C.Ceremony.ack_of g.C.Ceremony.dealing_of _ _ _ _ _ _ _ _ _ _ _ c.in-Ok.ensures.handled c.requires.playing.answers)
+pub returns-in-Ok-clause-fair : goal.returns-in-Ok-clause-fair
+returns-in-Ok-clause-fair g c =
+    answered_fair _ _ (handled_passed g.C.Ceremony.ack_of g.C.Ceremony.dealing_of _ _ _ _ _ _ _ _ _ _ _ c.in-Ok.ensures.handled c.requires.playing.answers)
+
+pub returns-in-Ok-clause-records : goal.returns-in-Ok-clause-records
+returns-in-Ok-clause-records g c =
+    let its = c.in-Ok.ensures.handled in
+    records_first StoreError c.in-Ok.ack c.args.self.now.epoch c.args.from c.args.public c.args.private _ _ _ _ _
+    (handled_pairs g.C.Ceremony.ack_of g.C.Ceremony.dealing_of _ _ _ _ _ _ _ _ _ _ _ its c.requires.playing.answers)
+    (handled_told g.C.Ceremony.ack_of g.C.Ceremony.dealing_of _ _ _ _ _ _ _ _ _ _ _ its c.requires.playing.answers)
 
 -- IT REFUSED
 
@@ -54,8 +62,10 @@ returns-in-Err-Refused-clause-fair g c =
     let refused = answer_refused _ _ _ _ _ c.in-Err-Refused.field-0-0 its.answers in
     refused_fair _ _ _ _ _ c.in-Err-Refused.field-0-0 refused.1 refused.0
 
-pub returns-in-Err-Refused-clause-stays : goal.returns-in-Err-Refused-clause-stays
-returns-in-Err-Refused-clause-stays g c = stays_same _ _ (handled_no_pair g.C.Ceremony.ack_of g.C.Ceremony.dealing_of _ _ _ _ _ _ _ _ _ _ _ (rw c.in-Err-Refused.field-0-is at c.in-Err-Refused.ensures.handled))
+pub returns-in-Err-Refused-clause-records : goal.returns-in-Err-Refused-clause-records
+returns-in-Err-Refused-clause-records g c =
+    let its = rw c.in-Err-Refused.field-0-is at c.in-Err-Refused.ensures.handled in
+    records_none _ _ _ _ _ _ (handled_no_pair g.C.Ceremony.ack_of g.C.Ceremony.dealing_of _ _ _ _ _ _ _ _ _ _ _ its) (handled_untold g.C.Ceremony.ack_of g.C.Ceremony.dealing_of _ _ _ _ _ _ _ _ _ _ _ its)
 
 -- THE STORE FAILED
 
@@ -67,5 +77,7 @@ returns-in-Err-Store-clause-playing g c =
     let its = c.in-Err-Store.ensures.handled in
     plays_on g.C.Ceremony.ack_of c.args.self.now _ its.me its.round c.requires.playing (handled_player g.C.Ceremony.ack_of g.C.Ceremony.dealing_of _ _ _ _ _ _ _ _ _ _ _ its c.requires.playing.answers)
 
-pub returns-in-Err-Store-clause-stays : goal.returns-in-Err-Store-clause-stays
-returns-in-Err-Store-clause-stays g c = stays_same _ _ (handled_no_pair g.C.Ceremony.ack_of g.C.Ceremony.dealing_of _ _ _ _ _ _ _ _ _ _ _ (rw c.in-Err-Store.field-0-is at c.in-Err-Store.ensures.handled))
+pub returns-in-Err-Store-clause-records : goal.returns-in-Err-Store-clause-records
+returns-in-Err-Store-clause-records g c =
+    let its = rw c.in-Err-Store.field-0-is at c.in-Err-Store.ensures.handled in
+    records_none _ _ _ _ _ _ (handled_no_pair g.C.Ceremony.ack_of g.C.Ceremony.dealing_of _ _ _ _ _ _ _ _ _ _ _ its) (handled_untold g.C.Ceremony.ack_of g.C.Ceremony.dealing_of _ _ _ _ _ _ _ _ _ _ _ its)
