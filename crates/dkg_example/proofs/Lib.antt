@@ -1,3 +1,4 @@
+mod Due
 mod Heard
 mod Recording
 mod Short

@@ -1,5 +1,6 @@
 -- What a node answers, beside what it has recorded.
 use Rattle.std.specs.Prelude.{◌≡◌, ◌-◌, ◌<◌, ◌⊎◌, ℕ, nat_le, List, [], ◌∷◌, ◌++◌, length, Contains, IsErr, IsSome, Option, Some, None, Result, Ok, Err}
+use Rattle.std.specs.declared.num.NonZeroU32.{NonZeroU32}
 use Rattle.std.specs.FinMap.{get, insert, retain_keys}
 use Rattle.std.specs.Option.{option_map_or}
 use Rattle.dkg_ceremony.specs.declared.ceremony.DealingError.{DealingError}
@@ -19,11 +20,19 @@ pub record IsNodePlaying (ack_of : ℕ → Round → ℕ → List ℕ → List �
   pub seated : Contains node.player.round.players node.player.me
   pub answers : IsPlayerOf ack_of node.player.me node.player.round node.player.acks node.store.dealings node.epoch
 
--- The same player of the same round and epoch.
+-- It is this player of this round and epoch, and reads under this limit.
+pub record IsSeatOf (me : ℕ) (round : Round) (epoch : ℕ) (limit : NonZeroU32) (node : Node) : Type 0 where
+  pub me_is : node.player.me ≡ me
+  pub round_is : node.player.round ≡ round
+  pub epoch_is : node.epoch ≡ epoch
+  pub limit_is : node.limit ≡ limit
+
+-- The same player of the same round and epoch, under the same limit.
 pub record IsSameSeat (node other : Node) : Type 0 where
   pub me : other.player.me ≡ node.player.me
   pub round : other.player.round ≡ node.player.round
   pub epoch : other.epoch ≡ node.epoch
+  pub limit : other.limit ≡ node.limit
 
 -- Of dealings those of an epoch and of the one below.
 abbrev pub since_below : (epoch : ℕ) → Pairs → Pairs

@@ -3,16 +3,21 @@
 //! `docs/EMBEDDING.md` goes through it.
 #![tactic(auto)]
 
-ghost use Rattle.std.specs.Prelude.{◌≡◌, Contains, IfOk, IfSome, IsTrue, OnOk, Some};
+ghost use Rattle.std.specs.Prelude.{◌≡◌, Contains, IfErr, IfOk, IfSome, IsTrue, OnOk, Some};
 ghost use Rattle.std.specs.FinMap as map;
 ghost use Rattle.std.specs.Int.NonZero.{non_zero_u32_get};
 ghost use Rattle.std.specs.Result.{result_ok};
 ghost use Rattle.dkg_values.specs.Codec.{whole};
+ghost use Rattle.dkg_journal.specs.Disk.{Rose};
+ghost use Rattle.dkg_journal.specs.Fuse.{Reached};
 ghost use Rattle.dkg_journal.specs.Journals.{IsOpen};
 ghost use Rattle.dkg_journal.specs.Records.{entries};
+ghost use Rattle.dkg_store.specs.Both.{IsWant};
+ghost use Rattle.dkg_store.specs.Called.{ErrorIsDue};
+ghost use Rattle.dkg_store.specs.On.{SameLoans};
 ghost use Rattle.dkg_store.specs.Pairs.{recovered};
 ghost use Rattle.dkg_types.specs.MessageCodes.{message_at};
-ghost use Rattle.dkg_example.specs.Sent.{IsFair, IsFairTo, IsNodePlaying, IsSameSeat, IsSoundAnswer, RecordsJust, first_heard, since_below};
+ghost use Rattle.dkg_example.specs.Sent.{IsFair, IsFairTo, IsNodePlaying, IsSameSeat, IsSeatOf, IsSoundAnswer, RecordsJust, first_heard, since_below};
 
 #[cfg(test)]
 mod tests;
@@ -61,16 +66,14 @@ impl Node {
         round: &Round,
     ) -> Result<Option<Node>, StoreError>
         requires playing { Contains round.now.players me }
-        ensures me { IfOk result (λ made. IfSome made (λ node. node.player.me ≡ me)) }
-        ensures round { IfOk result (λ made. IfSome made (λ node. node.player.round ≡ round.now)) }
+        ensures seat { IfOk result (λ made. IfSome made (λ node. IsSeatOf me round.now epoch limit node)) }
         ensures open { IfOk result (λ made. IfSome made (λ node. IsTrue D.tells →
             IsOpen node.store.journal (D.files devices.new.disk.now) (D.image devices.new.disk.now))) }
         ensures playing { IfOk result (λ made. IfSome made (λ node. IsNodePlaying C.ack_of node)) }
         // What the devices give of this epoch and the one below.
         ensures restored { IfOk result (λ made. IfSome made (λ node. IsTrue D.tells → IsTrue X.tells →
             node.store.dealings ≡ since_below epoch (recovered (entries (D.files devices.old.disk.now)) (X.held devices.old.secrets.now)))) }
-        ensures same_disk { devices.new.disk.ghost_name ≡ devices.old.disk.ghost_name }
-        ensures same_secrets { devices.new.secrets.ghost_name ≡ devices.old.secrets.ghost_name }
+        ensures same { SameLoans devices.old devices.new }
     {
         let mut store = Store::init(alloc, devices, limit)?;
         let below = Epoch(epoch.0.saturating_sub(1));
@@ -109,8 +112,12 @@ impl Node {
             self.old.store.dealings self.old.epoch from) }
         ensures records { RecordsJust (first_heard result (Some (Message.Dealer public private)) (map.get self.old.store.dealings (self.old.epoch, from)))
             self.old.epoch from self.old.store.dealings self.new.store.dealings out.old.entries out.new.entries }
-        ensures same_disk { devices.new.disk.ghost_name ≡ devices.old.disk.ghost_name }
-        ensures same_secrets { devices.new.secrets.ghost_name ≡ devices.old.secrets.ghost_name }
+        // An error is due to a device, a cut or want of memory.
+        ensures due { IfErr result (λ e. ErrorIsDue e (Rose (D.faults devices.old.disk.now) (D.faults devices.new.disk.now))
+            (Rose (X.faults devices.old.secrets.now) (X.faults devices.new.secrets.now)) (Reached devices.old.fuse devices.new.fuse)
+            (IsWant ((self.new ≡ self.old) × (devices.new ≡ devices.old)) (D.wants devices.old.disk.now) (D.wants devices.new.disk.now)
+            (X.wants devices.old.secrets.now) (X.wants devices.new.secrets.now))) }
+        ensures same { SameLoans devices.old devices.new }
     {
         if public.as_slice().len() > MOST_COEFFICIENTS {
             return Ok(Answer::Block);
@@ -161,8 +168,12 @@ impl Node {
         ensures records { RecordsJust (first_heard result (result_ok (whole (message_at (non_zero_u32_get self.old.limit) bytes.now)))
             (map.get self.old.store.dealings (self.old.epoch, from)))
             self.old.epoch from self.old.store.dealings self.new.store.dealings out.old.entries out.new.entries }
-        ensures same_disk { devices.new.disk.ghost_name ≡ devices.old.disk.ghost_name }
-        ensures same_secrets { devices.new.secrets.ghost_name ≡ devices.old.secrets.ghost_name }
+        // An error is due to a device, a cut or want of memory.
+        ensures due { IfErr result (λ e. ErrorIsDue e (Rose (D.faults devices.old.disk.now) (D.faults devices.new.disk.now))
+            (Rose (X.faults devices.old.secrets.now) (X.faults devices.new.secrets.now)) (Reached devices.old.fuse devices.new.fuse)
+            (IsWant ((self.new ≡ self.old) × (devices.new ≡ devices.old)) (D.wants devices.old.disk.now) (D.wants devices.new.disk.now)
+            (X.wants devices.old.secrets.now) (X.wants devices.new.secrets.now))) }
+        ensures same { SameLoans devices.old devices.new }
     {
         let limit = self.limit.get();
         match decode_cfg::<Message>(alloc, bytes, &limit) {

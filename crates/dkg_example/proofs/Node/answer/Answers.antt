@@ -4,6 +4,7 @@ use Rattle.dkg_store.specs.declared.devices.Devices.{Devices}
 use Rattle.dkg_store.specs.declared.store.Store.{Store}
 use Rattle.dkg_infos.specs.declared.directory.Unit.{Unit as Directory}
 use Rattle.dkg_store.proofs.Handling.{answer_refused, handled_answer, handled_no_pair, handled_pairs, handled_passed, handled_player, handled_told, handled_untold}
+use Rattle.dkg_example.proofs.Due.{node_due}
 use Rattle.dkg_example.proofs.Heard.{answered_fair, records_first, records_none}
 use Rattle.dkg_example.proofs.Recording.{open_still, plays_on, refused_fair, sent_by}
 use Rattle.dkg_example.proofs.Short.{event_short}
@@ -18,7 +19,7 @@ handle-handled-requires-clause-seat g c = (c.requires.signer, c.requires.playing
 -- IT ANSWERED
 
 pub returns-in-Ok-clause-seat : goal.returns-in-Ok-clause-seat
-returns-in-Ok-clause-seat g c = record { me = c.in-Ok.ensures.handled.me; round = c.in-Ok.ensures.handled.round; epoch = refl }
+returns-in-Ok-clause-seat g c = record { me = c.in-Ok.ensures.handled.me; round = c.in-Ok.ensures.handled.round; epoch = refl; limit = refl }
 
 pub returns-in-Ok-clause-playing : goal.returns-in-Ok-clause-playing
 returns-in-Ok-clause-playing g c =
@@ -44,7 +45,7 @@ returns-in-Ok-clause-records g c =
 -- IT REFUSED
 
 pub returns-in-Err-Refused-clause-seat : goal.returns-in-Err-Refused-clause-seat
-returns-in-Err-Refused-clause-seat g c = record { me = c.in-Err-Refused.ensures.handled.me; round = c.in-Err-Refused.ensures.handled.round; epoch = refl }
+returns-in-Err-Refused-clause-seat g c = record { me = c.in-Err-Refused.ensures.handled.me; round = c.in-Err-Refused.ensures.handled.round; epoch = refl; limit = refl }
 
 pub returns-in-Err-Refused-clause-open : goal.returns-in-Err-Refused-clause-open
 returns-in-Err-Refused-clause-open g c = λ told.
@@ -70,7 +71,7 @@ returns-in-Err-Refused-clause-records g c =
 -- THE STORE FAILED
 
 pub returns-in-Err-Store-clause-seat : goal.returns-in-Err-Store-clause-seat
-returns-in-Err-Store-clause-seat g c = record { me = c.in-Err-Store.ensures.handled.me; round = c.in-Err-Store.ensures.handled.round; epoch = refl }
+returns-in-Err-Store-clause-seat g c = record { me = c.in-Err-Store.ensures.handled.me; round = c.in-Err-Store.ensures.handled.round; epoch = refl; limit = refl }
 
 pub returns-in-Err-Store-clause-playing : goal.returns-in-Err-Store-clause-playing
 returns-in-Err-Store-clause-playing g c =
@@ -81,3 +82,8 @@ pub returns-in-Err-Store-clause-records : goal.returns-in-Err-Store-clause-recor
 returns-in-Err-Store-clause-records g c =
     let its = rw c.in-Err-Store.field-0-is at c.in-Err-Store.ensures.handled in
     records_none _ _ _ _ _ _ (handled_no_pair g.C.Ceremony.ack_of g.C.Ceremony.dealing_of _ _ _ _ _ _ _ _ _ _ _ its) (handled_untold g.C.Ceremony.ack_of g.C.Ceremony.dealing_of _ _ _ _ _ _ _ _ _ _ _ its)
+
+pub returns-in-Err-Store-clause-due : goal.returns-in-Err-Store-clause-due
+returns-in-Err-Store-clause-due g c =
+    node_due c.in-Err-Store.error _ _ _ _ _ c.args.self.now c.handle-handled.new.self c.handle-handled.new.store _ _ _ _ _ _
+    (rw c.in-Err-Store.field-0-is at c.in-Err-Store.ensures.due)
