@@ -1,4 +1,5 @@
 mod Due
 mod Heard
+mod Held
 mod Recording
 mod Short

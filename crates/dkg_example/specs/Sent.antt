@@ -7,8 +7,10 @@ use Rattle.dkg_ceremony.specs.declared.ceremony.DealingError.{DealingError}
 use Rattle.dkg_ceremony.specs.declared.round.RoundParts.{RoundParts as Round}
 use Rattle.dkg_infos.specs.declared.entry.Entry.{Entry as Line}
 use Rattle.dkg_infos.specs.declared.entry.Entry.TheVariants.{Recorded}
-use Rattle.dkg_store.specs.Pairs.{Pairs}
-use Rattle.dkg_store.specs.Player.{Acknowledges, IsPlayerOf}
+use Rattle.dkg_journal.specs.Names.{Files}
+use Rattle.dkg_secrets.specs.Secrets.{Secrets}
+use Rattle.dkg_store.specs.Pairs.{HoldsDealings, Pairs}
+use Rattle.dkg_store.specs.Player.{Acknowledges, IsPlayerOf, MayKeep}
 use Rattle.dkg_types.specs.declared.message.Message.{Message}
 use Rattle.dkg_types.specs.declared.message.Message.TheVariants.{Dealer, Ack}
 use Rattle.dkg_example.specs.declared.Answer.{Answer}
@@ -68,3 +70,9 @@ first_heard (Ok (Send ack)) (Some (Dealer public private)) (Some pair) = None
 pub record RecordsJust (dealing : Option (List ℕ × ℕ)) (epoch dealer : ℕ) (pairs later : Pairs) (out now : List Line) : Type 0 where
   pub recorded : later ≡ option_map_or (λ pair. insert pairs (epoch, dealer) pair) dealing pairs
   pub told : now ≡ option_map_or (λ pair. out ++ Recorded epoch dealer pair.0 pair.1 ∷ []) dealing out
+
+-- What the devices give behind an error: the dealings from before; or, where a new dealing was heard that passes, these or those with it.
+abbrev pub HoldsHeard : (check : List ℕ → ℕ → Result (Unit {0}) DealingError) (heard : Option Message) (pairs : Pairs) (key : ℕ × ℕ) (image : Files → Type 0) (held : Secrets) → Type 0
+HoldsHeard check None pairs key image held = HoldsDealings pairs image held
+HoldsHeard check (Some (Ack other)) pairs key image held = HoldsDealings pairs image held
+HoldsHeard check (Some (Dealer public private)) pairs key image held = MayKeep (check public private) pairs key (public, private) image held

@@ -3,7 +3,7 @@
 //! `docs/EMBEDDING.md` goes through it.
 #![tactic(auto)]
 
-ghost use Rattle.std.specs.Prelude.{◌≡◌, Contains, IfErr, IfOk, IfSome, IsTrue, OnOk, Some};
+ghost use Rattle.std.specs.Prelude.{◌≡◌, ◌-◌, Contains, IfErr, IfOk, IfSome, IsTrue, MatchResult, OnOk, Some};
 ghost use Rattle.std.specs.FinMap as map;
 ghost use Rattle.std.specs.Int.NonZero.{non_zero_u32_get};
 ghost use Rattle.std.specs.Result.{result_ok};
@@ -12,12 +12,14 @@ ghost use Rattle.dkg_journal.specs.Disk.{Rose};
 ghost use Rattle.dkg_journal.specs.Fuse.{Reached};
 ghost use Rattle.dkg_journal.specs.Journals.{IsOpen};
 ghost use Rattle.dkg_journal.specs.Records.{entries};
+ghost use Rattle.dkg_secrets.specs.Secrets.{after};
+ghost use Rattle.dkg_secrets.specs.declared.secrets.SecretOp.TheVariants.{Prune};
 ghost use Rattle.dkg_store.specs.Both.{IsWant};
 ghost use Rattle.dkg_store.specs.Called.{ErrorIsDue};
 ghost use Rattle.dkg_store.specs.On.{SameLoans};
-ghost use Rattle.dkg_store.specs.Pairs.{recovered};
+ghost use Rattle.dkg_store.specs.Pairs.{HoldsDealings, IsWhole, recovered};
 ghost use Rattle.dkg_types.specs.MessageCodes.{message_at};
-ghost use Rattle.dkg_example.specs.Sent.{IsFair, IsFairTo, IsNodePlaying, IsSameSeat, IsSeatOf, IsSoundAnswer, RecordsJust, first_heard, since_below};
+ghost use Rattle.dkg_example.specs.Sent.{HoldsHeard, IsFair, IsFairTo, IsNodePlaying, IsSameSeat, IsSeatOf, IsSoundAnswer, RecordsJust, first_heard, since_below};
 
 #[cfg(test)]
 mod tests;
@@ -73,6 +75,11 @@ impl Node {
         // What the devices give of this epoch and the one below.
         ensures restored { IfOk result (λ made. IfSome made (λ node. IsTrue D.tells → IsTrue X.tells →
             node.store.dealings ≡ since_below epoch (recovered (entries (D.files devices.old.disk.now)) (X.held devices.old.secrets.now)))) }
+        // Where each recorded dealing's private half was there, a crash leaves just these.
+        ensures holds { IfOk result (λ made. IfSome made (λ node. IsTrue D.tells → IsTrue X.tells
+            → IsWhole (entries (D.files devices.old.disk.now)) (X.held devices.old.secrets.now)
+            → HoldsDealings node.store.dealings (D.image devices.new.disk.now) (X.held devices.new.secrets.now))) }
+        ensures pruned { OnOk result (IsTrue X.tells → X.held devices.new.secrets.now ≡ after (Prune (epoch - 1)) (X.held devices.old.secrets.now)) }
         ensures same { SameLoans devices.old devices.new }
     {
         let mut store = Store::init(alloc, devices, limit)?;
@@ -117,6 +124,12 @@ impl Node {
             (Rose (X.faults devices.old.secrets.now) (X.faults devices.new.secrets.now)) (Reached devices.old.fuse devices.new.fuse)
             (IsWant ((self.new ≡ self.old) × (devices.new ≡ devices.old)) (D.wants devices.old.disk.now) (D.wants devices.new.disk.now)
             (X.wants devices.old.secrets.now) (X.wants devices.new.secrets.now))) }
+        // A crash leaves what is recorded; behind an error perhaps also a new dealing that was heard and passes.
+        ensures holds { IsTrue D.tells → IsTrue X.tells
+            → HoldsDealings self.old.store.dealings (D.image devices.old.disk.now) (X.held devices.old.secrets.now)
+            → MatchResult result (λ a. HoldsDealings self.new.store.dealings (D.image devices.new.disk.now) (X.held devices.new.secrets.now))
+            (λ e. HoldsHeard (C.dealing_of self.old.player.round self.old.player.me from) (Some (Message.Dealer public private))
+            self.old.store.dealings (self.old.epoch, from) (D.image devices.new.disk.now) (X.held devices.new.secrets.now)) }
         ensures same { SameLoans devices.old devices.new }
     {
         if public.as_slice().len() > MOST_COEFFICIENTS {
@@ -173,6 +186,12 @@ impl Node {
             (Rose (X.faults devices.old.secrets.now) (X.faults devices.new.secrets.now)) (Reached devices.old.fuse devices.new.fuse)
             (IsWant ((self.new ≡ self.old) × (devices.new ≡ devices.old)) (D.wants devices.old.disk.now) (D.wants devices.new.disk.now)
             (X.wants devices.old.secrets.now) (X.wants devices.new.secrets.now))) }
+        // A crash leaves what is recorded; behind an error perhaps also a new dealing that was heard and passes.
+        ensures holds { IsTrue D.tells → IsTrue X.tells
+            → HoldsDealings self.old.store.dealings (D.image devices.old.disk.now) (X.held devices.old.secrets.now)
+            → MatchResult result (λ a. HoldsDealings self.new.store.dealings (D.image devices.new.disk.now) (X.held devices.new.secrets.now))
+            (λ e. HoldsHeard (C.dealing_of self.old.player.round self.old.player.me from) (result_ok (whole (message_at (non_zero_u32_get self.old.limit) bytes.now)))
+            self.old.store.dealings (self.old.epoch, from) (D.image devices.new.disk.now) (X.held devices.new.secrets.now)) }
         ensures same { SameLoans devices.old devices.new }
     {
         let limit = self.limit.get();
