@@ -1,5 +1,6 @@
 mod Due
 mod Heard
 mod Held
+mod Opening
 mod Recording
 mod Short

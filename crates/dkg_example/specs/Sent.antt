@@ -1,16 +1,27 @@
 -- What a node answers, beside what it has recorded.
-use Rattle.std.specs.Prelude.{◌≡◌, ◌-◌, ◌<◌, ◌⊎◌, ℕ, nat_le, List, [], ◌∷◌, ◌++◌, length, Contains, IsErr, IsSome, Option, Some, None, Result, Ok, Err}
+use Rattle.std.specs.Prelude.{⊤, ◌≡◌, ◌-◌, ◌<◌, ◌⊎◌, ℕ, nat_le, Bool, List, [], ◌∷◌, ◌++◌, length, Contains, IsErr, IsSome, Option, Some, None, Result, Ok, Err}
 use Rattle.std.specs.declared.num.NonZeroU32.{NonZeroU32}
-use Rattle.std.specs.FinMap.{get, insert, retain_keys}
+use Rattle.std.specs.FinMap.{FinMap, get, insert, retain_keys}
 use Rattle.std.specs.Option.{option_map_or}
 use Rattle.dkg_ceremony.specs.declared.ceremony.DealingError.{DealingError}
+use Rattle.dkg_ceremony.specs.declared.dealer_log.DealerLog.{DealerLog}
 use Rattle.dkg_ceremony.specs.declared.round.RoundParts.{RoundParts as Round}
 use Rattle.dkg_infos.specs.declared.entry.Entry.{Entry as Line}
 use Rattle.dkg_infos.specs.declared.entry.Entry.TheVariants.{Recorded}
+use Rattle.dkg_infos.specs.declared.fault.LocalCause.{LocalCause}
+use Rattle.dkg_infos.specs.declared.fault.LocalCause.TheVariants.{StoredDealing}
 use Rattle.dkg_journal.specs.Names.{Files}
+use Rattle.dkg_journal.specs.Records.{SectionEntry}
+use Rattle.dkg_secrets.specs.Keys.{key_cmp}
 use Rattle.dkg_secrets.specs.Secrets.{Secrets}
-use Rattle.dkg_store.specs.Pairs.{HoldsDealings, Pairs}
-use Rattle.dkg_store.specs.Player.{Acknowledges, IsPlayerOf, MayKeep}
+use Rattle.dkg_store.specs.Called.{ErrorIsDueWith}
+use Rattle.dkg_store.specs.Noted.{logs_in}
+use Rattle.dkg_store.specs.Pairs.{HoldsDealings, Pairs, recovered}
+use Rattle.dkg_store.specs.Player.{Acknowledges, IsPlayerOf, MayKeep, has_orphan}
+use Rattle.dkg_store.specs.Recorded.{at_epoch, bare_logs, first_refused, of_epoch}
+use Rattle.dkg_store.specs.declared.call.StoreError.{StoreError}
+use Rattle.dkg_store.specs.declared.call.StoreError.TheVariants.{LocalState}
+use Rattle.dkg_values.specs.declared.name.Name.{Name}
 use Rattle.dkg_types.specs.declared.message.Message.{Message}
 use Rattle.dkg_types.specs.declared.message.Message.TheVariants.{Dealer, Ack}
 use Rattle.dkg_example.specs.declared.Answer.{Answer}
@@ -36,9 +47,24 @@ pub record IsSameSeat (node other : Node) : Type 0 where
   pub epoch : other.epoch ≡ node.epoch
   pub limit : other.limit ≡ node.limit
 
--- Of dealings those of an epoch and of the one below.
-abbrev pub since_below : (epoch : ℕ) → Pairs → Pairs
-since_below epoch pairs = retain_keys pairs (λ key. nat_le (epoch - 1) key.0)
+-- Of dealings, or of what else is recorded by epoch, that of an epoch and of the one below.
+abbrev pub since_below : {V : Type 0} → (epoch : ℕ) → FinMap key_cmp V → FinMap key_cmp V
+since_below epoch m = retain_keys m (λ key. nat_le (epoch - 1) key.0)
+
+-- A recorded log of the epoch bears this node's acknowledgement of a dealing that is not recorded.
+abbrev pub lost_dealing : (bears : ℕ → DealerLog → Bool) → (epoch : ℕ) → List SectionEntry → Secrets → Bool
+lost_dealing bears epoch es held = has_orphan bears (at_epoch epoch (since_below epoch (recovered es held))) (bare_logs (at_epoch epoch (since_below epoch (logs_in es))))
+
+-- The cause names a dealer, whose is the epoch's first recorded dealing that the check refuses.
+pub record NamesRefused (tells : Type 0) (check : ℕ → List ℕ → ℕ → Result (Unit {0}) DealingError) (epoch : ℕ) (es : List SectionEntry) (held : Secrets) (cause : LocalCause) : Type 0 where
+  pub dealer : ℕ
+  pub cause_is : cause ≡ StoredDealing epoch dealer
+  pub first : tells → first_refused check (of_epoch epoch (since_below epoch (recovered es held))) ≡ Some dealer
+
+-- What an error of an opening is due to.
+abbrev pub OpensDue : (record_at : Name → ℕ → Type 0) → (refused : LocalCause → Type 0) → StoreError → (disk secrets cut : Type 0) → Type 0
+OpensDue record_at refused (LocalState cause) disk secrets cut = refused cause
+OpensDue record_at refused error disk secrets cut = ErrorIsDueWith record_at error disk secrets cut ⊤
 
 -- An acknowledgement is sent of the dealing that is recorded, and of no other.
 abbrev pub IsSoundAnswer : (ack_of : ℕ → Round → ℕ → List ℕ → List ℕ) (me : ℕ) (round : Round) (pairs : Pairs) (epoch dealer : ℕ) → Answer → Type 0

@@ -3,7 +3,7 @@
 //! `docs/EMBEDDING.md` goes through it.
 #![tactic(auto)]
 
-ghost use Rattle.std.specs.Prelude.{◌≡◌, ◌-◌, Contains, IfErr, IfOk, IfSome, IsTrue, MatchResult, OnOk, Some};
+ghost use Rattle.std.specs.Prelude.{◌≡◌, ◌-◌, Contains, IfErr, IfOk, IfSome, IsTrue, MatchResult, OnOk, Some, is_some, not};
 ghost use Rattle.std.specs.FinMap as map;
 ghost use Rattle.std.specs.Int.NonZero.{non_zero_u32_get};
 ghost use Rattle.std.specs.Result.{result_ok};
@@ -16,10 +16,11 @@ ghost use Rattle.dkg_secrets.specs.Secrets.{after};
 ghost use Rattle.dkg_secrets.specs.declared.secrets.SecretOp.TheVariants.{Prune};
 ghost use Rattle.dkg_store.specs.Both.{IsWant};
 ghost use Rattle.dkg_store.specs.Called.{ErrorIsDue};
+ghost use Rattle.dkg_store.specs.Corrupt.{IsCorruptAt};
 ghost use Rattle.dkg_store.specs.On.{SameLoans};
 ghost use Rattle.dkg_store.specs.Pairs.{HoldsDealings, IsWhole, recovered};
 ghost use Rattle.dkg_types.specs.MessageCodes.{message_at};
-ghost use Rattle.dkg_example.specs.Sent.{HoldsHeard, IsFair, IsFairTo, IsNodePlaying, IsSameSeat, IsSeatOf, IsSoundAnswer, RecordsJust, first_heard, since_below};
+ghost use Rattle.dkg_example.specs.Sent.{HoldsHeard, IsFair, IsFairTo, IsNodePlaying, IsSameSeat, IsSeatOf, IsSoundAnswer, NamesRefused, OpensDue, RecordsJust, first_heard, lost_dealing, since_below};
 
 #[cfg(test)]
 mod tests;
@@ -79,6 +80,15 @@ impl Node {
         ensures holds { IfOk result (λ made. IfSome made (λ node. IsTrue D.tells → IsTrue X.tells
             → IsWhole (entries (D.files devices.old.disk.now)) (X.held devices.old.secrets.now)
             → HoldsDealings node.store.dealings (D.image devices.new.disk.now) (X.held devices.new.secrets.now))) }
+        // None is answered exactly where a recorded log bears this node's acknowledgement of a dealing that isn't there.
+        ensures none { IfOk result (λ made. IsTrue D.tells → IsTrue X.tells → is_some made ≡ not (lost_dealing (λ dealer log. C.bears_ack_of round.now dealer log me)
+            epoch (entries (D.files devices.old.disk.now)) (X.held devices.old.secrets.now))) }
+        // An error is due to a device, a cut, want of memory, a record that is not in its grammar, or a recorded dealing that the round refuses.
+        ensures due { IfErr result (λ e. OpensDue (λ name place. IsTrue D.tells → IsCorruptAt (non_zero_u32_get limit) (D.files devices.old.disk.now) name place)
+            (λ cause. NamesRefused (IsTrue D.tells × IsTrue X.tells) (C.dealing_of round.now me) epoch
+            (entries (D.files devices.old.disk.now)) (X.held devices.old.secrets.now) cause)
+            e (Rose (D.faults devices.old.disk.now) (D.faults devices.new.disk.now))
+            (Rose (X.faults devices.old.secrets.now) (X.faults devices.new.secrets.now)) (Reached devices.old.fuse devices.new.fuse)) }
         ensures pruned { OnOk result (IsTrue X.tells → X.held devices.new.secrets.now ≡ after (Prune (epoch - 1)) (X.held devices.old.secrets.now)) }
         ensures same { SameLoans devices.old devices.new }
     {
