@@ -21,7 +21,7 @@ use Rattle.dkg_infos.specs.declared.fault.ParticipantsCause.TheVariants as cause
 use Rattle.dkg_infos.specs.declared.info.EpochInfo.{EpochInfo}
 use Rattle.dkg_store.specs.Acts.{Held}
 use Rattle.dkg_store.specs.Recorded.{Pair, first_refused, refused_or}
-use Rattle.dkg_script.specs.Blocks.{delivered_number}
+use Rattle.dkg_script.specs.Blocks.{delivered_number, round_by}
 use Rattle.dkg_script.specs.Epochs.{alone}
 use Rattle.dkg_script.specs.Position.{life_follows}
 use Rattle.dkg_text.specs.declared.script.BlockLine.{BlockLine}
@@ -43,7 +43,7 @@ use Rattle.dkg_core.specs.Endings.{OnInfo, first_epoch, seat_in, stage_in, valid
 use Rattle.dkg_core.proofs.Applied.{deals_below, includes_above}
 use Rattle.dkg_core.proofs.Heights.{below_middle}
 use Rattle.dkg_core.proofs.StepDealing as dealing
-use Rattle.dkg_lives.specs.Blamed.{IsAskedOwn, IsBlockCause, IsBlockOwn, IsCause, IsClear, IsInfoCause, IsInfoOf, IsNextCause, IsOwn, IsOwnCause, IsProviderCause, IsReadingEvent, IsTakenLast, MayRead, OnCarried, first_epoch_in, is_beyond, is_first_taken, epoch_behind, opening_block, per_epoch, refusal_by, refusal_in, round_by, tip_in}
+use Rattle.dkg_lives.specs.Blamed.{IsAskedOwn, IsBlockCause, IsBlockOwn, IsCause, IsClear, IsInfoCause, IsInfoOf, IsNextCause, IsOwn, IsOwnCause, IsProviderCause, IsReadingEvent, IsTakenLast, MayRead, OnCarried, first_epoch_in, is_beyond, is_first_taken, epoch_behind, opening_block, per_epoch, refusal_by, refusal_in, tip_in}
 use Rattle.dkg_lives.specs.Epochs.{IsLifeInForm, StandsInScript, any_shares, awaited_by, epoch_by}
 use Rattle.dkg_lives.specs.Given.{Lived, at_step, blocks_in}
 use Rattle.dkg_along.proofs.Asking.{AreMade, Each, IsCarried, WasMade, first_block_same}

@@ -2,9 +2,9 @@
 use Rattle.std.proofs.Common.{◌≡◌, ◌⊎◌, inl, inr, ℕ, suc, ◌==◌, List, [], ◌∷◌, ◌++◌, Option, Some, None, Ok, Bool, true, false, arith, refl, sym, ap, subst, ◌∙◌, take, filter_map, add-one}
 use Rattle.std.specs.Prelude.{find, option_and_then, option_map, option_to_list, slice_get, IfSome, IsSomeAnd, if◌then◌else◌}
 use Rattle.std.specs.List.{AllByRecursion, cons_option}
+use Rattle.std.specs.Result.{result_ok}
 use Rattle.std.specs.Int.NonZero.{non_zero_u32_get}
 use Rattle.std.proofs.lemmas.Bool.Decides.{nat_tests}
-use Rattle.dkg_ceremony.specs.Rounds.{round_of}
 use Rattle.dkg_ceremony.specs.Schedule.{boundary, epoch_of, last}
 use Rattle.dkg_ceremony.specs.declared.mode.Reveal.TheVariants.{V1}
 use Rattle.dkg_ceremony.specs.declared.round.RoundParts.{RoundParts as Round}
@@ -19,7 +19,7 @@ use Rattle.dkg_journal.specs.Names.{Files}
 use Rattle.dkg_text.specs.declared.script.Event.{Event}
 use Rattle.dkg_text.specs.declared.script.Event.TheVariants.{Final}
 use Rattle.dkg_text.specs.declared.script.Life.{Life}
-use Rattle.dkg_script.specs.Blocks.{ScriptBlock, anchor_number, numbered_block, block_of, blocks, info_at_boundary, known_info, reshare_round, round_at, used}
+use Rattle.dkg_script.specs.Blocks.{ScriptBlock, anchor_number, numbered_block, block_of, blocks, info_at_boundary, known_info, round_at, round_by, used}
 use Rattle.dkg_script.specs.Consistent.{IsConsistentScript}
 use Rattle.dkg_script.specs.Inclusion.{IsFormOfInclusion}
 use Rattle.dkg_script.specs.Readings.{Info, Limits, info_in, unit_payload, with_spelled}
@@ -96,7 +96,7 @@ module _ (s : Setting) (cuts : List (Option CutAt)) (form : IsFormOfInclusion s.
   pub same_limits : limits s ≡ limits_of s.script
   same_limits = rw form.reshares refl
 
-  pub round_is : (epoch : ℕ) → round_at s epoch ≡ option_and_then (reshare_round s epoch) (known_info s epoch)
+  pub round_is : (epoch : ℕ) → round_at s epoch ≡ option_and_then (λ (info : Info). result_ok (round_by s.script epoch info)) (known_info s epoch)
   unfolding round_at
   round_is epoch = rw form.reshares refl
 
@@ -136,8 +136,8 @@ module _ (s : Setting) (cuts : List (Option CutAt)) (form : IsFormOfInclusion s.
     info_known all at = subst (λ (o : Option Info). IfSome o Known) (at_boundary at) (subst (λ (o : Option ScriptBlock). IfSome o Begins) (of_line s number made_it.line made_it.line_is) all)
 
     pub round_known : Numbered number → (made_it.block).height ≡ boundary (blocks_per_epoch s) info.epoch → (round : Round)
-        → round_of s.script.config.namespace info.epoch (Some info.output) s.script.config.mode V1 info.output.players info.players ≡ Ok round → round_at s info.epoch ≡ Some round
-    round_known all at round drawn = round_is info.epoch ∙ ap (λ (o : Option Info). option_and_then (reshare_round s info.epoch) o) (info_known all at) ∙ (rw drawn refl)
+        → round_by s.script info.epoch info ≡ Ok round → round_at s info.epoch ≡ Some round
+    round_known all at round drawn = round_is info.epoch ∙ ap (λ (o : Option Info). option_and_then (λ (i : Info). result_ok (round_by s.script info.epoch i)) o) (info_known all at) ∙ ap result_ok drawn
 
   module _ (l : ℕ) (life : Life) (seen : Held → Seen) (files : Files) (life_is : life_at s l ≡ Some life) where
     abbrev g : Lived
@@ -154,8 +154,7 @@ module _ (s : Setting) (cuts : List (Option CutAt)) (form : IsFormOfInclusion s.
         → (made_it.block).height ≡ boundary (blocks_per_epoch s) info.epoch → round_for (at_step g taken) epoch info ≡ Ok round → round_at s round.number ≡ Some round
     unfolding at_step
     of_seat taken number made_it info epoch round all carries same at drawn =
-        let of_info : round_of s.script.config.namespace info.epoch (Some info.output) s.script.config.mode V1 info.output.players info.players ≡ Ok round
-        = subst (λ (e : ℕ). round_of s.script.config.namespace e (Some info.output) s.script.config.mode V1 info.output.players info.players ≡ Ok round) (sym same) drawn in
+        let of_info : round_by s.script info.epoch info ≡ Ok round = subst (λ (e : ℕ). round_by s.script e info ≡ Ok round) (sym same) drawn in
         let number_is : round.number ≡ info.epoch
         = (is_ceremony g taken).round_has s.script.config.namespace info.epoch (Some info.output) s.script.config.mode V1 info.output.players info.players round of_info in
         ap (round_at s) number_is ∙ round_known number made_it info carries all at round of_info

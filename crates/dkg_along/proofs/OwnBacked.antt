@@ -7,7 +7,6 @@ use Rattle.std.specs.Cmp.{nat_cmp_total}
 use Rattle.dkg_values.specs.Rising.{lookup}
 use Rattle.dkg_ceremony.specs.Deals.{deal_of}
 use Rattle.dkg_ceremony.specs.RoundLaws as rounds
-use Rattle.dkg_ceremony.specs.Rounds.{round_of}
 use Rattle.dkg_ceremony.specs.Schedule.{epoch_of}
 use Rattle.dkg_ceremony.specs.declared.mode.Reveal.TheVariants.{V1}
 use Rattle.dkg_ceremony.specs.declared.output.Output.{Output}
@@ -20,7 +19,7 @@ use Rattle.dkg_secrets.specs.declared.secrets.SecretOp.TheVariants.{Prune, PutSe
 use Rattle.dkg_secrets.proofs.Map.{get_here, get_other, same_key}
 use Rattle.dkg_infos.specs.declared.entry.Entry.{Entry}
 use Rattle.dkg_infos.specs.declared.info.EpochInfo.{EpochInfo}
-use Rattle.dkg_script.specs.Blocks.{known_info, reshare_round, round_at}
+use Rattle.dkg_script.specs.Blocks.{known_info, round_at, round_by}
 use Rattle.dkg_script.specs.Inclusion.{IsFormOfInclusion}
 use Rattle.dkg_script.specs.Readings.{Info}
 use Rattle.dkg_script.specs.Setting.{Setting, me}
@@ -69,20 +68,20 @@ of_answer P (Ok x) t so is = subst P (let same : x ≡ t = cc in same) so
 of_answer {T} {E} P (Err e) t so is = absurd (let no : ◌≡◌ {A = Result T E} (Err e) (Ok t) = is in cc)
 
 module _ (s : Setting) (form : IsFormOfInclusion s.script) where
-  round_is : (epoch : ℕ) → round_at s epoch ≡ option_and_then (reshare_round s epoch) (known_info s epoch)
+  round_is : (epoch : ℕ) → round_at s epoch ≡ option_and_then (λ (info : Info). result_ok (round_by s.script epoch info)) (known_info s epoch)
   unfolding round_at
   round_is epoch = rw form.reshares refl
 
   pub has_previous : (epoch : ℕ) (round : Round) → round_at s epoch ≡ Some round → (o : Output) × (round.previous ≡ Some o)
   has_previous epoch round made = by_info (known_info s epoch) (sym (round_is epoch) ∙ made)
     where
-      by_round : (info : Info) (r : Result Round RoundError) → round_of s.script.config.namespace epoch (Some info.output) s.script.config.mode V1 info.output.players info.players ≡ r → result_ok r ≡ Some round → (o : Output) × (round.previous ≡ Some o)
+      by_round : (info : Info) (r : Result Round RoundError) → round_by s.script epoch info ≡ r → result_ok r ≡ Some round → (o : Output) × (round.previous ≡ Some o)
       by_round info (Err e) drawn is = absurd (none_some is)
       by_round info (Ok its) drawn is =
           let same : its ≡ round = some_is is in (
             info.output,
-            of_answer (λ (r : Round). r.previous ≡ Some info.output) (round_of s.script.config.namespace epoch (Some info.output) s.script.config.mode V1 info.output.players info.players) round
-                (all (round_of s.script.config.namespace epoch (Some info.output) s.script.config.mode V1 info.output.players info.players) (rounds.round_has s.script.config.namespace epoch (Some info.output) s.script.config.mode V1 info.output.players info.players)) (drawn ∙ ap (λ (r : Round). Ok r) same),
+            of_answer (λ (r : Round). r.previous ≡ Some info.output) (round_by s.script epoch info) round
+                (all (round_by s.script epoch info) (rounds.round_has s.script.config.namespace epoch (Some info.output) s.script.config.mode V1 info.output.players info.players)) (drawn ∙ ap (λ (r : Round). Ok r) same),
           )
         where
           all : (r : Result Round RoundError) → IfOk r (λ x. x ≡ record { namespace = s.script.config.namespace; number = epoch; previous = Some info.output; mode = s.script.config.mode; reveal = V1; dealers = info.output.players; players = info.players })
@@ -90,9 +89,9 @@ module _ (s : Setting) (form : IsFormOfInclusion s.script) where
           all (Ok x) is = ap (λ (r : Round). r.previous) is
           all (Err e) is = tt
 
-      by_info : (o : Option Info) → option_and_then (reshare_round s epoch) o ≡ Some round → (o : Output) × (round.previous ≡ Some o)
+      by_info : (o : Option Info) → option_and_then (λ (info : Info). result_ok (round_by s.script epoch info)) o ≡ Some round → (o : Output) × (round.previous ≡ Some o)
       by_info None is = absurd (none_some is)
-      by_info (Some info) is = by_round info (round_of s.script.config.namespace epoch (Some info.output) s.script.config.mode V1 info.output.players info.players) refl is
+      by_info (Some info) is = by_round info (round_by s.script epoch info) refl is
 
   -- ITS OWN DEALINGS among these are what a share deals, and the seed that these secrets hold. (There is one share that something is dealt with.)
 

@@ -5,13 +5,10 @@ use Rattle.std.specs.Option.{option_map_or}
 use Rattle.std.specs.Str.{bytes_eq}
 use Rattle.dkg_ceremony.specs.Dealings.{dealing_of}
 use Rattle.dkg_ceremony.specs.Deals.{deal_of}
-use Rattle.dkg_ceremony.specs.Rounds.{round_of}
 use Rattle.dkg_ceremony.specs.Schedule.{boundary, epoch_of, last, midpoint}
 use Rattle.dkg_ceremony.specs.declared.ceremony.DealingError.{DealingError}
 use Rattle.dkg_ceremony.specs.declared.deal.DealError.{DealError}
-use Rattle.dkg_ceremony.specs.declared.mode.Reveal.TheVariants.{V1}
 use Rattle.dkg_ceremony.specs.declared.round.RoundParts.{RoundParts as Round}
-use Rattle.dkg_ceremony.specs.declared.round.RoundError.{RoundError}
 use Rattle.dkg_journal.specs.Names.{Files}
 use Rattle.dkg_secrets.specs.Secrets.{Secrets as Kept}
 use Rattle.dkg_types.specs.BlockCodes.{info_of}
@@ -30,7 +27,7 @@ use Rattle.dkg_text.specs.declared.script.Event.{Event}
 use Rattle.dkg_text.specs.declared.script.Event.TheVariants.{Final, Info, Feed, Over, Cancel, Work}
 use Rattle.dkg_text.specs.declared.script.Life.{Life}
 use Rattle.dkg_text.specs.declared.script.Script.{Script}
-use Rattle.dkg_script.specs.Blocks.{anchor_number}
+use Rattle.dkg_script.specs.Blocks.{anchor_number, round_by}
 use Rattle.dkg_script.specs.Epochs.{alone}
 use Rattle.dkg_script.specs.Players.{players_at}
 use Rattle.dkg_script.specs.Position.{awaited_epoch, awaited_height_after, life_follows}
@@ -55,10 +52,6 @@ is_beyond script height = nat_le (2 ^ 64) (last (per_epoch script) (epoch_of (pe
 abbrev pub judged_by : Script → EpochInfo directory.Unit → Result (Unit {0}) ParticipantsError
 judged_by script info =
     validation (record { dealers = info.output.players; players = info.players; next_players = info.next_players }) (non_zero_u32_get script.config.limit) (Some info.output) info.epoch
-
--- the round that it makes in an epoch, or why it makes none
-abbrev pub round_by : Script → (epoch : ℕ) → EpochInfo directory.Unit → Result Round RoundError
-round_by script epoch info = round_of script.config.namespace epoch (Some info.output) script.config.mode V1 info.output.players info.players
 
 -- It is of the epoch and valid, and P holds of the round that it makes.
 abbrev pub Draws : Script → (epoch : ℕ) → EpochInfo directory.Unit → (Round → Type 0) → Type 0

@@ -23,6 +23,7 @@ use Rattle.dkg_text.specs.declared.script.Event.TheVariants as event
 use Rattle.dkg_text.specs.declared.script.Life.{Life}
 use Rattle.dkg_text.specs.declared.script.Script.{Script}
 use Rattle.dkg_store.specs.Acts.{Ended}
+use Rattle.dkg_script.specs.Blocks.{round_by}
 use Rattle.dkg_script.specs.Epochs.{alone}
 use Rattle.dkg_script.specs.Position.{awaited_epoch, life_follows}
 use Rattle.dkg_core.specs.Behind.{event_of}
@@ -45,7 +46,7 @@ use Rattle.dkg_core.specs.Through.{IsLiveThrough, asked_by, included}
 use Rattle.dkg_laws.proofs.NodeSaying.{node_steps_say_through}
 use Rattle.dkg_promises.specs.Answers.{IsAnsweredSo, IsAskedFor, IsMadeOf, IsProvidedFor, IsUnavailable}
 use Rattle.dkg_lives.specs.Asks.{IsRefusedAt, IsUncancelled, RequestStanding, WereAsked, bounds_in, fed_in, next_bytes, scan_tip, request_standing, turns}
-use Rattle.dkg_lives.specs.Blamed.{IsInfoOf, IsTakenLast, round_by, tip_in}
+use Rattle.dkg_lives.specs.Blamed.{IsInfoOf, IsTakenLast, tip_in}
 use Rattle.dkg_lives.specs.Epochs.{IsLifeInForm, StandsInScript, any_shares, epoch_by}
 use Rattle.dkg_lives.specs.Given.{Lived, at_step, blocks_in}
 use Rattle.dkg_promises.proofs.Ancestry.{IsRead}

@@ -12,7 +12,6 @@ use Rattle.dkg_ceremony.specs.Dealings.{dealing_of}
 use Rattle.dkg_ceremony.specs.Deals.{deal_of}
 use Rattle.dkg_ceremony.specs.PartialPublics.{partial_public_of, share_public_of}
 use Rattle.dkg_ceremony.specs.RoundLaws.{round_has}
-use Rattle.dkg_ceremony.specs.Rounds.{round_of}
 use Rattle.dkg_ceremony.specs.declared.ceremony.DealingError.{DealingError}
 use Rattle.dkg_ceremony.specs.declared.deal.DealError.{DealError}
 use Rattle.dkg_ceremony.specs.declared.mode.Reveal.TheVariants.{V1}
@@ -29,6 +28,7 @@ use Rattle.dkg_secrets.proofs.Map.{keys_total}
 use Rattle.dkg_store.specs.Acts.{Held}
 use Rattle.dkg_store.specs.Pairs.{Pairs}
 use Rattle.dkg_store.specs.Recorded.{Pair, first_refused, refused_or}
+use Rattle.dkg_script.specs.Blocks.{round_by}
 use Rattle.dkg_script.proofs.Listed.{each_found}
 use Rattle.dkg_core.specs.Forms.{IsSetupFault}
 use Rattle.dkg_core.specs.Heard.{recovered_in}
@@ -138,7 +138,7 @@ module _ (g : Lived) (taken : ℕ) (epoch : ℕ) (info : EpochInfo directory.Uni
       previous : round.previous ≡ Some info.output
       previous = ap (λ (r : Round). r.previous)
           (of_answer (λ (r : Round). r ≡ record { namespace = g.script.config.namespace; number = epoch; previous = Some info.output; mode = g.script.config.mode; reveal = V1; dealers = info.output.players; players = info.players })
-          (round_of g.script.config.namespace epoch (Some info.output) g.script.config.mode V1 info.output.players info.players) round
+          (round_by g.script epoch info) round
           (round_has g.script.config.namespace epoch (Some info.output) g.script.config.mode V1 info.output.players info.players) why.1.2.1)
 
       by_key : (a b c : Bool) → (a && b && c) ≡ true → b ≡ true

@@ -6,9 +6,7 @@ use Rattle.std.specs.FinMap.{get}
 use Rattle.std.specs.Result.{result_ok}
 use Rattle.dkg_ceremony.specs.Dealings.{dealing_of}
 use Rattle.dkg_ceremony.specs.PartialPublics.{partial_public_of, share_public_of}
-use Rattle.dkg_ceremony.specs.Rounds.{round_of}
 use Rattle.dkg_ceremony.specs.Schedule.{boundary}
-use Rattle.dkg_ceremony.specs.declared.mode.Reveal.TheVariants.{V1}
 use Rattle.dkg_ceremony.specs.declared.round.RoundParts.{RoundParts as Round}
 use Rattle.dkg_journal.specs.Names.{Files}
 use Rattle.dkg_types.specs.BlockCodes.{info_of}
@@ -20,7 +18,7 @@ use Rattle.dkg_infos.specs.declared.fault.Fault.TheVariants.{LocalState}
 use Rattle.dkg_infos.specs.declared.fault.LocalCause.TheVariants.{ShareRefused, StoredDealing}
 use Rattle.dkg_infos.specs.declared.info.EpochInfo.{EpochInfo}
 use Rattle.dkg_text.specs.declared.script.Life.{Life}
-use Rattle.dkg_script.specs.Blocks.{anchor_number, known_info, reshare_round, round_at}
+use Rattle.dkg_script.specs.Blocks.{anchor_number, known_info, round_at, round_by}
 use Rattle.dkg_script.specs.Consistent.{IsConsistentScript}
 use Rattle.dkg_script.specs.Inclusion.{IsFormOfInclusion}
 use Rattle.dkg_script.specs.Readings.{Info, with_spelled}
@@ -62,8 +60,8 @@ module _ (s : Setting) (cuts : List (Option CutAt)) (form : IsFormOfInclusion s.
     unfolding at_step
     round_there round same drawn =
         let number : round.number ≡ epoch = (is_ceremony g taken).round_has _ epoch _ _ _ _ _ round drawn in
-        ap (round_at s) (number ∙ sym same) ∙ round_is s cuts form consistent info.epoch ∙ ap (λ (o : Option Info). option_and_then (reshare_round s info.epoch) o) known
-        ∙ ap result_ok (subst (λ (e : ℕ). round_of s.script.config.namespace e (Some info.output) s.script.config.mode V1 info.output.players info.players ≡ Ok round) (sym same) drawn)
+        ap (round_at s) (number ∙ sym same) ∙ round_is s cuts form consistent info.epoch ∙ ap (λ (o : Option Info). option_and_then (λ (i : Info). result_ok (round_by s.script info.epoch i)) o) known
+        ∙ ap result_ok (subst (λ (e : ℕ). round_by s.script e info ≡ Ok round) (sym same) drawn)
 
     pub setup_valid : (seed : List ℕ) (st : Live directory.Unit) → st.records.dealings ≡ maps.entries (recovered_in k) → (its : Fault) → IsStateFault its
         → IsSetupFault (at_step g taken) epoch info (share_read (at_step g taken) info k) seed st its → ⊥

@@ -18,6 +18,7 @@ use Rattle.dkg_infos.specs.declared.directory.Unit as directory
 use Rattle.dkg_infos.specs.declared.fault.Fault.TheVariants.{LocalState}
 use Rattle.dkg_infos.specs.declared.fault.LocalCause.TheVariants.{StoredDealing}
 use Rattle.dkg_infos.specs.declared.info.EpochInfo.{EpochInfo}
+use Rattle.dkg_script.specs.Blocks.{round_by}
 use Rattle.dkg_store.specs.Acts.{Held}
 use Rattle.dkg_store.specs.Pairs.{Pairs}
 use Rattle.dkg_store.specs.Recorded.{Pair, first_refused, of_epoch}
@@ -31,7 +32,7 @@ use Rattle.dkg_core.specs.Logs.{logs_of}
 use Rattle.dkg_core.specs.Setup.{may_deal, refused_in}
 use Rattle.dkg_core.specs.Stepping.{OwnDiffers}
 use Rattle.dkg_core.proofs.Sound.{first_of_three}
-use Rattle.dkg_lives.specs.Blamed.{Draws, per_epoch, round_by}
+use Rattle.dkg_lives.specs.Blamed.{Draws, per_epoch}
 use Rattle.dkg_promises.specs.Found.{IsBegunBy, IsCarriedShare, IsFirstRefusedIn, IsRefusedBy}
 use Rattle.dkg_lives.specs.Given.{Lived, at_step, blocks_in}
 use Rattle.dkg_lives.proofs.Former.{is_ceremony}

@@ -29,7 +29,7 @@ use Rattle.dkg_text.specs.declared.script.Event.{Event}
 use Rattle.dkg_text.specs.declared.script.Event.TheVariants as event
 use Rattle.dkg_text.specs.declared.script.Life.{Life}
 use Rattle.dkg_text.specs.declared.script.Script.{Script}
-use Rattle.dkg_script.specs.Blocks.{ScriptBlock, anchor_number, numbered_block, block_of, blocks, used}
+use Rattle.dkg_script.specs.Blocks.{ScriptBlock, anchor_number, numbered_block, block_of, blocks, round_by, used}
 use Rattle.dkg_script.specs.Epochs.{alone}
 use Rattle.dkg_script.specs.Inclusion.{IsEventIn, IsFormOfInclusion}
 use Rattle.dkg_script.specs.Players.{players_at}
@@ -38,7 +38,7 @@ use Rattle.dkg_script.specs.Readings.{Info, Limits, info_in, unit_payload, with_
 use Rattle.dkg_script.specs.Setting.{CutAt, Setting, blocks_per_epoch, found, life_at, limits}
 use Rattle.dkg_script.specs.Valid.{participants_by}
 use Rattle.dkg_script.proofs.LineBlocks.{of_line}
-use Rattle.dkg_lives.specs.Blamed.{IsBlockCause, IsCause, IsInfoCause, IsLastCause, IsMayCause, IsNextCause, IsOpeningCause, IsProviderCause, IsTakenLast, OnBlock, refusal_in, first_epoch_in, is_beyond, is_first_taken, judged_by, epoch_behind, opening_block, round_by, tip_in}
+use Rattle.dkg_lives.specs.Blamed.{IsBlockCause, IsCause, IsInfoCause, IsLastCause, IsMayCause, IsNextCause, IsOpeningCause, IsProviderCause, IsTakenLast, OnBlock, refusal_in, first_epoch_in, is_beyond, is_first_taken, judged_by, epoch_behind, opening_block, tip_in}
 use Rattle.dkg_lives.specs.Epochs.{IsAnchorAbove}
 use Rattle.dkg_lives.specs.Given.{AreBytes, blocks_in, limits_of, payload_in}
 use Rattle.dkg_script.specs.Valid.{BeginsWell, ComesInTurn, MayEndEpoch, HasPlayers, IsValidCase, LiesInRange, ProvidesNext, ServesIn}

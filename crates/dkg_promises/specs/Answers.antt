@@ -25,7 +25,7 @@ use Rattle.dkg_text.specs.declared.script.Life.{Life}
 use Rattle.dkg_text.specs.declared.script.Script.{Script}
 use Rattle.dkg_script.specs.AsCut.{setting_as_cut}
 use Rattle.dkg_script.specs.Epochs.{alone}
-use Rattle.dkg_script.specs.Blocks.{chain, known_info}
+use Rattle.dkg_script.specs.Blocks.{chain, known_info, round_by}
 use Rattle.dkg_script.specs.History.{IsWholeHistory}
 use Rattle.dkg_script.specs.Inclusion.{IsFormOfInclusion}
 use Rattle.dkg_script.specs.Players.{players_at}
@@ -35,7 +35,7 @@ use Rattle.dkg_script.specs.Readings.{with_spelled}
 use Rattle.dkg_script.specs.Setting.{Setting, life_at, setting_of}
 use Rattle.dkg_script.specs.Views.{seen_block}
 use Rattle.dkg_lives.specs.Asks.{IsPathOf, IsRefusedAt, IsShortAt, IsUncancelled, WereAsked, fed_in, next_bytes, request_standing}
-use Rattle.dkg_lives.specs.Blamed.{IsInfoOf, IsTakenLast, per_epoch, round_by}
+use Rattle.dkg_lives.specs.Blamed.{IsInfoOf, IsTakenLast, per_epoch}
 use Rattle.dkg_lives.specs.Given.{blocks_in}
 
 abbrev U : Type 0

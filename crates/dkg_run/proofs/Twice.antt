@@ -3,6 +3,7 @@ use Rattle.std.proofs.Common.{ℕ, List, [], ◌++◌, ◌==◌, Option, Some, R
 use Rattle.std.specs.Prelude.{None, if◌then◌else◌, option_and_then, option_to_list}
 use Rattle.std.specs.FinMap.{get}
 use Rattle.std.specs.List.{AllByRecursion}
+use Rattle.std.specs.Result.{result_ok}
 use Rattle.dkg_values.specs.declared.name.Name.TheVariants.{Plan}
 use Rattle.dkg_ceremony.specs.declared.round.RoundParts.{RoundParts as Round}
 use Rattle.dkg_journal.specs.Disk.{Lands}
@@ -13,7 +14,7 @@ use Rattle.dkg_infos.specs.declared.entry.Entry.{Entry}
 use Rattle.dkg_infos.specs.declared.fault.Fault.{Fault}
 use Rattle.dkg_text.specs.declared.script.Script.{Script}
 use Rattle.dkg_script.specs.AsCut.{as_cut, setting_as_cut, with_cuts}
-use Rattle.dkg_script.specs.Blocks.{carried_infos, chain, info_at_boundary, known_in, known_info, oneshot_round, provided_material, reshare_round, round_at, used}
+use Rattle.dkg_script.specs.Blocks.{carried_infos, chain, info_at_boundary, known_in, known_info, oneshot_round, provided_material, round_at, round_by, used}
 use Rattle.dkg_script.specs.Consistent.{IsConsistentScript}
 use Rattle.dkg_script.specs.Promise.{AreHonestStores, cuts_in}
 use Rattle.dkg_script.specs.Readings.{Info, material_in}
@@ -53,7 +54,7 @@ module _ (script : Script) (files other : Files) (held its : Secrets) (plan : ge
   abbrev round_with : ℕ → Option (List ℕ) → Option Round
   round_with epoch o =
       if is_oneshot one then (if epoch == 0 then option_and_then (oneshot_round one) script.config.oneshot else None)
-      else option_and_then (reshare_round one epoch)
+      else option_and_then (λ (info : Info). result_ok (round_by script epoch info))
       (if is_oneshot one then (if epoch == 0 then option_and_then (λ b. b.info) (chain one (last (blocks_per_epoch one) 0)) else None) else info_with epoch o)
 
   same_round : (epoch : ℕ) → round_at (setting_of script other its) epoch ≡ round_at one epoch
@@ -65,16 +66,16 @@ module _ (s : Setting) (cuts : List (Option CutAt)) (reshares : s.script.config.
   cut_info : (epoch : ℕ) (info : Info) → known_info (with_cuts cuts s) epoch ≡ Some info → known_info s epoch ≡ Some info
   cut_info epoch info is = known_within s cuts one_info epoch info is
 
-  round_is : (t : Setting) → t.script.config.oneshot ≡ None → (epoch : ℕ) → round_at t epoch ≡ option_and_then (reshare_round t epoch) (known_info t epoch)
+  round_is : (t : Setting) → t.script.config.oneshot ≡ None → (epoch : ℕ) → round_at t epoch ≡ option_and_then (λ (info : Info). result_ok (round_by t.script epoch info)) (known_info t epoch)
   unfolding round_at
   round_is t no_oneshot epoch = rw no_oneshot refl
 
   cut_round : (epoch : ℕ) (round : Round) → round_at (with_cuts cuts s) epoch ≡ Some round → round_at s epoch ≡ Some round
   cut_round epoch round made = by_info (known_info (with_cuts cuts s) epoch) refl (sym (round_is (with_cuts cuts s) reshares epoch) ∙ made)
     where
-      by_info : (o : Option Info) → known_info (with_cuts cuts s) epoch ≡ o → option_and_then (reshare_round s epoch) o ≡ Some round → round_at s epoch ≡ Some round
+      by_info : (o : Option Info) → known_info (with_cuts cuts s) epoch ≡ o → option_and_then (λ (info : Info). result_ok (round_by s.script epoch info)) o ≡ Some round → round_at s epoch ≡ Some round
       by_info None is none = absurd (none_some none)
-      by_info (Some info) is so = round_is s reshares epoch ∙ ap (λ (o : Option Info). option_and_then (reshare_round s epoch) o) (cut_info epoch info is) ∙ so
+      by_info (Some info) is so = round_is s reshares epoch ∙ ap (λ (o : Option Info). option_and_then (λ (i : Info). result_ok (round_by s.script epoch i)) o) (cut_info epoch info is) ∙ so
 
   agrees_as_cut : (files : Files) (held : Secrets) → AgreesWith s files held → AgreesWith (with_cuts cuts s) files held
   agrees_as_cut files held agrees = record {

@@ -1,5 +1,5 @@
 -- The blocks of a script, and the chain, the epochs' infos and the rounds that they make.
-use Rattle.std.specs.Prelude.{ℕ, zero, suc, List, [], ◌∷◌, ◌++◌, ◌^◌, ◌-◌, ◌==◌, take, Option, Some, None, option_map, option_and_then, option_to_list, slice_get, fold, filter_map, flat_map, find, map, if◌then◌else◌}
+use Rattle.std.specs.Prelude.{ℕ, zero, suc, List, [], ◌∷◌, ◌++◌, ◌^◌, ◌-◌, ◌==◌, take, Option, Some, None, Result, option_map, option_and_then, option_to_list, slice_get, fold, filter_map, flat_map, find, map, if◌then◌else◌}
 use Rattle.std.specs.Option.{option_map_or}
 use Rattle.std.specs.Result.{result_ok}
 use Rattle.std.specs.FinMap.{get}
@@ -7,9 +7,11 @@ use Rattle.sha2.specs.Sha256.{sha256}
 use Rattle.dkg_values.specs.Uint.{uint}
 use Rattle.dkg_values.specs.declared.name.Name.TheVariants.{Plan}
 use Rattle.dkg_ceremony.specs.declared.mode.Reveal.TheVariants.{V1}
+use Rattle.dkg_ceremony.specs.declared.round.RoundError.{RoundError}
 use Rattle.dkg_ceremony.specs.declared.round.RoundParts.{RoundParts as Round}
 use Rattle.dkg_ceremony.specs.declared.signed_log.SignedDealerLog.{SignedDealerLog}
 use Rattle.dkg_ceremony.specs.Rounds.{round_of}
+use Rattle.dkg_infos.specs.declared.info.EpochInfo.{EpochInfo}
 use Rattle.dkg_types.specs.BlockCodes.{context_bytes, zero_digest}
 use Rattle.dkg_text.specs.declared.script.Anchor.{Anchor}
 use Rattle.dkg_text.specs.declared.script.Anchor.TheVariants.{Processed, Absent}
@@ -18,6 +20,7 @@ use Rattle.dkg_text.specs.declared.script.Cut.{Cut}
 use Rattle.dkg_text.specs.declared.script.Event.{Event}
 use Rattle.dkg_text.specs.declared.script.Event.TheVariants.{Final}
 use Rattle.dkg_text.specs.declared.script.Life.{Life}
+use Rattle.dkg_text.specs.declared.script.Script.{Script}
 use Rattle.dkg_text.specs.declared.script.SyncLine.{SyncLine}
 use Rattle.dkg_script.specs.Schedule.{epoch_of, boundary, last}
 use Rattle.dkg_script.specs.Readings.{Info, SyncMaterial, info_in, log_in, material_in}
@@ -145,12 +148,12 @@ info_of_epoch s epoch =
 abbrev pub oneshot_round : Setting → List ℕ → Option Round
 oneshot_round s participants = result_ok (round_of s.script.config.namespace 0 None s.script.config.mode V1 participants participants)
 
--- the round of an epoch: the players of its info's output deal to its players
-abbrev pub reshare_round : Setting → ℕ → Info → Option Round
-reshare_round s epoch info = result_ok (round_of s.script.config.namespace epoch (Some info.output) s.script.config.mode V1 info.output.players info.players)
+-- the round of an epoch by the info that names it, or why it makes none: the players of the info's output deal to its players (dkg_core's `round_for` is this over the rules of any caller)
+abbrev pub round_by : {Dir : Type 0} → Script → (epoch : ℕ) → EpochInfo Dir → Result Round RoundError
+round_by script epoch info = round_of script.config.namespace epoch (Some info.output) script.config.mode V1 info.output.players info.players
 
 -- the ceremony's round of an epoch, where its info is known and gives one (in one-shot mode, of epoch 0 alone)
 unfoldable pub round_at : Setting → ℕ → Option Round
 round_at s epoch =
     if is_oneshot s then (if epoch == 0 then option_and_then (oneshot_round s) s.script.config.oneshot else None)
-    else option_and_then (reshare_round s epoch) (info_of_epoch s epoch)
+    else option_and_then (λ info. result_ok (round_by s.script epoch info)) (info_of_epoch s epoch)

@@ -2,6 +2,7 @@
 use Rattle.std.specs.Prelude.{ℕ, suc, ◌+◌, ◌<◌, ◌≤◌, ◌^◌, ◌≡◌, ◌⊎◌, List, Option, Some, Ok, true, false, ⊤, IfSome, IsSome, IsSomeAnd, length}
 use Rattle.std.specs.FinMap.{get}
 use Rattle.std.specs.List.{AllByRecursion}
+use Rattle.std.specs.Result.{result_ok}
 use Rattle.dkg_ceremony.specs.Dealings.{dealing_of}
 use Rattle.dkg_ceremony.specs.Deals.{deal_of}
 use Rattle.dkg_ceremony.specs.PartialPublics.{partial_public_of, share_public_of}
@@ -14,7 +15,7 @@ use Rattle.dkg_text.specs.declared.script.Event.{Event}
 use Rattle.dkg_text.specs.declared.script.Event.TheVariants as kind
 use Rattle.dkg_text.specs.declared.script.Event.TheVariants.{Final}
 use Rattle.dkg_text.specs.declared.script.Life.{Life}
-use Rattle.dkg_script.specs.Blocks.{ScriptBlock, numbered_block, known_info, reshare_round, round_at, used}
+use Rattle.dkg_script.specs.Blocks.{ScriptBlock, numbered_block, known_info, round_at, round_by, used}
 use Rattle.dkg_script.specs.Consistent.{IsConsistentScript}
 use Rattle.dkg_script.specs.Epochs.{IsUncutBefore}
 use Rattle.dkg_script.specs.Players.{players_at}
@@ -60,7 +61,7 @@ participants_by i = record { dealers = i.output.players; players = i.players; ne
 pub record ServesIn (s : Setting) (epoch : ℕ) (info : Info) : Type 0 where
   pub of_epoch : info.epoch ≡ epoch
   pub accepted : validation (participants_by info) (limits s).limit (Some info.output) epoch ≡ Ok tt
-  pub round : IsSome (reshare_round s epoch info)
+  pub round : IsSome (result_ok (round_by s.script epoch info))
 
 -- a block that begins an epoch carries such an info of that epoch
 abbrev pub BeginsWell : Setting → ScriptBlock → Type 0
