@@ -11,7 +11,7 @@ use Rattle.dkg_store.specs.Recorded.{restored_list}
 use Rattle.dkg_script.specs.Kept.{AllCurrent, Gives}
 use Rattle.dkg_script.specs.Position.{begun_before}
 use Rattle.dkg_script.specs.Progress.{Progress, read}
-use Rattle.dkg_script.specs.Setting.{Setting, listed}
+use Rattle.dkg_script.specs.Setting.{Setting}
 use Rattle.dkg_core.specs.Agreeing.{AreAgreed}
 use Rattle.dkg_core.specs.Fixed.{Fixed}
 use Rattle.dkg_core.specs.Heard.{KeepsFrom, recovered_in}
@@ -77,7 +77,7 @@ module _ {F Dir : Type 0} (c : Fixed Dir) (b e l : ℕ) (ended : Ended F (Live D
       by_end (broken cause) not = tt
 
   abbrev first : Entry
-  first = entry.Opened l (listed m)
+  first = entry.Opened l (restored_list m)
 
   abbrev behind : Progress
   behind = read s p first

@@ -15,7 +15,7 @@ use Rattle.dkg_secrets.specs.Keys.{key_cmp}
 use Rattle.dkg_store.specs.Noted.{Note, Notes, logs_in, noted_log, with_note}
 use Rattle.dkg_store.specs.Pairs.{Pairs}
 use Rattle.dkg_store.specs.Player.{has_orphan, is_orphan}
-use Rattle.dkg_store.specs.Recorded.{at_epoch, bare_logs}
+use Rattle.dkg_store.specs.Recorded.{at_epoch, bare_logs, restored_list}
 use Rattle.dkg_store.specs.declared.recorded_log.RecordedLog.{RecordedLog}
 use Rattle.dkg_secrets.proofs.Map.{keys_total}
 use Rattle.dkg_store.proofs.Own.{lookup_at}
@@ -26,7 +26,7 @@ use Rattle.dkg_script.specs.Kept.{AllCurrent, Gives}
 use Rattle.dkg_script.specs.LogsKnown.{LogsKnown}
 use Rattle.dkg_script.specs.OwnMarks.{AreKnownHandedIn, IsOwnMarkKnown}
 use Rattle.dkg_script.specs.Progress.{pair_of}
-use Rattle.dkg_script.specs.Setting.{Setting, me, listed, recovered_from}
+use Rattle.dkg_script.specs.Setting.{Setting, me, recovered_from}
 use Rattle.dkg_script.proofs.Listed.{each_found}
 use Rattle.dkg_lives.proofs.Currently.{found_current}
 
@@ -76,9 +76,9 @@ is_low : (q : ℕ) → nat_lt q (2 ^ 32) ≡ true → q < 2 ^ 32
 is_low q e = grind (arith, nat_tests)
 
 -- EACH LOG THAT WAS HANDED IN is known, where each entry of the journal is
-pub handed_known : (s : Setting) (begun : ℕ) → AreKnownHandedIn s → LogsKnown s begun (listed (recovered_from s.files s.secrets)) (logs_in (entries s.files))
+pub handed_known : (s : Setting) (begun : ℕ) → AreKnownHandedIn s → LogsKnown s begun (restored_list (recovered_from s.files s.secrets)) (logs_in (entries s.files))
 handed_known s begun known key noted now there =
-    all_found noted_log (λ key r. IsOwnMarkKnown s (listed (recovered_from s.files s.secrets)) key.0 key.1 r.log) (entries s.files) empty known (λ key v none. absurd (none_found key v none)) key noted there
+    all_found noted_log (λ key r. IsOwnMarkKnown s (restored_list (recovered_from s.files s.secrets)) key.0 key.1 r.log) (entries s.files) empty known (λ key v none. absurd (none_found key v none)) key noted there
 
 -- THE RECORDED DEALINGS of an epoch are given back, and its logs known by them
 

@@ -6,6 +6,7 @@ use Rattle.std.specs.List.{AllByRecursion}
 use Rattle.std.specs.Option.{option_map_or, option_or}
 use Rattle.dkg_store.specs.Acts.{Held, notes}
 use Rattle.dkg_store.specs.Pairs.{Pairs, IsWhole}
+use Rattle.dkg_store.specs.Recorded.{restored_list}
 use Rattle.dkg_infos.specs.declared.entry.Entry.{Entry}
 use Rattle.dkg_infos.specs.declared.entry.Entry.TheVariants as entry
 use Rattle.dkg_infos.specs.declared.entry.Restored.{Restored}
@@ -13,8 +14,8 @@ use Rattle.dkg_text.specs.declared.script.Life.{Life}
 use Rattle.dkg_script.specs.Kept.{AllCurrent, Gives, IsBroughtAtCut, IsRecordedAs, IsSound, IsSoundOpening, IsLaterOpening}
 use Rattle.dkg_script.specs.Position.{awaited_before, awaited_epoch, begun, begun_before, cut_of, events_taken, last_awaited}
 use Rattle.dkg_script.specs.Progress.{Progress, read, is_last_step, pair_of, with_life_ended, with_restored, IsBrought}
-use Rattle.dkg_script.specs.Setting.{Setting, CutAt, is_oneshot, life_at, listed, recovered_from}
-use Rattle.dkg_script.proofs.Listed.{gives_all, pair_of-listed}
+use Rattle.dkg_script.specs.Setting.{Setting, CutAt, is_oneshot, life_at, recovered_from}
+use Rattle.dkg_script.proofs.Listed.{gives_all, pair_of-restored_list}
 use Rattle.dkg_script.proofs.Openings.{lists_them}
 use Rattle.dkg_core.specs.Heard.{recovered_in}
 use Rattle.dkg_lives.proofs.Recorded.{all_with_all, all_with_pair, found_is, with_all_finds, with_pair_finds}
@@ -112,19 +113,19 @@ grown_all s (one ∷ entries) p pair there = grown_all s entries (read s p one) 
 -- A LIFE OPENS
 
 module _ (b : ℕ) (s : Setting) (p : Progress) (m : Pairs) (may : MayBeKept b s p m) where
-  found_listed : (pair : Restored) → Gives m pair → pair_of (listed m) pair.epoch pair.dealer ≡ Some pair
-  found_listed pair given = pair_of-listed m pair.epoch pair.dealer
+  found_listed : (pair : Restored) → Gives m pair → pair_of (restored_list m) pair.epoch pair.dealer ≡ Some pair
+  found_listed pair given = pair_of-restored_list m pair.epoch pair.dealer
       ∙ ap (option_map (λ (v : List ℕ × ℕ). record { epoch = pair.epoch; dealer = pair.dealer; public = v.0; private = v.1 })) given
 
-  pub found_then : (pair : Restored) → Gives m pair → pair_of (fold with_restored p.recorded (listed m)) pair.epoch pair.dealer ≡ Some pair
-  found_then pair given = with_all_finds (listed m) p.recorded pair.epoch pair.dealer ∙ by_known (may.known pair given)
+  pub found_then : (pair : Restored) → Gives m pair → pair_of (fold with_restored p.recorded (restored_list m)) pair.epoch pair.dealer ≡ Some pair
+  found_then pair given = with_all_finds (restored_list m) p.recorded pair.epoch pair.dealer ∙ by_known (may.known pair given)
     where
       by_known : (pair_of p.recorded pair.epoch pair.dealer ≡ Some pair) ⊎ ((pair_of p.recorded pair.epoch pair.dealer ≡ None) × IsBroughtAtCut s p pair)
-          → option_or (pair_of p.recorded pair.epoch pair.dealer) (pair_of (listed m) pair.epoch pair.dealer) ≡ Some pair
+          → option_or (pair_of p.recorded pair.epoch pair.dealer) (pair_of (restored_list m) pair.epoch pair.dealer) ≡ Some pair
       by_known (inl known) = rw known refl
       by_known (inr new) = rw new.0 (found_listed pair given)
 
-  recorded_as : (pair : Restored) → Gives m pair → IsRecordedAs p.recorded (fold with_restored p.recorded (listed m)) pair (IsBroughtAtCut s p pair)
+  recorded_as : (pair : Restored) → Gives m pair → IsRecordedAs p.recorded (fold with_restored p.recorded (restored_list m)) pair (IsBroughtAtCut s p pair)
   recorded_as pair given = record { first = brought (may.known pair given); stays = found_then pair given }
     where
       brought : (pair_of p.recorded pair.epoch pair.dealer ≡ Some pair) ⊎ ((pair_of p.recorded pair.epoch pair.dealer ≡ None) × IsBroughtAtCut s p pair)
@@ -132,18 +133,18 @@ module _ (b : ℕ) (s : Setting) (p : Progress) (m : Pairs) (may : MayBeKept b s
       brought (inl known) none = absurd (none_some pair (sym none ∙ known))
       brought (inr new) none = new.1
 
-  opens_soundly : b ≡ begun_before s p.cuts (length p.cuts) → IsSoundOpening s p (listed m)
+  opens_soundly : b ≡ begun_before s p.cuts (length p.cuts) → IsSoundOpening s p (restored_list m)
   opens_soundly is = by_opened p.opened refl
     where
-      by_opened : (o : Option ℕ) → p.opened ≡ o → MatchOption o (listed m ≡ listed (recovered_from s.files s.secrets)) (λ _. IsLaterOpening s p (listed m))
-      by_opened None none = ap listed (may.first none)
+      by_opened : (o : Option ℕ) → p.opened ≡ o → MatchOption o (restored_list m ≡ restored_list (recovered_from s.files s.secrets)) (λ _. IsLaterOpening s p (restored_list m))
+      by_opened None none = ap restored_list (may.first none)
       by_opened (Some l) there = lists_them s p m (subst (λ (n : ℕ). AllCurrent n (Gives m) p.recorded) is may.given) recorded_as
 
-  pub keeps_opening : b ≡ begun_before s p.cuts (length p.cuts) → (l : ℕ) → IsKeptEntry s p (entry.Opened l (listed m))
+  pub keeps_opening : b ≡ begun_before s p.cuts (length p.cuts) → (l : ℕ) → IsKeptEntry s p (entry.Opened l (restored_list m))
   keeps_opening is l = (opens_soundly is, tt)
 
-  pub are_opened : (l : ℕ) → AreKept b m (read s p (entry.Opened l (listed m))).recorded
-  are_opened l = record { given = all_with_all (λ pair. b < pair.epoch + 2 → Gives m pair) (listed m) p.recorded may.given (current_all b (Gives m) (listed m) (gives_all m)); known = found_then }
+  pub are_opened : (l : ℕ) → AreKept b m (read s p (entry.Opened l (restored_list m))).recorded
+  are_opened l = record { given = all_with_all (λ pair. b < pair.epoch + 2 → Gives m pair) (restored_list m) p.recorded may.given (current_all b (Gives m) (restored_list m) (gives_all m)); known = found_then }
 
 -- .. OR NOT
 

@@ -34,6 +34,7 @@ use Rattle.dkg_store.specs.Acts.{Held, Stands, World, at, moment, notes}
 use Rattle.dkg_store.specs.Events.{IsEvent}
 use Rattle.dkg_store.specs.declared.event.Event.TheVariants as events
 use Rattle.dkg_store.specs.Pairs.{IsWhole}
+use Rattle.dkg_store.specs.Recorded.{restored_list}
 use Rattle.dkg_script.specs.AsCut.{as_cut, lives_as_cut}
 use Rattle.dkg_script.specs.Blocks.{handed_in, provided_material}
 use Rattle.dkg_script.specs.Consistent.{IsConsistentScript}
@@ -43,8 +44,8 @@ use Rattle.dkg_script.specs.OwnMarks.{AreKnownHandedIn, IsKnownAt}
 use Rattle.dkg_script.specs.Position.{IsLeft, IsPlanHistory, cut_of, unless_outdated}
 use Rattle.dkg_script.specs.Progress.{AtEachEntry, at_start, pair_of, progress, read}
 use Rattle.dkg_script.specs.Promise.{InACase, IsAnswered, IsComplete, IsHonestRun, RunsAll, cuts_in}
-use Rattle.dkg_script.specs.Setting.{CutAt, Setting, found, is_oneshot, life_at, listed, recovered_from, setting_of}
-use Rattle.dkg_script.proofs.Listed.{gives_all, pair_of-listed}
+use Rattle.dkg_script.specs.Setting.{CutAt, Setting, found, is_oneshot, life_at, recovered_from, setting_of}
+use Rattle.dkg_script.proofs.Listed.{gives_all, pair_of-restored_list}
 use Rattle.dkg_script.proofs.EachEntry.{all_splits, at_each}
 use Rattle.dkg_core.specs.Agreeing.{BringsRecords}
 use Rattle.dkg_core.specs.Heard.{recovered_in}
@@ -195,7 +196,7 @@ pub rests_at_start : (s : Setting) (h : Held) → notes h ≡ entries s.files �
 rests_at_start s h notes_are secrets_are whole = record {
   whole = rw (notes_are, secrets_are) whole;
   may = record {
-    given = rw same (current_all _ (Gives (recovered_from s.files s.secrets)) (listed (recovered_from s.files s.secrets)) (gives_all (recovered_from s.files s.secrets)));
+    given = rw same (current_all _ (Gives (recovered_from s.files s.secrets)) (restored_list (recovered_from s.files s.secrets)) (gives_all (recovered_from s.files s.secrets)));
     known = λ pair there. inl (known pair (rw same at there));
     first = λ none. same;
   };
@@ -204,8 +205,8 @@ rests_at_start s h notes_are secrets_are whole = record {
     same : recovered_in h ≡ recovered_from s.files s.secrets
     same = rw (notes_are, secrets_are) refl
 
-    known : (pair : Restored) → Gives (recovered_from s.files s.secrets) pair → pair_of (listed (recovered_from s.files s.secrets)) pair.epoch pair.dealer ≡ Some pair
-    known pair there = pair_of-listed (recovered_from s.files s.secrets) pair.epoch pair.dealer
+    known : (pair : Restored) → Gives (recovered_from s.files s.secrets) pair → pair_of (restored_list (recovered_from s.files s.secrets)) pair.epoch pair.dealer ≡ Some pair
+    known pair there = pair_of-restored_list (recovered_from s.files s.secrets) pair.epoch pair.dealer
         ∙ ap (option_map (λ (v : List ℕ × ℕ). record { epoch = pair.epoch; dealer = pair.dealer; public = v.0; private = v.1 })) there
 
 -- THE RUN

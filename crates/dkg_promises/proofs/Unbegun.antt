@@ -13,6 +13,7 @@ use Rattle.dkg_journal.specs.declared.disk.Op.{Op}
 use Rattle.dkg_secrets.specs.Secrets.{Secrets}
 use Rattle.dkg_secrets.specs.declared.secrets.SecretOp.{SecretOp}
 use Rattle.dkg_store.specs.Pairs.{IsWhole}
+use Rattle.dkg_store.specs.Recorded.{restored_list}
 use Rattle.dkg_infos.specs.declared.entry.Entry.{Entry}
 use Rattle.dkg_infos.specs.declared.entry.Entry.TheVariants as entry
 use Rattle.dkg_infos.specs.declared.entry.Restored.{Restored}
@@ -25,7 +26,7 @@ use Rattle.dkg_script.specs.Position.{begun}
 use Rattle.dkg_script.specs.Progress.{AtEachEntry, at_start, progress}
 use Rattle.dkg_script.specs.Promise.{AreHonestStores, KeepsDealings, cuts_in}
 use Rattle.dkg_script.specs.SameOffers.{SameOffers}
-use Rattle.dkg_script.specs.Setting.{Setting, listed, recovered_from, setting_of}
+use Rattle.dkg_script.specs.Setting.{Setting, recovered_from, setting_of}
 use Rattle.dkg_script.proofs.Listed.{gives_all}
 use Rattle.dkg_script.proofs.EachEntry.{EachAfter, at_each}
 use Rattle.dkg_promises.specs.Answers.{AnswersSo, IsAnswer, IsPathAnswer}
@@ -98,7 +99,7 @@ began_told script its answered old mid new picks Begun Devices Same so told (inr
 -- DEALINGS that the devices hold are kept, where nothing is told of any
 
 kept_still : (s : Setting) (image now : Files → Type 0) (held_now : Secrets) (added : List Entry) → AreHonestStores s image → ((c : Files) → now c → image c) → held_now ≡ s.secrets → EachAfter s (IsSound s) (at_start s) added
-    → (progress s added).recorded ≡ listed (recovered_from s.files s.secrets) → Kept s added now held_now
+    → (progress s added).recorded ≡ restored_list (recovered_from s.files s.secrets) → Kept s added now held_now
 kept_still s image now held_now added stores narrow held each same = record {
   each = at_each s (IsSound s) added each;
   durable = record {
@@ -114,7 +115,7 @@ kept_still s image now held_now added stores narrow held each same = record {
     Current P = AllCurrent n P (progress s added).recorded
 
     all : Current (Gives (recovered_from s.files s.secrets))
-    all = subst (AllCurrent n (Gives (recovered_from s.files s.secrets))) (sym same) (current_all n (Gives (recovered_from s.files s.secrets)) (listed (recovered_from s.files s.secrets)) (gives_all (recovered_from s.files s.secrets)))
+    all = subst (AllCurrent n (Gives (recovered_from s.files s.secrets))) (sym same) (current_all n (Gives (recovered_from s.files s.secrets)) (restored_list (recovered_from s.files s.secrets)) (gives_all (recovered_from s.files s.secrets)))
 
 -- NOTHING IS OFFERED
 
@@ -174,9 +175,9 @@ module _ (script : Script) (o : Over) (answered : Result (Unit {0}) Fault) (old 
   none_answers A = by_why (λ r es. OnOk r A) tt (λ fault refused. tt)
 
   -- nothing is recorded that wasn't
-  recorded : (progress s added).recorded ≡ listed (recovered_from s.files s.secrets)
+  recorded : (progress s added).recorded ≡ restored_list (recovered_from s.files s.secrets)
   unfolding progress
-  recorded = by_why (λ r es. (progress s es).recorded ≡ listed (recovered_from s.files s.secrets)) refl (λ fault refused. refl)
+  recorded = by_why (λ r es. (progress s es).recorded ≡ restored_list (recovered_from s.files s.secrets)) refl (λ fault refused. refl)
 
   pub none_keeps : KeepsDealings script o.before.files o.before.held o.before.image o.now.image o.now.held added
   none_keeps built honest = (

@@ -13,9 +13,9 @@ use Rattle.std.proofs.lemmas.Bool.Decides.{nat_tests}
 use Rattle.std.proofs.lemmas.Cmp.{tied_itself}
 use Rattle.dkg_secrets.specs.Keys.{key_cmp}
 use Rattle.dkg_store.specs.Pairs.{Pairs}
+use Rattle.dkg_store.specs.Recorded.{restored_list, restored_of}
 use Rattle.dkg_secrets.proofs.Map.{keys_total}
 use Rattle.dkg_infos.specs.declared.entry.Restored.{Restored}
-use Rattle.dkg_script.specs.Setting.{listed}
 use Rattle.dkg_script.specs.Progress.{pair_of}
 use Rattle.dkg_script.specs.Kept.{Gives}
 
@@ -45,14 +45,11 @@ module _ {K X : Type 0} {R : K → K → Ordering} (o : IsTotalOrder R) where
       let parts = split (below_all R e.0 es) (is_sorted R es) sorted in
       (ap (λ r. cond (is_eq r) (Some e.1) (find R e.0 es)) (tied_itself o e.0), behind e es es parts.0 (each_found es parts.1))
 
-abbrev pub restored_of : (ℕ × ℕ) × (List ℕ × ℕ) → Restored
-restored_of p = record { epoch = p.0.0; dealer = p.0.1; public = p.1.0; private = p.1.1 }
-
 all_given : (m : Pairs) (es : List ((ℕ × ℕ) × (List ℕ × ℕ))) → AllByRecursion (λ e. find key_cmp e.0 (pairs_in m) ≡ Some e.1) es → AllByRecursion (Gives m) (map restored_of es)
 all_given m [] all = tt
 all_given m (e ∷ es) all = (get-entries m e.0 ∙ all.0, all_given m es all.1)
 
-pub gives_all : (m : Pairs) → AllByRecursion (Gives m) (listed m)
+pub gives_all : (m : Pairs) → AllByRecursion (Gives m) (restored_list m)
 gives_all m = all_given m (pairs_in m) (each_found keys_total (pairs_in m) (entries_sorted m))
 
 -- .. and what is found in the list is what the map has
@@ -78,5 +75,5 @@ found_in epoch dealer (e ∷ es) =
     (same_key epoch dealer e.0.0 e.0.1)
     (taken epoch dealer e.0.0 e.0.1 e.1 (pair_of (map restored_of es) epoch dealer) (find key_cmp (epoch, dealer) es) ((e.0.0 == epoch) && (e.0.1 == dealer)) refl (found_in epoch dealer es))
 
-pub pair_of-listed : (m : Pairs) (epoch dealer : ℕ) → pair_of (listed m) epoch dealer ≡ option_map (λ v. restored_of ((epoch, dealer), v)) (get m (epoch, dealer))
-pair_of-listed m epoch dealer = found_in epoch dealer (pairs_in m) ∙ ap (option_map (λ v. restored_of ((epoch, dealer), v))) (sym (get-entries m (epoch, dealer)))
+pub pair_of-restored_list : (m : Pairs) (epoch dealer : ℕ) → pair_of (restored_list m) epoch dealer ≡ option_map (λ v. restored_of ((epoch, dealer), v)) (get m (epoch, dealer))
+pair_of-restored_list m epoch dealer = found_in epoch dealer (pairs_in m) ∙ ap (option_map (λ v. restored_of ((epoch, dealer), v))) (sym (get-entries m (epoch, dealer)))

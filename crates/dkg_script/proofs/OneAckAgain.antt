@@ -6,14 +6,15 @@ use Rattle.dkg_ceremony.specs.Acks.{ack_of}
 use Rattle.dkg_ceremony.specs.declared.round.RoundParts.{RoundParts as Round}
 use Rattle.dkg_journal.specs.Names.{Files}
 use Rattle.dkg_store.specs.Pairs.{Pairs}
+use Rattle.dkg_store.specs.Recorded.{restored_list, restored_of}
 use Rattle.dkg_secrets.specs.Secrets.{Secrets}
 use Rattle.dkg_infos.specs.declared.entry.Entry.TheVariants.{Ack}
 use Rattle.dkg_infos.specs.declared.entry.Restored.{Restored}
 use Rattle.dkg_script.specs.Kept.{Gives}
 use Rattle.dkg_script.specs.Laws.{AcknowledgesOnceAgain, StandsFor}
 use Rattle.dkg_script.specs.Progress.{at_start, has_pair_key, pair_of, progress}
-use Rattle.dkg_script.specs.Setting.{listed, me, recovered_from}
-use Rattle.dkg_script.proofs.Listed.{pair_of-listed, restored_of}
+use Rattle.dkg_script.specs.Setting.{me, recovered_from}
+use Rattle.dkg_script.proofs.Listed.{pair_of-restored_list}
 use Rattle.dkg_script.proofs.OneAck.{of_sound, stays_along}
 use Rattle.dkg_script.proofs.Survives.{survives}
 
@@ -37,10 +38,10 @@ its_key (y ∷ xs) epoch dealer x e = by_key (its_key xs epoch dealer x) (has_pa
     by_key later false has e = later e
 
 -- what devices give back is listed under its key
-is_listed : (m : Pairs) (epoch dealer : ℕ) (x : Restored) → x.epoch ≡ epoch → x.dealer ≡ dealer → Gives m x → pair_of (listed m) epoch dealer ≡ Some x
+is_listed : (m : Pairs) (epoch dealer : ℕ) (x : Restored) → x.epoch ≡ epoch → x.dealer ≡ dealer → Gives m x → pair_of (restored_list m) epoch dealer ≡ Some x
 is_listed m epoch dealer x e d gives =
-    subst (λ (n : ℕ). pair_of (listed m) n dealer ≡ Some x) e (subst (λ (n : ℕ). pair_of (listed m) x.epoch n ≡ Some x) d
-    (pair_of-listed m x.epoch x.dealer ∙ ap (option_map (λ v. restored_of ((x.epoch, x.dealer), v))) gives))
+    subst (λ (n : ℕ). pair_of (restored_list m) n dealer ≡ Some x) e (subst (λ (n : ℕ). pair_of (restored_list m) x.epoch n ≡ Some x) d
+    (pair_of-restored_list m x.epoch x.dealer ∙ ap (option_map (λ v. restored_of ((x.epoch, x.dealer), v))) gives))
 
 same_some : {X : Type 0} (x y : X) → Some x ≡ Some y → x ≡ y
 same_some x y e = ap (λ o. unwrap_or o x) e
@@ -51,7 +52,7 @@ one_ack_again image s t out next disk disk_now secrets secrets_now kept kept_nex
     let its = survives image s out disk secrets kept before after epoch dealer one is current t.files on.files in
     let a : StandsFor s (progress s before) epoch dealer one = its.0 in
     let key = its_key (progress s before).recorded epoch dealer a.pair a.recorded in
-    let found : pair_of (listed (recovered_from t.files t.secrets)) epoch dealer ≡ Some a.pair = subst (λ (x : Secrets). pair_of (listed (recovered_from t.files x)) epoch dealer ≡ Some a.pair) (sym on.secrets_are)
+    let found : pair_of (restored_list (recovered_from t.files t.secrets)) epoch dealer ≡ Some a.pair = subst (λ (x : Secrets). pair_of (restored_list (recovered_from t.files x)) epoch dealer ≡ Some a.pair) (sym on.secrets_are)
     (is_listed (recovered_from t.files secrets) epoch dealer a.pair key.0 key.1 its.1) in
     let still : pair_of (progress t first).recorded epoch dealer ≡ Some a.pair = stays_along t first (at_start t) a.pair epoch dealer found in
     let b : StandsFor t (progress t first) epoch dealer other = of_sound t (progress t first) epoch dealer other (kept_next.each first (Ack epoch dealer other) rest is_next) in

@@ -9,13 +9,14 @@ use Rattle.std.specs.declared.cmp.Ordering.{Ordering}
 use Rattle.std.specs.declared.cmp.Ordering.TheVariants.{Less, Equal, Greater}
 use Rattle.dkg_secrets.specs.Keys.{key_cmp}
 use Rattle.dkg_store.specs.Pairs.{Pairs}
+use Rattle.dkg_store.specs.Recorded.{restored_list, restored_of}
 use Rattle.dkg_secrets.proofs.Map.{exact_keys}
 use Rattle.dkg_infos.specs.declared.entry.Restored.{Restored}
-use Rattle.dkg_script.specs.Setting.{Setting, listed}
+use Rattle.dkg_script.specs.Setting.{Setting}
 use Rattle.dkg_script.specs.Position.{begun_before}
 use Rattle.dkg_script.specs.Progress.{Progress, with_restored}
 use Rattle.dkg_script.specs.Kept.{AllCurrent, Gives, IsBroughtAtCut, IsLaterOpening, IsRecordedAs, ArePairsRising}
-use Rattle.dkg_script.proofs.Listed.{gives_all, restored_of}
+use Rattle.dkg_script.proofs.Listed.{gives_all}
 
 -- IT RISES
 
@@ -30,7 +31,7 @@ same_sorted : (es : List ((ℕ × ℕ) × (List ℕ × ℕ))) → is_sorted key_
 same_sorted [] = refl
 same_sorted (e ∷ es) = ap (λ (b : Bool). b && is_sorted key_cmp (map keyed (map restored_of es))) (same_below e.0 es) ∙ ap (λ (b : Bool). below_all key_cmp e.0 es && b) (same_sorted es)
 
-pub listed_rises : (m : Pairs) → ArePairsRising (listed m)
+pub listed_rises : (m : Pairs) → ArePairsRising (restored_list m)
 listed_rises m = subst T (sym (same_sorted (pairs_in m))) (entries_sorted m)
 
 -- IT LISTS WHAT THE MAP GIVES
@@ -60,7 +61,7 @@ in_list key v (x ∷ es) e = by_case (in_list key v es) (eq_by_cmp key_cmp key x
     by_case later true is found = (0, omega arith, here (exact_keys key x.0 (equal (key_cmp key x.0) is)) (same_value x.1 v found))
     by_case later false is found = contains_more (restored_of (key, v)) (restored_of x) (map restored_of es) (later found)
 
-pub given_is_listed : (m : Pairs) (pair : Restored) → Gives m pair → Contains (listed m) pair
+pub given_is_listed : (m : Pairs) (pair : Restored) → Gives m pair → Contains (restored_list m) pair
 given_is_listed m pair given = in_list (pair.epoch, pair.dealer) (pair.public, pair.private) (pairs_in m) (sym (get-entries m (pair.epoch, pair.dealer)) ∙ given)
 
 -- SO IT IS A LATER OPENING
@@ -75,10 +76,10 @@ weaker P Q leads (x ∷ xs) all = (leads x all.0, weaker P Q leads xs all.1)
 
 pub lists_them : (s : Setting) (p : Progress) (m : Pairs)
     → AllCurrent (begun_before s p.cuts (length p.cuts)) (Gives m) p.recorded
-    → ((pair : Restored) → Gives m pair → IsRecordedAs p.recorded (fold with_restored p.recorded (listed m)) pair (IsBroughtAtCut s p pair))
-    → IsLaterOpening s p (listed m)
+    → ((pair : Restored) → Gives m pair → IsRecordedAs p.recorded (fold with_restored p.recorded (restored_list m)) pair (IsBroughtAtCut s p pair))
+    → IsLaterOpening s p (restored_list m)
 lists_them s p m current sound = record {
-  lists = weaker_current (begun_before s p.cuts (length p.cuts)) (Gives m) (Contains (listed m)) (given_is_listed m) p.recorded current;
+  lists = weaker_current (begun_before s p.cuts (length p.cuts)) (Gives m) (Contains (restored_list m)) (given_is_listed m) p.recorded current;
   rising = listed_rises m;
-  sound = weaker (Gives m) (λ pair. IsRecordedAs p.recorded (fold with_restored p.recorded (listed m)) pair (IsBroughtAtCut s p pair)) sound (listed m) (gives_all m);
+  sound = weaker (Gives m) (λ pair. IsRecordedAs p.recorded (fold with_restored p.recorded (restored_list m)) pair (IsBroughtAtCut s p pair)) sound (restored_list m) (gives_all m);
 }

@@ -12,6 +12,7 @@ use Rattle.dkg_values.specs.Uint.{groups_at}
 use Rattle.dkg_journal.specs.Names.{Files}
 use Rattle.dkg_secrets.specs.Keys.{key_cmp}
 use Rattle.dkg_store.specs.Pairs.{Pairs}
+use Rattle.dkg_store.specs.Recorded.{restored_list, restored_of}
 use Rattle.dkg_secrets.specs.Secrets.{Secrets}
 use Rattle.dkg_secrets.proofs.Map.{keys_total}
 use Rattle.dkg_infos.specs.InfoCodes.{info_output_at, parts_at}
@@ -27,8 +28,7 @@ use Rattle.dkg_script.specs.Kept.{IsSound, Kept}
 use Rattle.dkg_script.specs.Laws.{GoesOn}
 use Rattle.dkg_script.specs.Position.{awaited_height_after, begun}
 use Rattle.dkg_script.specs.Progress.{Progress, at_start, progress, read}
-use Rattle.dkg_script.specs.Setting.{Setting, listed, recovered_from, setting_of}
-use Rattle.dkg_script.proofs.Listed.{restored_of}
+use Rattle.dkg_script.specs.Setting.{Setting, recovered_from, setting_of}
 use Rattle.dkg_script.proofs.EachEntry.{EachAfter, at_each}
 use Rattle.dkg_script.proofs.OneAckAgain.{one_ack_again}
 use Rattle.dkg_script.proofs.OneDealing.{first_life, one, one_is_kept, out_one, pair, recorded}
@@ -52,11 +52,11 @@ abbrev later : Setting
 later = setting_of one left held
 
 -- devices of one dealing list it alone
-lists_it : (files : Files) (secrets : Secrets) (its : Restored) → Stored files secrets its → listed (recovered_from files secrets) ≡ its ∷ []
+lists_it : (files : Files) (secrets : Secrets) (its : Restored) → Stored files secrets its → restored_list (recovered_from files secrets) ≡ its ∷ []
 lists_it files secrets its h =
     let m : Pairs = insert empty (its.epoch, its.dealer) (its.public, its.private) in
     let is : recovered_from files secrets ≡ m = rw (h.entry, h.dealing, h.half) refl in
-    ap listed is ∙ ap (map restored_of) (entries-insert keys_total empty (its.epoch, its.dealer) (its.public, its.private) ∙ ap (put key_cmp (its.epoch, its.dealer) (its.public, its.private)) (no_pairs key_cmp))
+    ap restored_list is ∙ ap (map restored_of) (entries-insert keys_total empty (its.epoch, its.dealer) (its.public, its.private) ∙ ap (put key_cmp (its.epoch, its.dealer) (its.public, its.private)) (no_pairs key_cmp))
 
 begins : at_start later ≡ record start { recorded = pair ∷ [] }
 begins = ap (λ pairs. record start { recorded = pairs }) (lists_it left held pair stored_seven)

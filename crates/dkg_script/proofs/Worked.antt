@@ -11,13 +11,14 @@ use Rattle.dkg_journal.specs.Records.{SectionEntry, entries, entries_with, segme
 use Rattle.dkg_journal.proofs.Steps.{names_total}
 use Rattle.dkg_secrets.specs.Keys.{key_cmp}
 use Rattle.dkg_store.specs.Pairs.{recovered}
+use Rattle.dkg_store.specs.Recorded.{restored_list, restored_of}
 use Rattle.dkg_secrets.specs.Secrets.{Secrets}
 use Rattle.dkg_text.specs.declared.script.BlockLine.{BlockLine}
 use Rattle.dkg_text.specs.declared.script.Cut.{Cut}
 use Rattle.dkg_text.specs.declared.script.Event.{Event}
 use Rattle.dkg_text.specs.declared.script.Life.{Life}
 use Rattle.dkg_text.specs.declared.script.Script.{Script}
-use Rattle.dkg_script.specs.Setting.{Setting, setting_of, listed, recovered_from}
+use Rattle.dkg_script.specs.Setting.{Setting, setting_of, recovered_from}
 use Rattle.dkg_script.specs.Progress.{Progress, at_start}
 use Rattle.std.specs.declared.cmp.Ordering.{Ordering}
 use Rattle.std.specs.List.{flat_map}
@@ -135,8 +136,8 @@ nothing_there = ap (λ o. entries_with o (files_of None)) (get-empty name_cmp Fl
 pub nothing_recovered : (secrets : Secrets) → recovered_from (files_of None) secrets ≡ empty
 nothing_recovered secrets = ap (λ (es : List SectionEntry). recovered es secrets) nothing_there
 
-pub nothing_listed : (secrets : Secrets) → listed (recovered_from (files_of None) secrets) ≡ []
-nothing_listed secrets = ap listed (nothing_recovered secrets) ∙ ap (λ (xs : List ((ℕ × ℕ) × (List ℕ × ℕ))). map (λ p. record { epoch = p.0.0; dealer = p.0.1; public = p.1.0; private = p.1.1 }) xs) (no_pairs key_cmp)
+pub nothing_listed : (secrets : Secrets) → restored_list (recovered_from (files_of None) secrets) ≡ []
+nothing_listed secrets = ap restored_list (nothing_recovered secrets) ∙ ap (λ (xs : List ((ℕ × ℕ) × (List ℕ × ℕ))). map restored_of xs) (no_pairs key_cmp)
 
 -- the progress before the first entry, over empty devices
 abbrev pub start : Progress

@@ -22,6 +22,7 @@ use Rattle.dkg_journal.proofs.AtOnce.{get_other}
 use Rattle.dkg_store.specs.Events.{event_after}
 use Rattle.dkg_secrets.specs.Keys.{key_cmp}
 use Rattle.dkg_store.specs.Pairs.{IsWhole, recovered}
+use Rattle.dkg_store.specs.Recorded.{restored_list}
 use Rattle.dkg_secrets.specs.Secrets.{Secrets}
 use Rattle.dkg_secrets.proofs.Map.{keys_total}
 use Rattle.dkg_infos.specs.declared.entry.Entry.{Entry}
@@ -30,7 +31,7 @@ use Rattle.dkg_infos.specs.declared.entry.Restored.{Restored}
 use Rattle.dkg_infos.specs.declared.fault.Fault.TheVariants.{Disk, FloorBlockMissing, NoMemory}
 use Rattle.dkg_text.specs.declared.script.Event.TheVariants.{Peer}
 use Rattle.dkg_script.specs.Readings.{SyncMaterial}
-use Rattle.dkg_script.specs.Setting.{recovered_from, listed}
+use Rattle.dkg_script.specs.Setting.{recovered_from}
 use Rattle.dkg_script.specs.Position.{IsPlanHistory, awaited_height_after}
 use Rattle.dkg_script.specs.Progress.{Progress, read}
 use Rattle.dkg_script.specs.Due.{IsDueNow, WroteAck}
@@ -222,7 +223,7 @@ due_with (Some m ∷ plans) history = absurd (not_found (history.first ∙ nothi
 no_log : OwnMarks (setting two) (Opened 0 [] ∷ opening)
 no_log = record {
   delivered = from_start two (IsKnownAt (setting two)) (Opened 0 [] ∷ opening) (tt, (tt, (tt, (tt, (tt, (tt, tt))))));
-  handed_in = subst (λ (es : List journal.SectionEntry). AllByRecursion (IsKnownInEntry (setting two) (listed (recovered_from (files_of None) (secrets_of [])))) es) (sym nothing_there) tt;
+  handed_in = subst (λ (es : List journal.SectionEntry). AllByRecursion (IsKnownInEntry (setting two) (restored_list (recovered_from (files_of None) (secrets_of [])))) es) (sym nothing_there) tt;
 }
 
 pub silent_is_not_complete : IsComplete (setting two) silent → ⊥

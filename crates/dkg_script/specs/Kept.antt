@@ -8,6 +8,7 @@ use Rattle.dkg_journal.specs.Names.{Files}
 use Rattle.dkg_journal.specs.Records.{entries}
 use Rattle.dkg_secrets.specs.Keys.{key_cmp}
 use Rattle.dkg_store.specs.Pairs.{Pairs, IsWhole}
+use Rattle.dkg_store.specs.Recorded.{restored_list}
 use Rattle.dkg_secrets.specs.Secrets.{Secrets}
 use Rattle.dkg_infos.specs.declared.entry.Entry.{Entry}
 use Rattle.dkg_infos.specs.declared.entry.Entry.TheVariants.{Opened, Recorded, Ack}
@@ -16,7 +17,7 @@ use Rattle.dkg_text.specs.declared.script.Event.{Event}
 use Rattle.dkg_text.specs.declared.script.Event.TheVariants.{Peer}
 use Rattle.dkg_text.specs.declared.script.Life.{Life}
 use Rattle.dkg_script.specs.Readings.{dealing_in}
-use Rattle.dkg_script.specs.Setting.{Setting, me, limits, life_at, listed, recovered_from}
+use Rattle.dkg_script.specs.Setting.{Setting, me, limits, life_at, recovered_from}
 use Rattle.dkg_script.specs.Blocks.{round_at}
 use Rattle.dkg_script.specs.Position.{event_of_step, awaited_epoch, begun, begun_before, cut_of}
 use Rattle.dkg_script.specs.Progress.{Progress, progress, AtEachEntry, pair_of, with_restored, IsValid, IsBrought}
@@ -60,7 +61,7 @@ pub record IsLaterOpening (s : Setting) (p : Progress) (restored : List Restored
 -- the first opening lists what the devices handed in give back
 abbrev pub IsSoundOpening : Setting → Progress → List Restored → Type 0
 IsSoundOpening s p restored =
-    MatchOption p.opened (restored ≡ listed (recovered_from s.files s.secrets)) (λ _. IsLaterOpening s p restored)
+    MatchOption p.opened (restored ≡ restored_list (recovered_from s.files s.secrets)) (λ _. IsLaterOpening s p restored)
 
 -- ACKNOWLEDGEMENTS
 

@@ -5,13 +5,14 @@ use Rattle.dkg_ceremony.specs.declared.dealer_log.DealerLog.{DealerLog}
 use Rattle.dkg_ceremony.specs.ValidLogs.{bears_ack_of}
 use Rattle.dkg_journal.specs.Records as journal
 use Rattle.dkg_store.specs.Noted.{noted_log}
+use Rattle.dkg_store.specs.Recorded.{restored_list}
 use Rattle.dkg_infos.specs.declared.entry.Entry.{Entry}
 use Rattle.dkg_infos.specs.declared.entry.Entry.TheVariants.{Step, Cut}
 use Rattle.dkg_infos.specs.declared.entry.Restored.{Restored}
 use Rattle.dkg_text.specs.declared.script.Event.{Event}
 use Rattle.dkg_text.specs.declared.script.Event.TheVariants.{Final}
 use Rattle.dkg_script.specs.Schedule.{epoch_of}
-use Rattle.dkg_script.specs.Setting.{Setting, me, blocks_per_epoch, life_at, listed, recovered_from}
+use Rattle.dkg_script.specs.Setting.{Setting, me, blocks_per_epoch, life_at, recovered_from}
 use Rattle.dkg_script.specs.Blocks.{ScriptBlock, numbered_block, round_at}
 use Rattle.dkg_script.specs.Position.{event_of_step}
 use Rattle.dkg_script.specs.Progress.{Progress, AtEachEntry, pair_of}
@@ -45,7 +46,7 @@ IsKnownInEntry s pairs entry = IfSome (noted_log entry) (λ note. IsOwnMarkKnown
 
 -- each log that the devices handed in record
 abbrev pub AreKnownHandedIn : Setting → Type 0
-AreKnownHandedIn s = AllByRecursion (IsKnownInEntry s (listed (recovered_from s.files s.secrets))) (journal.entries s.files)
+AreKnownHandedIn s = AllByRecursion (IsKnownInEntry s (restored_list (recovered_from s.files s.secrets))) (journal.entries s.files)
 
 pub record OwnMarks (s : Setting) (out : List Entry) : Type 0 where
   pub delivered : AtEachEntry s (IsKnownAt s) out

@@ -2,6 +2,7 @@
 use Rattle.std.specs.Prelude.{ℕ, suc, Bool, List, [], ◌∷◌, ◌++◌, ◌-◌, ◌≡◌, ◌==◌, ◌&&◌, Option, Some, None, Ok, find, length, fold, if◌then◌else◌, is_some, IsSomeAnd, false}
 use Rattle.std.specs.Option.{option_map_or}
 use Rattle.dkg_ceremony.specs.Dealings.{dealing_of}
+use Rattle.dkg_store.specs.Recorded.{restored_list}
 use Rattle.dkg_infos.specs.declared.entry.Entry.{Entry}
 use Rattle.dkg_infos.specs.declared.entry.Entry.TheVariants.{Opened, Recorded, Cut, Step}
 use Rattle.dkg_infos.specs.declared.entry.Restored.{Restored}
@@ -9,7 +10,7 @@ use Rattle.dkg_text.specs.declared.script.Event.{Event}
 use Rattle.dkg_text.specs.declared.script.Event.TheVariants.{Peer, Final}
 use Rattle.dkg_text.specs.declared.script.Life.{Life}
 use Rattle.dkg_script.specs.Readings.{dealing_in}
-use Rattle.dkg_script.specs.Setting.{Setting, CutAt, me, limits, life_at, listed, recovered_from}
+use Rattle.dkg_script.specs.Setting.{Setting, CutAt, me, limits, life_at, recovered_from}
 use Rattle.dkg_script.specs.Blocks.{round_at}
 use Rattle.dkg_script.specs.Position.{awaited_epoch, event_of_step}
 
@@ -58,7 +59,7 @@ read s p other = with_written p other
 
 -- before the first entry: the dealings that the devices handed in give back
 abbrev pub at_start : Setting → Progress
-at_start s = record { cuts = []; step = 0; written = []; recorded = listed (recovered_from s.files s.secrets); opened = None }
+at_start s = record { cuts = []; step = 0; written = []; recorded = restored_list (recovered_from s.files s.secrets); opened = None }
 
 unfoldable pub progress : Setting → List Entry → Progress
 progress s out = fold (read s) (at_start s) out

@@ -1,13 +1,11 @@
 -- What a run is judged against: the script, what the devices held as the call began, and one case of what the plan held.
-use Rattle.std.specs.Prelude.{ℕ, Bool, List, [], Option, is_some, slice_get, max, length, map}
+use Rattle.std.specs.Prelude.{ℕ, Bool, List, [], Option, is_some, slice_get, max, length}
 use Rattle.std.specs.Option.{option_flatten, option_map_or}
-use Rattle.std.specs.FinMap.{entries as pairs_in}
 use Rattle.std.specs.Int.NonZero.{non_zero_u32_get, non_zero_u64_get}
 use Rattle.dkg_journal.specs.Names.{Files}
 use Rattle.dkg_journal.specs.Records.{entries}
 use Rattle.dkg_store.specs.Pairs.{Pairs, recovered}
 use Rattle.dkg_secrets.specs.Secrets.{Secrets}
-use Rattle.dkg_infos.specs.declared.entry.Restored.{Restored}
 use Rattle.dkg_text.specs.declared.script.Life.{Life}
 use Rattle.dkg_text.specs.declared.script.Script.{Script}
 use Rattle.dkg_script.specs.Readings.{Limits, SyncMaterial}
@@ -51,10 +49,6 @@ found s l = option_flatten (slice_get s.plans l)
 pub record CutAt : Type 0 where
   pub step : ℕ
   pub call : ℕ
-
--- dealings as an opening lists them, by epoch and dealer rising
-abbrev pub listed : Pairs → List Restored
-listed pairs = map (λ p. record { epoch = p.0.0; dealer = p.0.1; public = p.1.0; private = p.1.1 }) (pairs_in pairs)
 
 -- the dealings that devices of this content give back
 abbrev pub recovered_from : Files → Secrets → Pairs
