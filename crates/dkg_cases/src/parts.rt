@@ -185,7 +185,7 @@ impl AddressedPeerManager for TrackCount {
     }
 }
 
-fn few(participants: &Participants) -> bool
+fn are_in_bound(participants: &Participants) -> bool
     ensures { IsTrue result ↔ (length participants.now.players + length participants.now.next_players < 2 ^ 32) }
 {
     participants
@@ -208,7 +208,7 @@ pub fn four_dealers(alloc: Global) -> Option<Participants>
     ensures { IfSome result (λ made. length made.players + length made.next_players < 2 ^ 32) }
 {
     let participants = no_players(alloc, four_keys(alloc)?)?;
-    if few(&participants) {
+    if are_in_bound(&participants) {
         Some(participants)
     } else {
         None

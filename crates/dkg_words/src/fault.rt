@@ -4,7 +4,7 @@ ghost use Rattle.dkg_words.specs.Fault.{IsFaultLine, behind_entries, behind_entr
 
 use crate::bad::put_line;
 use crate::put::{put, put_number};
-use crate::seek::place;
+use crate::seek::step_place;
 use dkg_infos::{Entry, Fault};
 use dkg_values::Mem;
 use std::alloc::Global;
@@ -58,7 +58,7 @@ pub(crate) struct Spot {
 fn spot_at(text: &[u8], step: Step) -> Spot
     ensures { result ≡ spot_of text.now step }
 {
-    if let Some(place) = place(text, step.life, step.step) {
+    if let Some(place) = step_place(text, step.life, step.step) {
         return Spot {
             step,
             place: Some(place),
@@ -68,7 +68,7 @@ fn spot_at(text: &[u8], step: Step) -> Spot
         life: step.life.saturating_add(1),
         step: 0,
     };
-    match place(text, next.life, 0) {
+    match step_place(text, next.life, 0) {
         Some(place) => Spot {
             step: next,
             place: Some(place),

@@ -42,7 +42,7 @@ pub(crate) fn find(text: &[u8], words: &[u8]) -> Option<u64>
 }
 
 /// Where the first line of a message with this node's own key begins.
-fn place(alloc: Global, text: &[u8]) -> Mem<Option<u64>>
+fn message_place(alloc: Global, text: &[u8]) -> Mem<Option<u64>>
     ensures { IfOk result (λ found. found ≡ own_place text.now) }
 {
     let begin = message_of(alloc, key(text))?;
@@ -65,7 +65,7 @@ pub fn own_warning(alloc: Global, text: &[u8]) -> Mem<Vec<u8>>
     ensures { IfOk result (λ line. line.items ≡ own_text text.now) }
 {
     let mut out = Vec::new(alloc);
-    match place(alloc, text)? {
+    match message_place(alloc, text)? {
         Some(place) => put_own(&mut out, text, place)?,
         None => {}
     }

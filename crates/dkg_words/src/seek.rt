@@ -62,7 +62,7 @@ impl Walk for Seek {
 }
 
 /// Where the line of a life's step begins, if a text has it.
-pub(crate) fn place(text: &[u8], life: u64, step: u64) -> Option<u64>
+pub(crate) fn step_place(text: &[u8], life: u64, step: u64) -> Option<u64>
     ensures { result ≡ place_of_step text.now life step }
 {
     let mut seek = Seek {
