@@ -25,9 +25,6 @@ use Rattle.dkg_core.specs.Logs.{filled_by}
 use Rattle.dkg_lives.specs.Blamed.{per_epoch, tip_in}
 use Rattle.dkg_lives.specs.Given.{blocks_in, numbered, provided_by}
 
-abbrev U : Type 0
-U = directory.Unit
-
 -- HOW A REQUEST STANDS behind some events: it wasn't made, its ancestry goes on or has ended, or it was cancelled
 pub data RequestStanding : Type 0 where
   Unmade : RequestStanding
@@ -56,7 +53,7 @@ IsUncancelled Cancelled = ⊥
 -- WHAT IT WAS FED
 
 -- the blocks that a request was fed by the first j events, in their order, from the parent of the block asked for (or that block) downward
-abbrev pub fed_in : Script → Life → (request j : ℕ) → List (Block U)
+abbrev pub fed_in : Script → Life → (request j : ℕ) → List (Block directory.Unit)
 fed_in script life request j = numbered (blocks_in script) (fed_by life request j)
 
 -- the tip behind the first j events, as a scan has it
@@ -67,14 +64,14 @@ abbrev pub bounds_in : Script → (epoch : ℕ) → Bounds
 bounds_in script epoch = bounds_at (per_epoch script) (first (per_epoch script) epoch)
 
 -- what follows an epoch by some logs, as a payload's bytes
-abbrev pub next_bytes : Script → EpochInfo U → Round → LogMap → List ℕ
+abbrev pub next_bytes : Script → EpochInfo directory.Unit → Round → LogMap → List ℕ
 next_bytes script info round logs = payload_spelling unit_spelling (info_payload (next_info outcome_of (provided_by script) info round logs))
 
 -- HOW AN ANCESTRY WAS READ at a step, above the tip of then: these blocks complete it (`path` is read, the lowest block first; whatever else was fed is `rest`)
 pub record IsReadAt (script : Script) (life : Life) (epoch request j : ℕ) (round : Round) (found : LogMap) : Type 0 where
-  pub path : List (Block U)
-  pub lowest : Block U
-  pub rest : List (Block U)
+  pub path : List (Block directory.Unit)
+  pub lowest : Block directory.Unit
+  pub rest : List (Block directory.Unit)
   pub fed : fed_in script life request j ≡ reverse (lowest ∷ path) ++ rest
   pub completes : CompletesPath (bounds_in script epoch) (scan_tip script life j) path lowest
   pub logs : found ≡ logs_of_path check_log_of (midpoint (per_epoch script) epoch) (last (per_epoch script) epoch) round (above (scan_tip script life j) (lowest ∷ path))
@@ -87,9 +84,9 @@ pub record WereAsked (script : Script) (life : Life) (epoch request j : ℕ) (ro
 
 -- WHY AN ANCESTRY IS REFUSED: its front is under way, and the next block is refused
 pub record IsRefusedAt (script : Script) (life : Life) (epoch request j : ℕ) (why : Why) : Type 0 where
-  pub path : List (Block U)
-  pub next : Block U
-  pub rest : List (Block U)
+  pub path : List (Block directory.Unit)
+  pub next : Block directory.Unit
+  pub rest : List (Block directory.Unit)
   pub fed : fed_in script life request j ≡ reverse path ++ (next ∷ rest)
   pub under_way : IsUnderWay (bounds_in script epoch) (scan_tip script life j) path
   pub so : Refuses (bounds_in script epoch) (scan_tip script life j) path next why
@@ -97,18 +94,18 @@ pub record IsRefusedAt (script : Script) (life : Life) (epoch request j : ℕ) (
 -- it ended too soon
 pub record IsShortAt (script : Script) (life : Life) (epoch request j : ℕ) : Type 0 where
   pub closed : request_standing life request j ≡ Closed
-  pub path : List (Block U)
+  pub path : List (Block directory.Unit)
   pub fed : fed_in script life request j ≡ reverse path
   pub under_way : IsUnderWay (bounds_in script epoch) (scan_tip script life j) path
 
 -- THE PATH OF AN ANSWER: linked blocks from the midpoint at the latest up to the block asked for or its parent. The upper ones are those that were fed first, from the top down, and the chain goes on below them.
-pub record IsPathOf (script : Script) (chain : ℕ → Block U → Type 0) (epoch : ℕ) (fed path : List (Block U)) : Type 0 where
-  pub lower : List (Block U)
-  pub upper : List (Block U)
-  pub rest : List (Block U)
+pub record IsPathOf (script : Script) (chain : ℕ → Block directory.Unit → Type 0) (epoch : ℕ) (fed path : List (Block directory.Unit)) : Type 0 where
+  pub lower : List (Block directory.Unit)
+  pub upper : List (Block directory.Unit)
+  pub rest : List (Block directory.Unit)
   pub parts : path ≡ lower ++ upper
   pub fed_first : fed ≡ reverse upper ++ rest
-  pub below : (b : Block U) → Contains lower b → chain b.height b
+  pub below : (b : Block directory.Unit) → Contains lower b → chain b.height b
   pub linked : IsLinked path
   pub bottom : IsSomeAnd (slice_get path 0) (λ b. b.height ≤ midpoint (per_epoch script) epoch)
   pub top : IsSomeAnd (slice_get fed 0) (λ b. (slice_get path (length path - 1) ≡ Some b) × ((b.height ≡ last (per_epoch script) epoch) ⊎ (b.height + 1 ≡ last (per_epoch script) epoch)))

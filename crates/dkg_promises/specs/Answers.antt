@@ -38,9 +38,6 @@ use Rattle.dkg_lives.specs.Asks.{IsPathOf, IsRefusedAt, IsShortAt, IsUncancelled
 use Rattle.dkg_lives.specs.Blamed.{IsInfoOf, IsTakenLast, per_epoch}
 use Rattle.dkg_lives.specs.Given.{blocks_in}
 
-abbrev U : Type 0
-U = directory.Unit
-
 -- WHATEVER THE DEVICES TELL
 
 -- the request was made while this epoch was awaited, and isn't cancelled by the first j events
@@ -62,7 +59,7 @@ pub record IsProvidedFor (script : Script) (epoch : ℕ) : Type 0 where
 pub record IsMadeOf (script : Script) (l : ℕ) (life : Life) (epoch j request : ℕ) (payload : Option (List ℕ)) : Type 0 where
   pub takes_part : life_follows (alone script) l life epoch ≡ false
   pub provided : IsProvidedFor script epoch
-  pub info : EpochInfo U
+  pub info : EpochInfo directory.Unit
   pub info_is : IsInfoOf script life j epoch info
   pub round : Round
   pub round_is : round_by script epoch info ≡ Ok round
@@ -79,7 +76,7 @@ abbrev pub IsUnavailable : Script → (l : ℕ) → Life → (epoch j request : 
 IsUnavailable script l life epoch j request Following = life_follows (alone script) l life epoch ≡ true
 IsUnavailable script l life epoch j request Finished =
     (life_follows (alone script) l life epoch ≡ false)
-    × IsSomeAnd (event_of_step life j) (λ event. (number : ℕ) × (b : Block U) × (event ≡ Final number) × (slice_get (blocks_in script) number ≡ Some b) × IsTakenLast script l life (j - 1) b)
+    × IsSomeAnd (event_of_step life j) (λ event. (number : ℕ) × (b : Block directory.Unit) × (event ≡ Final number) × (slice_get (blocks_in script) number ≡ Some b) × IsTakenLast script l life (j - 1) b)
 IsUnavailable script l life epoch j request Short = IsShortAt script life epoch request j
 IsUnavailable script l life epoch j request Terminal = ⊥
 IsUnavailable script l life epoch j request Held = ⊥
@@ -102,18 +99,18 @@ AnswersSo script out = (files : Files) (held : Secrets) → AtEachEntry (setting
 -- OVER DEVICES THAT TELL, where the script has a whole history (dkg_script's History)
 
 -- the chain, as a node's blocks
-abbrev pub IsOfChain : Setting → (height : ℕ) → Block U → Type 0
+abbrev pub IsOfChain : Setting → (height : ℕ) → Block directory.Unit → Type 0
 IsOfChain s height b = chain s height ≡ Some (seen_block unit_spelling b)
 
 -- the answer is what follows the script's info of the epoch by the logs of a path of the request
 pub record IsFromPath (s : Setting) (l : ℕ) (life : Life) (j request : ℕ) (payload : Option (List ℕ)) : Type 0 where
   pub epoch : ℕ
   pub epoch_is : epoch ≡ awaited_epoch s l life (j - 1)
-  pub info : EpochInfo U
+  pub info : EpochInfo directory.Unit
   pub known : known_info s epoch ≡ Some (with_spelled unit_spelling info)
   pub round : Round
   pub round_is : round_by s.script epoch info ≡ Ok round
-  pub path : List (Block U)
+  pub path : List (Block directory.Unit)
   pub path_is : IsPathOf s.script (IsOfChain s) epoch (fed_in s.script life request j) path
   pub bytes : payload ≡ Some (next_bytes s.script info round (logs_of_path check_log_of (midpoint (per_epoch s.script) epoch) (last (per_epoch s.script) epoch) round path))
 

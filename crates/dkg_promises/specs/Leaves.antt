@@ -22,9 +22,6 @@ use Rattle.dkg_core.specs.Laws.{IsAmong}
 use Rattle.dkg_lives.specs.Asks.{IsUncancelled, Open, WereAsked, bounds_in, fed_in, scan_tip, request_standing}
 use Rattle.dkg_lives.specs.Blamed.{per_epoch}
 
-abbrev U : Type 0
-U = directory.Unit
-
 -- these entries don't answer the request
 abbrev pub LacksAnswer : List Entry → (request : ℕ) → Type 0
 LacksAnswer said request = (answer : AnswerLine) → IsAmong (Answer request answer) said → ⊥
@@ -46,7 +43,7 @@ pub record IsOldest (script : Script) (l : ℕ) (life : Life) (j : ℕ) (said : 
 -- A request needs blocks: its ancestry goes on, and what it was fed is a path that isn't read to the last needed height.
 pub record NeedsBlocks (script : Script) (life : Life) (epoch j request : ℕ) : Type 0 where
   pub goes_on : request_standing life request j ≡ Open
-  pub path : List (Block U)
+  pub path : List (Block directory.Unit)
   pub fed : fed_in script life request j ≡ reverse path
   pub under_way : IsUnderWay (bounds_in script epoch) (scan_tip script life j) path
 
