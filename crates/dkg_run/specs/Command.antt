@@ -5,8 +5,8 @@ use Rattle.dkg_outside.specs.declared.status.Status.{Status}
 use Rattle.dkg_outside.specs.declared.status.Status.TheVariants.{WriteFault, NoMemory}
 
 -- the words ask for the lives of the script that the source gives
-abbrev pub IsRun : (words : List (List ℕ)) → Type 0
-IsRun words = words ≡ codes "run" ∷ []
+abbrev pub IsRunOfSource : (words : List (List ℕ)) → Type 0
+IsRunOfSource words = words ≡ codes "run" ∷ []
 
 -- .. for the text of the made script of this number
 pub record IsMake (number : ℕ) (words : List (List ℕ)) : Type 0 where

@@ -12,7 +12,7 @@ ghost use Rattle.dkg_text.specs.declared.script.Script.{Script};
 ghost use Rattle.dkg_script.specs.InForm.{ReadsInForm, is_in_form};
 ghost use Rattle.dkg_script.specs.Inclusion.{IsFormOfInclusion};
 ghost use Rattle.dkg_script.specs.Promise.{Adds};
-ghost use Rattle.dkg_run.specs.Command.{IsMake, IsRun, IsRunOfMade, IsTold};
+ghost use Rattle.dkg_run.specs.Command.{IsMake, IsRunOfMade, IsRunOfSource, IsTold};
 ghost use Rattle.dkg_promises.specs.Complete.{IsSoundRun, IsValidAnyhow};
 ghost use Rattle.dkg_outside.specs.Outside.{TookFew, TookMore};
 ghost use Rattle.dkg_promises.specs.Over.{over};
@@ -39,7 +39,7 @@ fn is_run_word(word: &str) -> bool
 
 /// Whether the words are those that run a script.
 fn is_run(words: &[String]) -> bool
-    ensures { IsTrue result ↔ IsRun (map string_bytes words.now) }
+    ensures { IsTrue result ↔ IsRunOfSource (map string_bytes words.now) }
 {
     match words {
         [word] => is_run_word(word.as_str()),
@@ -331,12 +331,12 @@ pub fn run_command<S: Source, K: Sink, D: Disk, X: SecretStore>(
     out: &mut Transcript,
 ) -> Status
     // Other words read and run nothing.
-    ensures usage { (IsRun (map string_bytes words.now) → ⊥) → ((n : ℕ) → IsMake n (map string_bytes words.now) → ⊥)
+    ensures usage { (IsRunOfSource (map string_bytes words.now) → ⊥) → ((n : ℕ) → IsMake n (map string_bytes words.now) → ⊥)
         → ((n : ℕ) → IsRunOfMade n (map string_bytes words.now) → ⊥)
         → IsTold Status.Usage result (last_of Status.Usage) (IsTrue K.tells) (K.held sink.old) (K.held sink.new)
         × (source.new ≡ source.old) × (disk.new ≡ disk.old) × (secrets.new ≡ secrets.old) × (out.new ≡ out.old) }
     ensures only_usage { result ≡ Status.Usage
-        → (IsRun (map string_bytes words.now) → ⊥) × ((n : ℕ) → IsMake n (map string_bytes words.now) → ⊥)
+        → (IsRunOfSource (map string_bytes words.now) → ⊥) × ((n : ℕ) → IsMake n (map string_bytes words.now) → ⊥)
         × ((n : ℕ) → IsRunOfMade n (map string_bytes words.now) → ⊥) }
     // `make N script` writes that script's text, and touches nothing but the sink.
     ensures make { (n : ℕ) → IsMake n (map string_bytes words.now)
@@ -349,7 +349,8 @@ pub fn run_command<S: Source, K: Sink, D: Disk, X: SecretStore>(
     // However the words `run` end, the new entries, the devices and what was read are as the status says, with all that `run_lives` promises of the
     // script that the source gave, and the sink took the lines of the entries and the status's last line: all, or a front where a write failed, or
     // nothing where there was no memory for them.
-    ensures run { IsRun (map string_bytes words.now) → Reported (WasRead (IsTrue S.tells) (S.left source.old) (S.left source.new) (S.has_back source.new))
+    ensures run { IsRunOfSource (map string_bytes words.now)
+        → Reported (WasRead (IsTrue S.tells) (S.left source.old) (S.left source.new) (S.has_back source.new))
         (over D.tells D.files D.image D.faults D.made X.tells X.held X.faults X.made (disk.old, secrets.old) (disk.new, secrets.new))
         out.old.entries out.new.entries result (IsTrue K.tells) (K.held sink.old) (K.held sink.new) }
     ensures silent { (result ≡ Status.ReadFault) ⊎ (result ≡ Status.TooLong) → sink.new ≡ sink.old }
@@ -361,7 +362,7 @@ pub fn run_command<S: Source, K: Sink, D: Disk, X: SecretStore>(
     ensures in_bound { IsTrue S.tells → TookFew 16777217 (S.left source.old) (S.left source.new) }
     // Where the source holds the text of a script of a form that is run, which is valid however it is cut, the devices are valid, and no count rises, every
     // life is run, unless memory runs out.
-    ensures complete { IsRun (map string_bytes words.now) → IsTrue S.tells → (script : Script)
+    ensures complete { IsRunOfSource (map string_bytes words.now) → IsTrue S.tells → (script : Script)
         → script_of false (S.left source.old) ≡ Some script → is_in_form script ≡ true → length (S.left source.old) ≤ 16777216
         → IsSoundRun
         (over D.tells D.files D.image D.faults D.made X.tells X.held X.faults X.made (disk.old, secrets.old) (disk.new, secrets.new))
