@@ -9,7 +9,7 @@ use Rattle.dkg_words.specs.Fault.{IsFaultLine}
 use Rattle.dkg_words.specs.Help.{help_text}
 use Rattle.dkg_words.specs.Own.{own_text}
 use Rattle.dkg_words.specs.Chain.{IsChainWarning}
-use Rattle.dkg_words.specs.Unbuilt.{unbuilt_text}
+use Rattle.dkg_words.specs.Unsupported.{unsupported_text}
 
 -- the warning of a message of the node's own key, and that of blocks that make no chain, each where there is one
 pub record Warns (text words : List ℕ) : Type 0 where
@@ -29,7 +29,7 @@ DeviceTold text entries words = LastTold text entries (slice_get entries (length
 abbrev pub TellsByStatus : Status → (text : List ℕ) → List Entry → (words : List ℕ) → Type 0
 TellsByStatus status.Done text entries words = Warns text words
 TellsByStatus (status.BadScript place) text entries words = words ≡ bad_text text place
-TellsByStatus status.Unsupported text entries words = words ≡ unbuilt_text text
+TellsByStatus status.Unsupported text entries words = words ≡ unsupported_text text
 TellsByStatus (status.Fault fault) text entries words = IsFaultLine text entries fault words
 TellsByStatus status.Device text entries words = DeviceTold text entries words
 TellsByStatus status.Usage text entries words = words ≡ help_text

@@ -7,7 +7,7 @@ ghost use Rattle.dkg_told.specs.Tells.{DeviceTold, TellsByStatus, TellsOf, Warns
 use dkg_infos::Entry;
 use dkg_outside::Status;
 use dkg_values::{Mem, NoMemory};
-use dkg_words::{bad_line, chain_warning, fault_line, help, own_warning, sentence, unbuilt_line};
+use dkg_words::{bad_line, chain_warning, fault_line, help, own_warning, sentence, unsupported_line};
 use std::alloc::Global;
 
 /// The warnings of a script that was run to its end.
@@ -43,7 +43,7 @@ fn told_of(alloc: Global, status: &Status, text: &[u8], entries: &[Entry]) -> Me
     match status {
         Status::Done => warnings(alloc, text),
         Status::BadScript { place } => bad_line(alloc, text, *place),
-        Status::Unsupported => unbuilt_line(alloc, text),
+        Status::Unsupported => unsupported_line(alloc, text),
         Status::Fault(fault) => fault_line(alloc, text, entries, fault),
         Status::Device => device_line(alloc, text, entries),
         Status::Usage => help_words(alloc),

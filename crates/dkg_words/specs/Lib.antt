@@ -12,4 +12,4 @@ pub mod Seek
 pub mod Shown
 pub mod Stages
 pub mod Told
-pub mod Unbuilt
+pub mod Unsupported

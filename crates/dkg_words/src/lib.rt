@@ -15,7 +15,7 @@ mod own;
 mod put;
 mod seek;
 mod stages;
-mod unbuilt;
+mod unsupported;
 mod usage;
 
 pub use bad::bad_line;
@@ -23,5 +23,5 @@ pub use chain::chain_warning;
 pub use fault::fault_line;
 pub use own::own_warning;
 pub use put::sentence;
-pub use unbuilt::unbuilt_line;
+pub use unsupported::unsupported_line;
 pub use usage::help;

@@ -3,9 +3,9 @@ use Rattle.std.specs.Prelude.{ℕ, ◌+◌, ◌-◌, ◌^◌, min, if◌then◌e
 use Rattle.std.specs.Prelude.{option_and_then}
 use Rattle.dkg_words.specs.declared.names.Name.{Name}
 use Rattle.dkg_words.specs.declared.names.Name.TheVariants as name
-use Rattle.dkg_words.specs.declared.unbuilt.Named.{Named}
-use Rattle.dkg_words.specs.declared.unbuilt.Why.{Why}
-use Rattle.dkg_words.specs.declared.unbuilt.Why.TheVariants.{Oneshot, Addresses, Probe, Sync, Event}
+use Rattle.dkg_words.specs.declared.unsupported.Named.{Named}
+use Rattle.dkg_words.specs.declared.unsupported.Why.{Why}
+use Rattle.dkg_words.specs.declared.unsupported.Why.TheVariants.{Oneshot, Addresses, Probe, Sync, Event}
 use Rattle.dkg_words.specs.Before.{counted_up}
 use Rattle.dkg_words.specs.Lines.{name_in, over_lines}
 use Rattle.dkg_words.specs.Names.{is_event_name, name_by}
@@ -61,11 +61,11 @@ abbrev pub named_or : Option (ℕ × Why) → ℕ × Why
 named_or (Some its) = its
 named_or None = (0, Addresses)
 
-unfoldable pub unbuilt_of : (text : List ℕ) → ℕ × Why
-unbuilt_of text = named_or (named_place text)
+unfoldable pub unsupported_of : (text : List ℕ) → ℕ × Why
+unsupported_of text = named_or (named_place text)
 
 abbrev pub told_of : (text : List ℕ) → ℕ × Why → List ℕ
 told_of text its = line_told text its.0 ++ codes ": not run yet: " ++ why_words its.1 ++ 10 ∷ []
 
-abbrev pub unbuilt_text : (text : List ℕ) → List ℕ
-unbuilt_text text = told_of text (unbuilt_of text)
+abbrev pub unsupported_text : (text : List ℕ) → List ℕ
+unsupported_text text = told_of text (unsupported_of text)

@@ -1,6 +1,6 @@
 //! The line that is said of a script of a form that isn't run yet.
 ghost use Rattle.std.specs.Prelude.{◌≡◌, IfOk};
-ghost use Rattle.dkg_words.specs.Unbuilt.{found_after, named_or as named_or_of, named_place as named_place_of, told_of, unbuilt_of, unbuilt_text, why_line as why_line_of, why_named as why_named_of, why_words};
+ghost use Rattle.dkg_words.specs.Unsupported.{found_after, named_or as named_or_of, named_place as named_place_of, told_of, unsupported_of, unsupported_text, why_line as why_line_of, why_named as why_named_of, why_words};
 
 use crate::bad::put_line;
 use crate::lines::{Walk, go_over, until};
@@ -90,7 +90,7 @@ fn found_behind(found: Option<(u64, Why)>, at: u64, why: Option<Why>) -> Option<
 }
 
 impl Walk for Named {
-    ghost use Rattle.dkg_words.specs.Unbuilt.{named_after as named_after_line};
+    ghost use Rattle.dkg_words.specs.Unsupported.{named_after as named_after_line};
 
     ghost after = { named_after_line };
 
@@ -122,9 +122,9 @@ fn named_or(named: Option<(u64, Why)>) -> (u64, Why)
 }
 
 /// The first line of a script that isn't run: where it begins, and why.
-#[tactic(auto, unfolding(crate::specs::Unbuilt::unbuilt_of))]
+#[tactic(auto, unfolding(crate::specs::Unsupported::unsupported_of))]
 fn first(text: &[u8]) -> (u64, Why)
-    ensures { result ≡ unbuilt_of text.now }
+    ensures { result ≡ unsupported_of text.now }
 {
     named_or(named_place(text))
 }
@@ -141,8 +141,8 @@ fn line_of(alloc: Global, text: &[u8], its: (u64, Why)) -> Mem<Vec<u8>>
 }
 
 /// What is said of a script that isn't of the form that is run: its first line that isn't, and what of it.
-pub fn unbuilt_line(alloc: Global, text: &[u8]) -> Mem<Vec<u8>>
-    ensures { IfOk result (λ line. line.items ≡ unbuilt_text text.now) }
+pub fn unsupported_line(alloc: Global, text: &[u8]) -> Mem<Vec<u8>>
+    ensures { IfOk result (λ line. line.items ≡ unsupported_text text.now) }
 {
     line_of(alloc, text, first(text))
 }
