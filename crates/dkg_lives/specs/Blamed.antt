@@ -35,6 +35,7 @@ use Rattle.dkg_script.specs.Progress.{AtEachEntry, Progress}
 use Rattle.dkg_script.specs.Setting.{blocks_per_epoch, setting_of}
 use Rattle.dkg_core.specs.Fixed.{has}
 use Rattle.dkg_core.specs.Live.{Finalized}
+use Rattle.dkg_core.specs.Setup.{participants_of}
 use Rattle.dkg_core.specs.Sources.{Tip, position}
 use Rattle.dkg_core.specs.Endings.{tip_behind}
 use Rattle.dkg_lives.specs.Given.{anchor_in, blocks_in, numbered}
@@ -50,8 +51,7 @@ is_beyond script height = nat_le (2 ^ 64) (last (per_epoch script) (epoch_of (pe
 
 -- how its participants are judged
 abbrev pub judged_by : Script → EpochInfo directory.Unit → Result (Unit {0}) ParticipantsError
-judged_by script info =
-    validation (record { dealers = info.output.players; players = info.players; next_players = info.next_players }) (non_zero_u32_get script.config.limit) (Some info.output) info.epoch
+judged_by script info = validation (participants_of info) (non_zero_u32_get script.config.limit) (Some info.output) info.epoch
 
 -- It is of the epoch and valid, and P holds of the round that it makes.
 abbrev pub Draws : Script → (epoch : ℕ) → EpochInfo directory.Unit → (Round → Type 0) → Type 0
