@@ -88,6 +88,22 @@ fn closes_once<C: Ceremony>(
 }
 
 /// Whether a dealer whom nobody has acknowledged has a quorum of 12 players, and of 13; and whether it closes as it should.
+fn ends<C: Ceremony>(
+    alloc: Global,
+    ceremony: &C,
+    signer: &C::Signer,
+    dealer: &mut Dealer,
+) -> Result<[bool; 3], Fail>
+    requires me { C.Signer.key_of signer.now ≡ dealer.old.me }
+    requires dealer { IsDealerOf C.deal_of C.check_ack_of dealer.old }
+{
+    let twelve = dealer.has_acknowledgement_quorum(12);
+    let thirteen = dealer.has_acknowledgement_quorum(13);
+    let closes = closes_once(alloc, ceremony, signer, dealer)?;
+    Ok([twelve, thirteen, closes])
+}
+
+/// That of the signer's dealer.
 fn ended<C: Ceremony, Dir: Drop>(
     alloc: Global,
     ceremony: &C,
@@ -96,10 +112,9 @@ fn ended<C: Ceremony, Dir: Drop>(
     round: &Round,
 ) -> Result<[bool; 3], Fail> {
     let mut dealer = made(alloc, ceremony, signer, store, round)?;
-    let twelve = dealer.has_acknowledgement_quorum(12);
-    let thirteen = dealer.has_acknowledgement_quorum(13);
-    let closes = closes_once(alloc, ceremony, signer, &mut dealer)?;
-    Ok([twelve, thirteen, closes])
+    let ends = ends(alloc, ceremony, signer, &mut dealer);
+    drop(dealer);
+    ends
 }
 
 /// That of a store over these devices.
@@ -134,26 +149,38 @@ const SHARED: [u8; 17] = [0, 0, 0, 0, 0, 0, 0, 0, 0, 4, 3, 0, 5, 0, 1, 0, 2];
 /// The keys of the four.
 const SET: [u8; 17] = [4, 0, 0, 0, 1, 0, 0, 0, 2, 0, 0, 0, 3, 0, 0, 0, 4];
 
-/// That output: all four players have dealt it, and nobody's private half is revealed.
-fn output(alloc: Global) -> Result<Output, Fail> {
-    let mut bytes = SHARED.to_vec(alloc)?;
+/// Puts that output: all four players have dealt it, and nobody's private half is revealed.
+fn put_output(bytes: &mut Vec<u8>) -> Result<(), Fail> {
+    bytes.extend_from_slice(&SHARED)?;
     bytes.extend_from_slice(&SET)?;
     bytes.extend_from_slice(&SET)?;
     bytes.push(0)?;
+    Ok(())
+}
+
+fn output(alloc: Global) -> Result<Output, Fail> {
+    let mut bytes = Vec::new(alloc);
+    put_output(&mut bytes)?;
     Ok(decode_cfg::<Output>(alloc, bytes.as_slice(), &(4, ModeVersion(0)))?)
 }
 
-/// What the next epoch is committed with.
-fn info_of<Dir: Drop>(alloc: Global, directory: Dir) -> Result<EpochInfo<Dir>, Fail> {
+/// The four, as an epoch's players and as the next one's.
+fn both_players(alloc: Global) -> Result<(Set, Set), Fail> {
     let players = Set::from_any(alloc, &KEYS)?;
-    let next_players = Set::from_any(alloc, &KEYS)?;
+    Ok((players, Set::from_any(alloc, &KEYS)?))
+}
+
+/// What the next epoch is committed with.
+fn next_info(alloc: Global) -> Result<EpochInfo<Unit>, Fail> {
+    let output = output(alloc)?;
+    let (players, next_players) = both_players(alloc)?;
     Ok(EpochInfo {
         outcome: EpochOutcome::Success,
         epoch: Epoch(1),
-        output: output(alloc)?,
+        output,
         players,
         next_players,
-        directory,
+        directory: Unit,
     })
 }
 
@@ -178,18 +205,28 @@ fn has_secrets<D: Disk, X: SecretStore, Dir: Drop>(
     Ok(kept == Some(share) && newest == kept && seed == Some(SEED))
 }
 
-/// Commits the next epoch. Which epoch is current then, and whether it has both secrets.
+/// Commits an epoch, which is the next one. Which epoch is current then, and whether it has both secrets.
 fn committed<D: Disk, X: SecretStore, Dir: Drop>(
     alloc: Global,
     devices: &mut Devices<'_, D, X>,
     store: &mut Store<Dir>,
-    directory: Dir,
+    info: EpochInfo<Dir>,
     share: Share,
 ) -> Result<(Option<Epoch>, bool), Fail> {
-    let info = info_of(alloc, directory)?;
     store.commit_epoch(alloc, devices, info, SEED, Some(share))?;
     let has_secrets = has_secrets(alloc, devices, store, share)?;
     Ok((current_of(store), has_secrets))
+}
+
+/// Commits the next epoch.
+fn next_committed<D: Disk, X: SecretStore>(
+    alloc: Global,
+    devices: &mut Devices<'_, D, X>,
+    store: &mut Store<Unit>,
+) -> Result<(Option<Epoch>, bool), Fail> {
+    let share = Share(Element::new(8).ok_or("no element")?);
+    let info = next_info(alloc)?;
+    committed(alloc, devices, store, info, share)
 }
 
 /// That in a store of its own.
@@ -197,9 +234,8 @@ fn committed_once<D: Disk, X: SecretStore>(
     alloc: Global,
     devices: &mut Devices<'_, D, X>,
 ) -> Result<(Option<Epoch>, bool), Fail> {
-    let share = Share(Element::new(8).ok_or("no element")?);
     let mut store: Store<Unit> = opened(alloc, devices)?;
-    let found = committed(alloc, devices, &mut store, Unit, share);
+    let found = next_committed(alloc, devices, &mut store);
     drop(store);
     found
 }

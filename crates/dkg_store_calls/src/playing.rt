@@ -15,7 +15,7 @@ use dkg_ceremony::{
 use dkg_infos::{Transcript, Unit};
 use dkg_journal::{Disk, MemoryDisk};
 use dkg_store::{Devices, MemorySecrets, Player, SecretStore, Store};
-use dkg_values::{Element, Epoch, Key, Map};
+use dkg_values::{Element, Epoch, Key, Map, Value};
 use std::alloc::Global;
 use std::test::Fail;
 
@@ -37,7 +37,7 @@ fn hear<C: Ceremony, D: Disk, X: SecretStore, Dir: Drop>(
     out: &mut Transcript,
     epoch: Epoch,
     player: &mut Player,
-    heard: Heard,
+    heard: &Heard,
 ) -> Result<(), Fail>
     requires playing { Contains player.old.round.players player.old.me }
     requires signer { C.Signer.key_of signer.now ≡ player.old.me }
@@ -50,16 +50,21 @@ fn hear<C: Ceremony, D: Disk, X: SecretStore, Dir: Drop>(
         → AreChecked (C.dealing_of player.old.round player.old.me) player.new.dealings }
     ensures open { OnOk result (IsTrue D.tells → IsOpen store.new.journal (D.files devices.new.disk.now) (D.image devices.new.disk.now)) }
 {
-    let Heard {
-        dealer,
-        public,
-        private,
-    } = heard;
-    if public.as_slice().len() != 3 {
+    if heard.public.as_slice().len() != 3 {
         return Err(Fail::from("the polynomial has another degree"));
     }
+    let public = heard.public.copy(alloc)?;
     let _ack = player.handle(
-        alloc, ceremony, signer, devices, store, out, epoch, dealer, public, private,
+        alloc,
+        ceremony,
+        signer,
+        devices,
+        store,
+        out,
+        epoch,
+        heard.dealer,
+        public,
+        heard.private,
     )?;
     Ok(())
 }
@@ -74,7 +79,7 @@ fn hear_all<C: Ceremony, D: Disk, X: SecretStore, Dir: Drop>(
     out: &mut Transcript,
     epoch: Epoch,
     player: &mut Player,
-    heard: Vec<Heard>,
+    heard: &[Heard],
 ) -> Result<(), Fail>
     requires playing { Contains player.old.round.players player.old.me }
     requires signer { C.Signer.key_of signer.now ≡ player.old.me }
@@ -94,6 +99,42 @@ fn hear_all<C: Ceremony, D: Disk, X: SecretStore, Dir: Drop>(
     Ok(())
 }
 
+/// Hands a player dealings, and ends its round.
+fn ended<C: Ceremony, D: Disk, X: SecretStore, Dir: Drop>(
+    alloc: Global,
+    ceremony: &C,
+    signer: &C::Signer,
+    devices: &mut Devices<'_, D, X>,
+    store: &mut Store<Dir>,
+    epoch: Epoch,
+    mut player: Player,
+    heard: &[Heard],
+    logs: &Map<DealerLog>,
+) -> Result<Result<Option<(Output, Share)>, FinishError>, Fail>
+    requires playing { Contains player.round.players player.me }
+    requires signer { C.Signer.key_of signer.now ≡ player.me }
+    requires open { IsTrue D.tells → IsOpen store.old.journal (D.files devices.old.disk.now) (D.image devices.old.disk.now) }
+    requires mirrors { map.entries player.dealings ≡ at_epoch epoch store.old.dealings }
+    requires passes { AreChecked (C.dealing_of player.round player.me) player.dealings }
+    ensures { IfOk result (λ found. AnswersFinish (C.finish_of player.round player.me (at_epoch epoch store.new.dealings) logs.now) found) }
+{
+    let mut out = Transcript::new(alloc);
+    let heard_all = hear_all(
+        alloc,
+        ceremony,
+        signer,
+        devices,
+        store,
+        &mut out,
+        epoch,
+        &mut player,
+        heard,
+    );
+    drop(out);
+    heard_all?;
+    Ok(player.finalize(alloc, ceremony, logs))
+}
+
 /// Makes a player, hands it dealings, and ends its round. What comes of it is what the ceremony gives over the dealings that the store
 /// has of the epoch at the end: the clauses of the three calls say so.
 fn played<C: Ceremony, D: Disk, X: SecretStore, Dir: Drop>(
@@ -104,7 +145,7 @@ fn played<C: Ceremony, D: Disk, X: SecretStore, Dir: Drop>(
     store: &mut Store<Dir>,
     epoch: Epoch,
     round: &Round,
-    heard: Vec<Heard>,
+    heard: &[Heard],
     logs: &Map<DealerLog>,
 ) -> Result<Result<Option<(Output, Share)>, FinishError>, Fail>
     requires playing { Contains round.now.players (C.Signer.key_of signer.now) }
@@ -113,20 +154,10 @@ fn played<C: Ceremony, D: Disk, X: SecretStore, Dir: Drop>(
 {
     let me = signer.public_key();
     let player = store.create_player(alloc, ceremony, epoch, me, round)?;
-    let mut player = player.ok_or("no player")?;
-    let mut out = Transcript::new(alloc);
-    hear_all(
-        alloc,
-        ceremony,
-        signer,
-        devices,
-        store,
-        &mut out,
-        epoch,
-        &mut player,
-        heard,
-    )?;
-    Ok(player.finalize(alloc, ceremony, logs))
+    let player = player.ok_or("no player")?;
+    ended(
+        alloc, ceremony, signer, devices, store, epoch, player, heard, logs,
+    )
 }
 
 /// What each dealer deals: 55779 + 1926x + 11950x².
@@ -154,46 +185,68 @@ const ACKS: [[[u8; 8]; 4]; 3] = [
     ],
 ];
 
-/// A dealer's log, with these acknowledgements.
-fn log_of(alloc: Global, acks: &[[u8; 8]]) -> Result<DealerLog, Fail> {
-    let mut bytes = PUBLIC.to_vec(alloc)?;
+/// Puts a dealer's log, with these acknowledgements.
+fn put_log(acks: &[[u8; 8]], bytes: &mut Vec<u8>) -> Result<(), Fail> {
+    bytes.extend_from_slice(&PUBLIC)?;
     bytes.push(4)?;
     for ack in acks {
         bytes.push(0)?;
         bytes.extend_from_slice(ack)?;
     }
+    Ok(())
+}
+
+fn log_of(alloc: Global, acks: &[[u8; 8]]) -> Result<DealerLog, Fail> {
+    let mut bytes = Vec::new(alloc);
+    put_log(acks, &mut bytes)?;
     Ok(decode_cfg::<DealerLog>(alloc, bytes.as_slice(), &4)?)
 }
 
-/// The logs by dealer.
-fn logs(alloc: Global) -> Result<Map<DealerLog>, Fail> {
-    let mut pairs = Vec::new(alloc);
+/// Lists the log of each dealer.
+fn list_logs(alloc: Global, pairs: &mut Vec<(Key, DealerLog)>) -> Result<(), Fail> {
     let mut dealer = 0u32;
     for acks in ACKS.iter() {
         dealer = dealer.wrapping_add(1);
         pairs.push((Key(dealer), log_of(alloc, acks)?))?;
     }
+    Ok(())
+}
+
+fn map_of(alloc: Global, pairs: Vec<(Key, DealerLog)>) -> Result<Map<DealerLog>, Fail> {
     if pairs.len() > 9 {
         return Err(Fail::from("too many logs"));
     }
     Ok(Map::from_any(alloc, pairs)?)
 }
 
+/// The logs by dealer.
+fn logs(alloc: Global) -> Result<Map<DealerLog>, Fail> {
+    let mut pairs = Vec::new(alloc);
+    list_logs(alloc, &mut pairs)?;
+    map_of(alloc, pairs)
+}
+
 /// What a dealer deals to this node.
 fn dealing_of(alloc: Global, dealer: u32) -> Result<Heard, Fail> {
+    let private = Private(Element::new(4134).ok_or("no element")?);
     Ok(Heard {
         dealer: Key(dealer),
         public: decode_cfg::<Public>(alloc, &PUBLIC, &4)?,
-        private: Private(Element::new(4134).ok_or("no element")?),
+        private,
     })
 }
 
-/// What these dealers deal to this node, each one behind the other.
-fn dealings_of(alloc: Global, dealers: &[u32]) -> Result<Vec<Heard>, Fail> {
-    let mut heard = Vec::new(alloc);
+/// Lists what these dealers deal to this node, each one behind the other.
+fn list_dealings(alloc: Global, dealers: &[u32], heard: &mut Vec<Heard>) -> Result<(), Fail> {
     for dealer in dealers {
         heard.push(dealing_of(alloc, *dealer)?)?;
     }
+    Ok(())
+}
+
+fn dealings_of(alloc: Global, dealers: &[u32]) -> Result<Vec<Heard>, Fail> {
+    let mut heard = Vec::new(alloc);
+    list_dealings(alloc, dealers, &mut heard)?;
     Ok(heard)
 }
 
@@ -202,7 +255,7 @@ fn ended_in<C: Ceremony, D: Disk, X: SecretStore, Dir: Drop>(
     alloc: Global,
     ceremony: &C,
     me: &C::Signer,
-    heard: Vec<Heard>,
+    heard: &[Heard],
     devices: &mut Devices<'_, D, X>,
     round: &Round,
     logs: &Map<DealerLog>,
@@ -237,7 +290,7 @@ fn share_in(found: &Option<(Output, Share)>) -> Option<u16> {
 /// The share that comes of these dealings.
 fn share_by(
     alloc: Global,
-    heard: Vec<Heard>,
+    heard: &[Heard],
     devices: &mut Devices<'_, MemoryDisk, MemorySecrets>,
     round: &Round,
     logs: &Map<DealerLog>,
@@ -266,8 +319,9 @@ fn share_in_memory(
 ) -> Result<Result<Option<u16>, FinishError>, Fail> {
     let heard = dealings_of(alloc, dealers)?;
     let mut memory = Memory::new(alloc);
-    let share = share_by(alloc, heard, &mut memory.devices(), round, logs);
+    let share = share_by(alloc, heard.as_slice(), &mut memory.devices(), round, logs);
     drop(memory);
+    drop(heard);
     share
 }
 
@@ -333,11 +387,25 @@ fn plays_beside_these(alloc: Global, logs: &Map<DealerLog>) -> Result<bool, Fail
     plays
 }
 
+/// That beside the logs of the three.
+fn plays_beside_the_logs(alloc: Global) -> Result<bool, Fail> {
+    let logs = logs(alloc)?;
+    let plays = plays_beside_these(alloc, &logs);
+    drop(logs);
+    plays
+}
+
+/// That beside none.
+fn plays_beside_none(alloc: Global) -> Result<bool, Fail> {
+    let none = Map::from_any(alloc, Vec::new(alloc))?;
+    let plays = plays_beside_these(alloc, &none);
+    drop(none);
+    plays
+}
+
 #[test]
 fn whoever_has_lost_what_it_acknowledged_does_not_play(rt: HostRuntime) -> Result<(), Fail> {
-    let acknowledged = logs(rt.alloc())?;
-    let none: Map<DealerLog> = Map::from_any(rt.alloc(), Vec::new(rt.alloc()))?;
-    is(&rt, plays_beside_these(rt.alloc(), &acknowledged)?, false);
-    is(&rt, plays_beside_these(rt.alloc(), &none)?, true);
+    is(&rt, plays_beside_the_logs(rt.alloc())?, false);
+    is(&rt, plays_beside_none(rt.alloc())?, true);
     Ok(())
 }

@@ -76,21 +76,35 @@ fn dealings_there<X: SecretStore>(
 }
 
 /// Which of the filled store's keys are there: shares 0, 1, 2, seeds 0, 1, 3, private halves (0, 5), (0, 7), (1, 3), (3, 1).
-fn there<X: SecretStore>(alloc: Global, secrets: &mut X) -> Result<String, Fail> {
-    let mut list = String::new(alloc);
-    shares_there(alloc, secrets, &mut list)?;
-    seeds_there(alloc, secrets, &mut list)?;
-    dealings_there(alloc, secrets, &mut list)?;
-    Ok(list)
+fn there<X: SecretStore>(
+    alloc: Global,
+    secrets: &mut X,
+    list: &mut String,
+) -> Result<(), Fail> {
+    shares_there(alloc, secrets, list)?;
+    seeds_there(alloc, secrets, list)?;
+    dealings_there(alloc, secrets, list)
 }
 
 /// What a prune that is cut leaves of a filled store.
-fn left_of<X: SecretStore>(alloc: Global, secrets: &mut X, pick: u64) -> Result<String, Fail> {
+fn left_of<X: SecretStore>(
+    alloc: Global,
+    secrets: &mut X,
+    pick: u64,
+    list: &mut String,
+) -> Result<(), Fail> {
     fill_shares(alloc, secrets)?;
     fill_seeds(alloc, secrets)?;
     fill_dealings(alloc, secrets)?;
     secrets.cut(alloc, &SecretOp::Prune { min: Epoch(2) }, pick)?;
-    there(alloc, secrets)
+    there(alloc, secrets, list)
+}
+
+/// That of a store in memory.
+fn left_in_memory(alloc: Global, pick: u64) -> Result<String, Fail> {
+    let mut list = String::new(alloc);
+    left_of(alloc, &mut MemorySecrets::new(alloc), pick, &mut list)?;
+    Ok(list)
 }
 
 // The expected keys are those of the reference model.
@@ -107,7 +121,7 @@ fn cut_prunes_go_by_the_bits(rt: HostRuntime) -> Result<(), Fail> {
         (1 << 63, "..s..e...p"),
         (u64::MAX, "ssseeepppp"),
     ] {
-        let left = left_of(alloc, &mut MemorySecrets::new(alloc), pick)?;
+        let left = left_in_memory(alloc, pick)?;
         is_at(&rt, left.as_str(), expected, pick);
     }
     Ok(())
@@ -138,11 +152,17 @@ fn tells_the_newest<X: SecretStore>(alloc: Global, secrets: &mut X) -> Result<bo
     Ok(low == [None, None, Some(one), Some(one)] && high == [Some(other); 4])
 }
 
+/// That of a store, which is done with then.
+fn tells<X: SecretStore + Drop>(alloc: Global, mut secrets: X) -> Result<bool, Fail> {
+    let tells = tells_the_newest(alloc, &mut secrets);
+    drop(secrets);
+    tells
+}
+
 #[test]
 fn the_newest_share_below_is_told(rt: HostRuntime) -> Result<(), Fail> {
-    let mut sure = SureSecrets::new(rt.alloc());
-    is(&rt, tells_the_newest(rt.alloc(), &mut sure)?, true);
-    let mut secrets = MemorySecrets::new(rt.alloc());
-    is(&rt, tells_the_newest(rt.alloc(), &mut secrets)?, true);
+    let alloc = rt.alloc();
+    is(&rt, tells(alloc, SureSecrets::new(alloc))?, true);
+    is(&rt, tells(alloc, MemorySecrets::new(alloc))?, true);
     Ok(())
 }
