@@ -1,5 +1,6 @@
 //! Actors of any parts, and who takes their schemes.
-ghost use Rattle.std.specs.Prelude.{◌≡◌, IfOk};
+ghost use Rattle.std.specs.Prelude.{◌≡◌, ◌≤◌, ◌^◌, IfOk};
+ghost use Rattle.std.specs.Int.NonZero.{non_zero_u32_get};
 ghost use Rattle.dkg_reshare.specs.Actors.{IsNew};
 
 use dkg_ceremony::{Blob, Ceremony, Mode, ModeVersion, Reveal, StandCeremony, StandSigner};
@@ -47,17 +48,19 @@ fn provider(alloc: Global) -> Mem<StaticParticipants<Unit>> {
     Ok(StaticParticipants::new(Set::from_any(alloc, &[Key(1)])?, Unit))
 }
 
-/// An actor of these parts, with epochs of so many blocks.
+/// An actor of these parts, with so many participants at most and epochs of so many blocks.
 fn actor_of<C: Ceremony + Drop, P: Drop, R: Drop>(
     alloc: Global,
     ceremony: C,
     signer: C::Signer,
     provider: P,
     registrar: R,
-    blocks: u64,
+    limit: NonZeroU32,
+    blocks: NonZeroU64,
 ) -> Result<Actor<C, P, R, Unit, Unit>, Fail>
 where
     C::Signer: Drop,
+    requires { non_zero_u32_get limit ≤ 2 ^ 30 }
     ensures { IfOk result (λ actor. IsNew actor.state) }
 {
     let config = Config {
@@ -70,13 +73,10 @@ where
         mode: Mode::NonZeroCounter,
         max_mode: ModeVersion(0),
         reveal: Reveal::V1,
-        max_participants: NonZeroU32::new(4).ok_or("no limit")?,
-        blocks_per_epoch: NonZeroU64::new(blocks).ok_or("no blocks")?,
+        max_participants: limit,
+        blocks_per_epoch: blocks,
     };
-    let Ok(actor) = Actor::new(config) else {
-        return Err(Fail::from("refused"));
-    };
-    Ok(actor)
+    Ok(Actor::new(config)?)
 }
 
 /// An actor of key 1 and of the plain ceremony, whose schemes are counted.
@@ -86,8 +86,16 @@ pub(crate) fn plain_actor(
 ) -> Result<Actor<StandCeremony, StaticParticipants<Unit>, Counting, Unit, Unit>, Fail>
     ensures { IfOk result (λ actor. IsNew actor.state) }
 {
-    let signer = StandSigner::new(Key(1));
+    let limit = NonZeroU32::new(4).ok_or("no limit")?;
+    let blocks = NonZeroU64::new(blocks).ok_or("no blocks")?;
     let provider = provider(alloc)?;
-    let registrar = Counting { taken: 0 };
-    actor_of(alloc, StandCeremony, signer, provider, registrar, blocks)
+    actor_of(
+        alloc,
+        StandCeremony,
+        StandSigner::new(Key(1)),
+        provider,
+        Counting { taken: 0 },
+        limit,
+        blocks,
+    )
 }

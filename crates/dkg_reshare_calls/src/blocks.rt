@@ -96,9 +96,7 @@ pub(crate) fn bare(alloc: Global, parent: Digest, height: u64) -> Mem<Block<Unit
 /// A source of the first block, which carries the info.
 pub(crate) fn first_source(alloc: Global) -> Result<Single, Fail> {
     let limits = (NonZeroU32::new(4).ok_or("no limit")?, ModeVersion(0));
-    let Ok(payload) = decode_cfg::<Payload<Unit>>(alloc, &INFO, &limits) else {
-        return Err(Fail::from("no payload"));
-    };
+    let payload = decode_cfg::<Payload<Unit>>(alloc, &INFO, &limits)?;
     let block = block_at(alloc, Digest([0; 32]), 0, Some(payload))?;
     Ok(Single { block })
 }

@@ -15,6 +15,15 @@ use dkg_setup::BlockSource;
 use dkg_store::{Devices, SecretStore};
 use dkg_types::{Block, ParticipantsProvider, Registrar};
 use std::alloc::Global;
+use std::test::Fail;
+
+/// Fails, and says this, where a call did not end.
+pub(crate) fn went(ended: Result<(), Stop>, otherwise: &str) -> Result<(), Fail> {
+    match ended {
+        Ok(()) => Ok(()),
+        Err(_) => Err(Fail::from(otherwise)),
+    }
+}
 
 /// An actor's opening.
 pub(crate) fn open<

@@ -6,7 +6,7 @@ ghost use Rattle.dkg_reshare.specs.Actors.{BringsWithin, IfIncluding, IsOpenedOn
 
 use crate::actors::{Counted, plain_actor};
 use crate::blocks::{bare, first_source};
-use crate::calls::{deliver, open, step};
+use crate::calls::{deliver, open, step, went};
 use dkg_ceremony::{Blob, Ceremony};
 use dkg_fence::Fence;
 use dkg_infos::{Fault, Transcript, Unit};
@@ -41,16 +41,20 @@ fn finalized(alloc: Global, parent: Digest, height: u64) -> Result<Message<Unit>
     Ok(Message::Finalized(bare(alloc, parent, height)?))
 }
 
-/// The height of a block that doesn't fit, where one ended a step.
-fn detached(ended: &Result<(), Stop>) -> Option<u64> {
+/// The height of the block that doesn't fit, by which a step ended.
+fn detached(ended: Result<(), Stop>) -> Result<u64, Fail> {
     match ended {
-        Err(Stop::Fault(Fault::DetachedBlock { height })) => Some(height.0),
-        _ => None,
+        Err(Stop::Fault(Fault::DetachedBlock { height })) => Ok(height.0),
+        _ => Err(Fail::from("a detached block is taken")),
     }
 }
 
-fn has_failed(ended: &Result<(), Stop>) -> bool {
-    matches!(ended, Err(Stop::Failed))
+/// Fails unless a step was refused, since a call before it had failed.
+fn refused(ended: Result<(), Stop>) -> Result<(), Fail> {
+    match ended {
+        Err(Stop::Failed) => Ok(()),
+        _ => Err(Fail::from("a failed actor goes on")),
+    }
 }
 
 /// An opening, and the step of a dealing. How many lines were told behind each.
@@ -75,15 +79,40 @@ fn heard<
     ensures including { OnOk result (IfIncluding actor.new.state (IsSettledInclusion C.check_log_of C.dealing_of C.finish_of
         (non_zero_u64_get actor.new.terms.blocks_per_epoch))) }
 {
-    if open(alloc, actor, devices, source, fence, out).is_err() {
-        return Err(Fail::from("not opened"));
-    }
+    let ended = open(alloc, actor, devices, source, fence, out);
+    went(ended, "not opened")?;
     let opened = out.entries().len();
     let message = dealing(alloc)?;
-    if step(alloc, actor, devices, source, message, fence, out).is_err() {
-        return Err(Fail::from("not heard"));
-    }
+    let ended = step(alloc, actor, devices, source, message, fence, out);
+    went(ended, "not heard")?;
     Ok([opened, out.entries().len()])
+}
+
+/// The delivery of the block behind this one, which carries nothing.
+fn delivered<
+    C: Ceremony + Drop,
+    P: ParticipantsProvider<Dir = Unit>,
+    R: Registrar,
+    M,
+    D: Disk,
+    X: SecretStore,
+>(
+    alloc: Global,
+    actor: &mut Actor<C, P, R, M, Unit>,
+    devices: &mut Devices<'_, D, X>,
+    parent: Digest,
+    fence: &mut Fence,
+    out: &mut Transcript,
+) -> Result<(), Stop>
+    requires at { IsOpenedOn D.tells D.files D.image C.ack_of C.deal_of C.check_ack_of actor.old.terms actor.old.state devices.old }
+    requires including { IfIncluding actor.old.state (IsSettledInclusion C.check_log_of C.dealing_of C.finish_of
+        (non_zero_u64_get actor.old.terms.blocks_per_epoch)) }
+    ensures at { IsOpenedOn D.tells D.files D.image C.ack_of C.deal_of C.check_ack_of actor.new.terms actor.new.state devices.new }
+    ensures including { IfIncluding actor.new.state (IsSettledInclusion C.check_log_of C.dealing_of C.finish_of
+        (non_zero_u64_get actor.new.terms.blocks_per_epoch)) }
+{
+    let block = bare(alloc, parent, 1)?;
+    deliver(alloc, actor, devices, &block, fence, out)
 }
 
 /// The delivery of the block behind this one, the step of one that doesn't stand on that, and one more. The height of the block that doesn't fit.
@@ -108,29 +137,23 @@ fn taken<
     requires including { IfIncluding actor.old.state (IsSettledInclusion C.check_log_of C.dealing_of C.finish_of
         (non_zero_u64_get actor.old.terms.blocks_per_epoch)) }
 {
-    let block = bare(alloc, parent, 1)?;
-    if deliver(alloc, actor, devices, &block, fence, out).is_err() {
-        return Err(Fail::from("not taken"));
-    }
+    let ended = delivered(alloc, actor, devices, parent, fence, out);
+    went(ended, "not taken")?;
     let apart = finalized(alloc, parent, 2)?;
     let ended = step(alloc, actor, devices, source, apart, fence, out);
-    let Some(height) = detached(&ended) else {
-        return Err(Fail::from("a detached block is taken"));
-    };
+    let height = detached(ended)?;
     let late = dealing(alloc)?;
     let ended = step(alloc, actor, devices, source, late, fence, out);
-    if !has_failed(&ended) {
-        return Err(Fail::from("a failed actor goes on"));
-    }
+    refused(ended)?;
     Ok(height)
 }
 
-/// The opening and the dealing's step, and what follows them. How many lines were told behind the opening and the dealing, and the height of the block
-/// that doesn't fit.
-fn hears_and_takes<
+/// The opening and the dealing's step, and what follows them. How many lines were told behind the opening, the dealing and all else, the height of the
+/// block that doesn't fit, and how many schemes were taken.
+fn life<
     C: Ceremony + Drop,
     P: ParticipantsProvider<Dir = Unit>,
-    R: Registrar,
+    R: Registrar + Counted,
     M,
     D: Disk,
     X: SecretStore,
@@ -141,18 +164,19 @@ fn hears_and_takes<
     devices: &mut Devices<'_, D, X>,
     source: &B,
     parent: Digest,
+    fence: &mut Fence,
     out: &mut Transcript,
-) -> Result<([usize; 2], u64), Fail>
+) -> Result<([usize; 3], u64, u64), Fail>
     requires { IsNew actor.old.state }
 {
-    let mut fence = Fence::new();
-    let told = heard(alloc, actor, devices, source, &mut fence, out)?;
-    let height = taken(alloc, actor, devices, source, parent, &mut fence, out)?;
-    Ok((told, height))
+    let told = heard(alloc, actor, devices, source, fence, out)?;
+    let height = taken(alloc, actor, devices, source, parent, fence, out)?;
+    let [opened, heard] = told;
+    let told = [opened, heard, out.entries().len()];
+    Ok((told, height, actor.registrar().taken()))
 }
 
-/// That over these devices, from the block that the source has processed. How many lines were told behind the opening, the dealing and all else, the
-/// height of the block that doesn't fit, and how many schemes were taken.
+/// That over these devices, from the block that the source has processed.
 fn life_over<
     C: Ceremony + Drop,
     P: ParticipantsProvider<Dir = Unit>,
@@ -178,17 +202,17 @@ fn life_over<
         secrets,
         fuse: Fuse::never(),
     };
+    let mut fence = Fence::new();
     let mut out = Transcript::new(alloc);
-    let ([opened, heard], height) = hears_and_takes(
+    life(
         alloc,
         actor,
         &mut devices,
         source,
         parent,
+        &mut fence,
         &mut out,
-    )?;
-    let all = out.entries().len();
-    Ok(([opened, heard, all], height, actor.registrar().taken()))
+    )
 }
 
 /// .. of an actor of the plain ceremony.

@@ -6,7 +6,7 @@ ghost use Rattle.dkg_reshare.specs.Actors.{IfIncluding, IsOpenedOn, IsNew};
 
 use crate::actors::plain_actor;
 use crate::blocks::first_source;
-use crate::calls::{open, step, work};
+use crate::calls::{open, step, went, work};
 use dkg_artifact::VerifiedLogs;
 use dkg_ceremony::{Ceremony, StandCeremony};
 use dkg_fence::Fence;
@@ -72,7 +72,7 @@ fn asked<
     actor: &mut Actor<C, P, R, M, Unit>,
     devices: &mut Devices<'_, D, X>,
     source: &B,
-    below: Block<Unit>,
+    below: &Block<Unit>,
     fence: &mut Fence,
     out: &mut Transcript,
 ) -> Result<(), Fail>
@@ -81,30 +81,26 @@ fn asked<
     ensures including { OnOk result (IfIncluding actor.new.state (IsSettledInclusion C.check_log_of C.dealing_of C.finish_of
         (non_zero_u64_get actor.new.terms.blocks_per_epoch))) }
 {
-    if open(alloc, actor, devices, source, fence, out).is_err() {
-        return Err(Fail::from("not opened"));
-    }
+    let ended = open(alloc, actor, devices, source, fence, out);
+    went(ended, "not opened")?;
     let request = Message::EpochInfo { request: 1 };
-    if step(alloc, actor, devices, source, request, fence, out).is_err() {
-        return Err(Fail::from("not asked"));
-    }
+    let ended = step(alloc, actor, devices, source, request, fence, out);
+    went(ended, "not asked")?;
     if !is_posted(actor.told(1)) {
         return Err(Fail::from("a request that wasn't fed is answered"));
     }
     let fed = Message::Feed {
         request: 1,
-        block: below,
+        block: below.copy(alloc)?,
     };
-    if step(alloc, actor, devices, source, fed, fence, out).is_err() {
-        return Err(Fail::from("not fed"));
-    }
+    let ended = step(alloc, actor, devices, source, fed, fence, out);
+    went(ended, "not fed")?;
     let next = Message::NextLog {
         request: 2,
         height: Height(1),
     };
-    if step(alloc, actor, devices, source, next, fence, out).is_err() {
-        return Err(Fail::from("asked for no log"));
-    }
+    let ended = step(alloc, actor, devices, source, next, fence, out);
+    went(ended, "asked for no log")?;
     if !has_no_log(actor.told(2)) {
         return Err(Fail::from("a log of who deals nothing"));
     }
@@ -114,19 +110,22 @@ fn asked<
     Ok(())
 }
 
-/// What the verification that runs comes to, as another finds it.
+/// What the verification that runs comes to, as this ceremony finds it, where one is to find it.
 fn found<C: Ceremony + Drop, P: ParticipantsProvider<Dir = Unit>, R: Registrar, M>(
     alloc: Global,
-    ceremony: &C,
+    finder: Option<&C>,
     actor: &Actor<C, P, R, M, Unit>,
-) -> Result<VerifiedLogs<C>, Fail>
+) -> Result<Option<VerifiedLogs<C>>, Fail>
     requires { IfIncluding actor.now.state (IsSettledInclusion C.check_log_of C.dealing_of C.finish_of
         (non_zero_u64_get actor.now.terms.blocks_per_epoch)) }
 {
+    let Some(ceremony) = finder else {
+        return Ok(None);
+    };
     let Some(job) = actor.running() else {
         return Err(Fail::from("no verification runs"));
     };
-    Ok(verify(alloc, ceremony, job.copy(alloc)?)?)
+    Ok(Some(verify(alloc, ceremony, job.copy(alloc)?)?))
 }
 
 /// The end of that verification, by this result or by the actor's own work. Whether the first request is answered by an info.
@@ -151,9 +150,8 @@ fn verified<
     requires including { IfIncluding actor.old.state (IsSettledInclusion C.check_log_of C.dealing_of C.finish_of
         (non_zero_u64_get actor.old.terms.blocks_per_epoch)) }
 {
-    if work(alloc, actor, devices, source, done, fence, out).is_err() {
-        return Err(Fail::from("not verified"));
-    }
+    let ended = work(alloc, actor, devices, source, done, fence, out);
+    went(ended, "not verified")?;
     if actor.running().is_some() {
         return Err(Fail::from("a verification that has ended runs"));
     }
@@ -161,7 +159,7 @@ fn verified<
 }
 
 /// An opening with its requests, and the end of the verification: by a result that this ceremony finds, or by the actor's own work. Whether the first
-/// request is answered by an info.
+/// request is answered by an info, and how many lines were told.
 fn includes<
     C: Ceremony + Drop,
     P: ParticipantsProvider<Dir = Unit>,
@@ -176,22 +174,19 @@ fn includes<
     actor: &mut Actor<C, P, R, M, Unit>,
     devices: &mut Devices<'_, D, X>,
     source: &B,
-    below: Block<Unit>,
+    below: &Block<Unit>,
+    fence: &mut Fence,
     out: &mut Transcript,
-) -> Result<bool, Fail>
+) -> Result<(bool, usize), Fail>
     requires { IsNew actor.old.state }
 {
-    let mut fence = Fence::new();
-    asked(alloc, actor, devices, source, below, &mut fence, out)?;
-    let done = match finder {
-        Some(ceremony) => Some(found(alloc, ceremony, actor)?),
-        None => None,
-    };
-    verified(alloc, actor, devices, source, done, &mut fence, out)
+    asked(alloc, actor, devices, source, below, fence, out)?;
+    let done = found(alloc, finder, actor)?;
+    let answered = verified(alloc, actor, devices, source, done, fence, out)?;
+    Ok((answered, out.entries().len()))
 }
 
-/// That over these devices, of which the first block is the one that the source has processed. Whether a request is answered by an info, and how many
-/// lines were told.
+/// That over these devices, of which the first block is the one that the source has processed.
 fn answer_over<
     C: Ceremony + Drop,
     P: ParticipantsProvider<Dir = Unit>,
@@ -212,15 +207,23 @@ fn answer_over<
     let Some(first) = source.anchor() else {
         return Err(Fail::from("no block"));
     };
-    let below = first.copy(alloc)?;
     let mut devices = Devices {
         disk,
         secrets,
         fuse: Fuse::never(),
     };
+    let mut fence = Fence::new();
     let mut out = Transcript::new(alloc);
-    let answered = includes(alloc, finder, actor, &mut devices, source, below, &mut out)?;
-    Ok((answered, out.entries().len()))
+    includes(
+        alloc,
+        finder,
+        actor,
+        &mut devices,
+        source,
+        first,
+        &mut fence,
+        &mut out,
+    )
 }
 
 /// .. of an actor of the plain ceremony.

@@ -21,10 +21,14 @@ fn starts<B: BlockSource<Unit>>(alloc: Global, source: &B) -> Result<[u64; 2], F
     }
 }
 
+/// .. over a source of the first block.
+fn started(alloc: Global) -> Result<[u64; 2], Fail> {
+    let source = first_source(alloc)?;
+    starts(alloc, &source)
+}
+
 #[test]
 fn a_life_starts_at_the_floor(rt: HostRuntime) -> Result<(), Fail> {
-    let alloc = rt.alloc();
-    let source = first_source(alloc)?;
-    assert_eq!(rt; starts(alloc, &source)?, [0, 2]);
+    assert_eq!(rt; started(rt.alloc())?, [0, 2]);
     Ok(())
 }

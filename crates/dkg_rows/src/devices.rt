@@ -15,12 +15,12 @@ const SHORT_LENGTH: [u8; 18] = *b"\x01\0\0\0\x0b\0\0\0\0\x02\x03\0\x0f\0\x07\0\x
 const SHORT_RECORD: [u8; 10] = *b"\x01\0\0\0\x0c\0\0\0\0\x02";
 
 /// Fails where a script of one life with these events doesn't end with this status over these devices, or writes other lines than these in a row.
-fn lives_to(
+fn lives_to<D: Disk, X: SecretStore>(
     alloc: Global,
     output: &str,
     events: &str,
-    disk: &mut MemoryDisk,
-    secrets: &mut MemorySecrets,
+    disk: &mut D,
+    secrets: &mut X,
     status: u8,
     lines: &[&str],
 ) -> Result<(), Fail> {
@@ -36,12 +36,23 @@ fn lives_to(
     )
 }
 
-/// That over a disk whose segment of epoch 0 has these bytes.
+/// Fails where a life over a segment of epoch 0 with these bytes doesn't end in this fault.
+fn faults_over<D: Disk, X: SecretStore>(
+    alloc: Global,
+    disk: &mut D,
+    secrets: &mut X,
+    bytes: &[u8],
+    line: &str,
+) -> Result<(), Fail> {
+    disk.install(alloc, Name::Segment(0), bytes)?;
+    lives_to(alloc, OUTPUT, "", disk, secrets, 4, &[line])
+}
+
+/// .. over memory.
 fn faults_by(alloc: Global, bytes: &[u8], line: &str) -> Result<(), Fail> {
     let mut disk = MemoryDisk::new(alloc);
-    disk.install(alloc, Name::Segment(0), bytes)?;
     let mut secrets = MemorySecrets::new(alloc);
-    lives_to(alloc, OUTPUT, "", &mut disk, &mut secrets, 4, &[line])
+    faults_over(alloc, &mut disk, &mut secrets, bytes, line)
 }
 
 #[test]
@@ -51,18 +62,44 @@ fn a_record_that_is_not_whole_is_a_fault(rt: HostRuntime) -> Result<(), Fail> {
     faults_by(alloc, &SHORT_RECORD, "fault 4 segment 0 0\n")
 }
 
+/// Fails where a disk whose fifth call fails, which is a sync, has the dealing behind a crash.
+fn nothing_is_left<D: Disk, X: SecretStore>(
+    alloc: Global,
+    disk: &mut D,
+    secrets: &mut X,
+) -> Result<(), Fail> {
+    let lines = ["opened 0 0\n", SET_UP, "fault 2\n"];
+    lives_to(alloc, OUTPUT, DEALING, disk, secrets, 5, &lines)?;
+    disk.crash(0);
+    secrets.crash(0);
+    let lines = ["opened 0 0\n", SET_UP, "done\n"];
+    lives_to(alloc, OUTPUT, "", disk, secrets, 0, &lines)
+}
+
 #[test]
 fn a_failed_sync_leaves_nothing(rt: HostRuntime) -> Result<(), Fail> {
     let alloc = rt.alloc();
     // An opening calls barrier and list, and the dealing then install, write_at and sync: its gate stays closed.
     let mut disk = MemoryDisk::failing(alloc, vec![in alloc; 5]?);
     let mut secrets = MemorySecrets::new(alloc);
-    let lines = ["opened 0 0\n", SET_UP, "fault 2\n"];
-    lives_to(alloc, OUTPUT, DEALING, &mut disk, &mut secrets, 5, &lines)?;
-    disk.crash(0);
-    secrets.crash(0);
-    let lines = ["opened 0 0\n", SET_UP, "done\n"];
-    lives_to(alloc, OUTPUT, "", &mut disk, &mut secrets, 0, &lines)
+    nothing_is_left(alloc, &mut disk, &mut secrets)
+}
+
+/// Fails where a run over devices without files, the next one over them, or one whose round refuses what they hold, doesn't end as it has to.
+fn later_runs_go_on<D: Disk, X: SecretStore>(
+    alloc: Global,
+    disk: &mut D,
+    secrets: &mut X,
+) -> Result<(), Fail> {
+    let lines = ["opened 0 0\n", SET_UP, ANSWERED, "done\n"];
+    lives_to(alloc, OUTPUT, DEALING, disk, secrets, 0, &lines)?;
+    let lines = ["opened 0 1\n", RESTORED, SET_UP, "done\n"];
+    lives_to(alloc, OUTPUT, "", disk, secrets, 0, &lines)?;
+    // Of another output key 2 holds another share, so the round refuses the dealing.
+    let refused = "committed 0 -\nregistered 0 member\nfault 17 1 0 2\n";
+    let lines = ["opened 0 1\n", RESTORED, refused];
+    let other = "03000600010002";
+    lives_to(alloc, other, "", disk, secrets, 4, &lines)
 }
 
 #[test]
@@ -70,13 +107,5 @@ fn a_later_run_goes_on_over_the_same_devices(rt: HostRuntime) -> Result<(), Fail
     let alloc = rt.alloc();
     let mut disk = MemoryDisk::new(alloc);
     let mut secrets = MemorySecrets::new(alloc);
-    let lines = ["opened 0 0\n", SET_UP, ANSWERED, "done\n"];
-    lives_to(alloc, OUTPUT, DEALING, &mut disk, &mut secrets, 0, &lines)?;
-    let lines = ["opened 0 1\n", RESTORED, SET_UP, "done\n"];
-    lives_to(alloc, OUTPUT, "", &mut disk, &mut secrets, 0, &lines)?;
-    // Of another output key 2 holds another share, so the round refuses the dealing.
-    let refused = "committed 0 -\nregistered 0 member\nfault 17 1 0 2\n";
-    let lines = ["opened 0 1\n", RESTORED, refused];
-    let other = "03000600010002";
-    lives_to(alloc, other, "", &mut disk, &mut secrets, 4, &lines)
+    later_runs_go_on(alloc, &mut disk, &mut secrets)
 }

@@ -19,27 +19,32 @@ fn runs(alloc: Global, script: &Script, out: &mut Transcript) -> Result<(), Faul
     run_lives(alloc, script, &mut disk, &mut secrets, out)
 }
 
-/// What they tell.
-fn lines_of(alloc: Global, script: &Script) -> Result<Vec<u8>, Fail>
+/// What they tell behind a transcript's entries.
+fn lines_of(alloc: Global, script: &Script, out: &mut Transcript) -> Result<Vec<u8>, Fail>
     requires { IsFormOfInclusion script.now }
 {
-    let mut out = Transcript::new(alloc);
-    runs(alloc, script, &mut out)?;
+    runs(alloc, script, out)?;
     Ok(print_of(alloc, out.entries())?)
 }
 
 /// What the lives of the script that a text spells tell.
 fn told(alloc: Global, text: &str) -> Result<Vec<u8>, Fail> {
     let script = read_in_form(alloc, text.as_bytes(), false)?;
-    lines_of(alloc, &script)
+    let mut out = Transcript::new(alloc);
+    lines_of(alloc, &script, &mut out)
+}
+
+/// What a life tells that is cut while it records a dealing, and the next one.
+fn told_of_a_cut(alloc: Global) -> Result<Vec<u8>, Fail> {
+    // A dealing's step makes six calls that change a device, of which the fifth writes the record's gate; pick 0 keeps that.
+    let events = text(alloc, &[DEALING, "cut 1 5 0\nstop 0\nlife 9\nheld 0\n"])?;
+    let script = life(alloc, OUTPUT, events.as_str())?;
+    told(alloc, script.as_str())
 }
 
 #[test]
 fn lives_are_run_without_a_source_and_a_sink(rt: HostRuntime) -> Result<(), Fail> {
     let alloc = rt.alloc();
-    // A dealing's step makes six calls that change a device, of which the fifth writes the record's gate; pick 0 keeps that.
-    let events = text(alloc, &[DEALING, "cut 1 5 0\nstop 0\nlife 9\nheld 0\n"])?;
-    let script = life(alloc, OUTPUT, events.as_str())?;
     let wanted = text(
         alloc,
         &[
@@ -50,7 +55,7 @@ fn lives_are_run_without_a_source_and_a_sink(rt: HostRuntime) -> Result<(), Fail
             SET_UP,
         ],
     )?;
-    let lines = told(alloc, script.as_str())?;
+    let lines = told_of_a_cut(alloc)?;
     assert_eq!(rt; lines.as_slice(), wanted.as_bytes());
     Ok(())
 }

@@ -1,45 +1,87 @@
-//! What a test runs: a script of one node over devices in memory.
+//! What a test runs: a script of one node over devices.
 
 use dkg_infos::Transcript;
-use dkg_journal::MemoryDisk;
-use dkg_run::{MemorySink, MemorySource, run_command};
-use dkg_store::MemorySecrets;
+use dkg_journal::Disk;
+use dkg_run::{MemorySink, MemorySource, Sink, Source, run_command};
+use dkg_store::SecretStore;
 use std::alloc::Global;
 use std::str;
 use std::test::Fail;
 
-/// The number of the status that words give, each in a line of its own.
-pub fn command(
-    alloc: Global,
-    words: &str,
-    source: &mut MemorySource,
-    sink: &mut MemorySink,
-    disk: &mut MemoryDisk,
-    secrets: &mut MemorySecrets,
-) -> Result<u8, Fail> {
-    let mut owned = Vec::new(alloc);
-    for word in words.lines() {
-        owned.push(String::from_str(alloc, word)?)?;
+/// Words, each of a line of its own.
+fn words_of(alloc: Global, lines: &str) -> Result<Vec<String>, Fail> {
+    let mut words = Vec::new(alloc);
+    for word in lines.lines() {
+        words.push(String::from_str(alloc, word)?)?;
     }
-    let mut out = Transcript::new(alloc);
-    Ok(run_command(alloc, &owned, source, sink, disk, secrets, &mut out).number())
+    Ok(words)
 }
 
-/// Fails where a script over these devices doesn't end with the number of this status, or writes other lines.
-pub fn runs_to(
+/// The number of the status that words give.
+fn number_of<S: Source, K: Sink, D: Disk, X: SecretStore>(
     alloc: Global,
-    script: &str,
-    disk: &mut MemoryDisk,
-    secrets: &mut MemorySecrets,
+    words: &[String],
+    source: &mut S,
+    sink: &mut K,
+    disk: &mut D,
+    secrets: &mut X,
+) -> u8 {
+    let mut out = Transcript::new(alloc);
+    run_command(alloc, words, source, sink, disk, secrets, &mut out).number()
+}
+
+/// .. each in a line of its own.
+pub fn command<S: Source, K: Sink, D: Disk, X: SecretStore>(
+    alloc: Global,
+    lines: &str,
+    source: &mut S,
+    sink: &mut K,
+    disk: &mut D,
+    secrets: &mut X,
+) -> Result<u8, Fail> {
+    let words = words_of(alloc, lines)?;
+    Ok(number_of(alloc, &words, source, sink, disk, secrets))
+}
+
+/// Fails where words that gave this number, and wrote these bytes, had to give that of another status, or to write other lines.
+pub fn compare(
+    words: &str,
+    number: u8,
+    written: &[u8],
     status: u8,
     lines: &str,
 ) -> Result<(), Fail> {
-    let mut source = MemorySource::new(alloc, Vec::from_slice(alloc, script.as_bytes())?);
-    let mut sink = MemorySink::new(alloc);
-    let number = command(alloc, "run", &mut source, &mut sink, disk, secrets)?;
-    if number == status && sink.bytes() == lines.as_bytes() {
+    if number == status && written == lines.as_bytes() {
         return Ok(());
     }
-    let written = str::from_utf8(sink.bytes())?;
-    Err(Fail::new(format_args!("status {number}, and: {written}")))
+    Err(Fail::from((words, number, str::from_utf8(written)?)))
+}
+
+/// Fails where `run` over this source and this sink doesn't end with the number of this status, or writes other lines.
+fn source_runs_to<S: Source, D: Disk, X: SecretStore>(
+    alloc: Global,
+    source: &mut S,
+    sink: &mut MemorySink,
+    disk: &mut D,
+    secrets: &mut X,
+    status: u8,
+    lines: &str,
+) -> Result<(), Fail> {
+    let number = command(alloc, "run", source, sink, disk, secrets)?;
+    compare("run", number, sink.bytes(), status, lines)
+}
+
+/// .. over a source of this script.
+pub fn runs_to<D: Disk, X: SecretStore>(
+    alloc: Global,
+    script: &str,
+    disk: &mut D,
+    secrets: &mut X,
+    status: u8,
+    lines: &str,
+) -> Result<(), Fail> {
+    let bytes = Vec::from_slice(alloc, script.as_bytes())?;
+    let mut source = MemorySource::new(alloc, bytes);
+    let mut sink = MemorySink::new(alloc);
+    source_runs_to(alloc, &mut source, &mut sink, disk, secrets, status, lines)
 }

@@ -3,27 +3,32 @@
 use crate::runs::runs_to;
 use crate::texts::{OUTPUT, life};
 use dkg_ceremony::Share;
-use dkg_journal::MemoryDisk;
+use dkg_journal::{Disk, MemoryDisk};
 use dkg_store::{MemorySecrets, SecretStore};
 use dkg_values::{Element, Epoch};
 use std::alloc::Global;
 use std::test::Fail;
 
-/// Secrets that hold this share of epoch 0.
-fn secrets_with(alloc: Global, share: u16) -> Result<MemorySecrets, Fail> {
-    let mut secrets = MemorySecrets::new(alloc);
+/// Fails where a script of a node that is handed this share of epoch 0 doesn't end with this status and these lines.
+fn runs_over<D: Disk, X: SecretStore>(
+    alloc: Global,
+    disk: &mut D,
+    secrets: &mut X,
+    share: u16,
+    script: &str,
+    status: u8,
+    lines: &str,
+) -> Result<(), Fail> {
     let element = Element::new(share).ok_or("no element")?;
-    if secrets.put_share(alloc, Epoch(0), Share(element)).is_err() {
-        return Err(Fail::from("no share was put"));
-    }
-    Ok(secrets)
+    secrets.put_share(alloc, Epoch(0), Share(element))?;
+    runs_to(alloc, script, disk, secrets, status, lines)
 }
 
-/// Fails where a script of a node with this share doesn't end with this status and these lines.
+/// .. over memory.
 fn runs_with(alloc: Global, share: u16, script: &str, status: u8, lines: &str) -> Result<(), Fail> {
     let mut disk = MemoryDisk::new(alloc);
-    let mut secrets = secrets_with(alloc, share)?;
-    runs_to(alloc, script, &mut disk, &mut secrets, status, lines)
+    let mut secrets = MemorySecrets::new(alloc);
+    runs_over(alloc, &mut disk, &mut secrets, share, script, status, lines)
 }
 
 /// The output gives key 1 the share 8.

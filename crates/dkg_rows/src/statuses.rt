@@ -1,6 +1,6 @@
 //! What words, sources and sinks give that are no script's affair.
 
-use crate::runs::command;
+use crate::runs::{command, compare};
 use crate::texts::{HEAD, text};
 use dkg_journal::MemoryDisk;
 use dkg_run::{MemorySink, MemorySource};
@@ -43,28 +43,63 @@ fn status_of(
     command(alloc, words, source, sink, &mut disk, &mut secrets)
 }
 
+/// Fails where words don't give the number of this status, or write other lines.
+fn ends(
+    alloc: Global,
+    words: &str,
+    source: &mut MemorySource,
+    sink: &mut MemorySink,
+    status: u8,
+    lines: &str,
+) -> Result<(), Fail> {
+    let number = status_of(alloc, words, source, sink)?;
+    compare(words, number, sink.bytes(), status, lines)
+}
+
+/// A source of this script whose call of this number fails.
+fn failing_source(alloc: Global, script: &str, call: u64) -> Result<MemorySource, Fail> {
+    let calls = vec![in alloc; call]?;
+    let bytes = Vec::from_slice(alloc, script.as_bytes())?;
+    Ok(MemorySource::failing(bytes, calls))
+}
+
+/// A sink whose call of this number fails.
+fn failing_sink(alloc: Global, call: u64) -> Result<MemorySink, Fail> {
+    Ok(MemorySink::failing(alloc, vec![in alloc; call]?))
+}
+
+/// Fails where the words of a row don't end as it says.
+fn ends_as(
+    alloc: Global,
+    script: &str,
+    row: (&str, u64, u64, u8, &str),
+) -> Result<(), Fail> {
+    let (words, read, write, status, lines) = row;
+    let mut source = failing_source(alloc, script, read)?;
+    let mut sink = failing_sink(alloc, write)?;
+    ends(alloc, words, &mut source, &mut sink, status, lines)
+}
+
 #[test]
 fn each_call_ends_with_its_status(rt: HostRuntime) -> Result<(), Fail> {
     let alloc = rt.alloc();
     let script = text(alloc, &[HEAD, "end\n"])?;
-    for (words, read, write, status, wanted) in CALLS {
-        let bytes = Vec::from_slice(alloc, script.as_bytes())?;
-        let mut source = MemorySource::failing(bytes, vec![in alloc; read]?);
-        let mut sink = MemorySink::failing(alloc, vec![in alloc; write]?);
-        let number = status_of(alloc, words, &mut source, &mut sink)?;
-        assert_eq!(rt; number, status, "{words}");
-        assert_eq!(rt; sink.bytes(), wanted.as_bytes(), "{words}");
+    for row in CALLS {
+        ends_as(alloc, script.as_str(), row)?;
     }
     Ok(())
 }
 
+/// The number of the status that a source of so many empty lines gives.
+fn status_of_lines(alloc: Global, count: usize) -> Result<u8, Fail> {
+    let mut source = MemorySource::new(alloc, vec![in alloc; b'\n'; count]?);
+    let mut sink = MemorySink::new(alloc);
+    status_of(alloc, "run", &mut source, &mut sink)
+}
+
 #[test]
 fn a_source_of_too_many_bytes_is_refused(rt: HostRuntime) -> Result<(), Fail> {
-    let alloc = rt.alloc();
-    for (size, wanted) in [(16_777_216usize, 3u8), (16_777_217, 9)] {
-        let mut source = MemorySource::new(alloc, vec![in alloc; b'\n'; size]?);
-        let status = status_of(alloc, "run", &mut source, &mut MemorySink::new(alloc))?;
-        assert_eq!(rt; status, wanted);
-    }
+    assert_eq!(rt; status_of_lines(rt.alloc(), 16_777_216)?, 3);
+    assert_eq!(rt; status_of_lines(rt.alloc(), 16_777_217)?, 9);
     Ok(())
 }

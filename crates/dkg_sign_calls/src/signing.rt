@@ -1,5 +1,5 @@
 //! What desks give over one output, and what one keeps over several lives.
-ghost use Rattle.std.specs.Prelude.{◌<◌, ◌-◌, ◌^◌, length, IfOk, IsTrue, OnOk};
+ghost use Rattle.std.specs.Prelude.{◌≡◌, ◌<◌, ◌-◌, ◌^◌, length, IfOk, IsTrue, OnOk};
 ghost use Rattle.dkg_sign.specs.Lives.{KeepsPromise, NeverBack};
 ghost use Rattle.dkg_sign.specs.Played.{IsPlaying, desk_deeds};
 
@@ -12,7 +12,10 @@ use dkg_sign::{
 use dkg_types::{Registrar, SchemeInfo};
 use dkg_values::{Element, Epoch, Key, Name};
 use std::alloc::Global;
+use std::process::Abort;
 use std::test::Fail;
+
+const ME: Key = Key(1);
 
 const MESSAGE: &[u8] = b"abc";
 
@@ -30,31 +33,45 @@ fn sharing(alloc: Global) -> Result<Sharing, Fail> {
     })
 }
 
-/// The material of this sharing among the keys 1 to 4, whose own shares are 8, 15, 26 and 41.
-fn material(alloc: Global, me: u32, share: Option<u16>) -> Result<SchemeInfo, Fail> {
+/// Key 1's material of this sharing among the keys 1 to 4, whose own shares are 8, 15, 26 and 41.
+fn material(alloc: Global, share: Option<u16>) -> Result<SchemeInfo, Fail> {
     let share = match share {
         Some(value) => Some(Share(element(value)?)),
         None => None,
     };
     let participants = Set::from_any(alloc, &[Key(1), Key(2), Key(3), Key(4)])?;
-    Ok(SchemeInfo::new(Key(me), participants, sharing(alloc)?, share))
+    Ok(SchemeInfo::new(ME, participants, sharing(alloc)?, share))
 }
 
-/// A desk of this key over its disk, in a life that nothing cuts.
-fn opened<D: Disk>(alloc: Global, disk: &mut D, me: u32) -> Result<SigningDesk, DeskError> {
-    SigningDesk::open(alloc, disk, &mut Fuse::never(), Key(me))
+/// Key 1's desk over its disk, in a life that nothing cuts.
+fn opened<D: Disk>(alloc: Global, disk: &mut D) -> Result<SigningDesk, DeskError> {
+    SigningDesk::open(alloc, disk, &mut Fuse::never(), ME)
 }
 
-/// Registers an epoch's material, in a life that nothing cuts. Why it is refused is returned.
-fn registered<D: Disk>(
+/// Registers an epoch's material with this share, in a life that nothing cuts. Why it is refused is returned.
+fn refusal<D: Disk>(
     alloc: Global,
     disk: &mut D,
     desk: &mut SigningDesk,
     epoch: u64,
-    info: SchemeInfo,
-) -> Option<DeskError> {
-    desk.register(alloc, disk, &mut Fuse::never(), Epoch(epoch), info)
-        .err()
+    share: Option<u16>,
+) -> Result<Option<DeskError>, Fail> {
+    let info = material(alloc, share)?;
+    let made = desk.register(alloc, disk, &mut Fuse::never(), Epoch(epoch), info);
+    Ok(made.err())
+}
+
+/// Registers an epoch's material with key 1's own share, and fails where it is refused.
+fn register<D: Disk>(
+    alloc: Global,
+    disk: &mut D,
+    desk: &mut SigningDesk,
+    epoch: u64,
+) -> Result<(), Fail> {
+    match refusal(alloc, disk, desk, epoch, Some(8))? {
+        Some(why) => Err(why.into()),
+        None => Ok(()),
+    }
 }
 
 /// Why a desk signs nothing.
@@ -62,15 +79,17 @@ fn unsigned(desk: &SigningDesk, epoch: u64) -> Option<SignError> {
     desk.sign(Epoch(epoch), MESSAGE).err()
 }
 
-/// A desk of this key that holds epoch 0, with this share.
-fn first_desk(alloc: Global, me: u32, share: u16) -> Result<SigningDesk, Fail> {
+/// A desk over its disk, which holds epoch 0.
+fn first_desk_over<D: Disk>(alloc: Global, disk: &mut D) -> Result<SigningDesk, Fail> {
+    let mut desk = opened(alloc, disk)?;
+    register(alloc, disk, &mut desk, 0)?;
+    Ok(desk)
+}
+
+/// .. in memory.
+fn first_desk(alloc: Global) -> Result<SigningDesk, Fail> {
     let mut disk = SureDisk::new(alloc);
-    let mut desk = opened(alloc, &mut disk, me)?;
-    let info = material(alloc, me, Some(share))?;
-    match registered(alloc, &mut disk, &mut desk, 0, info) {
-        Some(why) => Err(why.into()),
-        None => Ok(desk),
-    }
+    first_desk_over(alloc, &mut disk)
 }
 
 /// What the head of the crate shows, line by line.
@@ -94,34 +113,52 @@ fn register_sign_and_combine<D: Disk>(
     Ok(signature)
 }
 
-#[test]
-fn a_validator_signs(rt: HostRuntime) -> Result<(), Fail> {
-    let alloc = rt.alloc();
-    let (me, epoch) = (Key(1), Epoch(7));
-    let info = material(alloc, 1, Some(8))?;
-    let two = Partial {
-        epoch,
-        signer: Key(2),
-        value: element(60830)?,
-    };
-    let three = Partial {
-        epoch,
-        signer: Key(3),
-        value: element(61758)?,
-    };
-    let mut partials = vec![in alloc; two, three]?;
+/// A partial of a signer, an epoch and a value.
+fn partial_of(signer: u32, epoch: u64, value: u16) -> Result<Partial, Fail> {
+    Ok(Partial {
+        epoch: Epoch(epoch),
+        signer: Key(signer),
+        value: element(value)?,
+    })
+}
+
+/// What keys 2 and 3 give for epoch 7.
+fn partials_of_others(alloc: Global) -> Result<Vec<Partial>, Fail>
+    ensures { IfOk result (λ partials. length partials.items ≡ 2) }
+{
+    let (two, three) = (partial_of(2, 7, 60830)?, partial_of(3, 7, 61758)?);
+    Ok(vec![in alloc; two, three]?)
+}
+
+/// The signature of epoch 7 that key 1 makes with those.
+fn signed(alloc: Global) -> Result<Signature, Fail> {
+    let info = material(alloc, Some(8))?;
+    let mut partials = partials_of_others(alloc)?;
     let mut disk = SureDisk::new(alloc);
-    let signature = register_sign_and_combine(
+    register_sign_and_combine(
         alloc,
         &mut disk,
-        me,
-        epoch,
+        ME,
+        Epoch(7),
         info,
         MESSAGE,
         &mut partials,
-    )?;
-    is(&rt, signature.value.get(), 42117);
+    )
+}
+
+#[test]
+fn a_validator_signs(rt: HostRuntime) -> Result<(), Fail> {
+    is(&rt, signed(rt.alloc())?.value.get(), 42117);
     Ok(())
+}
+
+/// These partials, each a signer, an epoch and a value.
+fn partials_of(alloc: Global, given: &[(u32, u64, u16)]) -> Result<Vec<Partial>, Fail> {
+    let mut partials = Vec::new(alloc);
+    for (signer, epoch, value) in given {
+        partials.push(partial_of(*signer, *epoch, *value)?)?;
+    }
+    Ok(partials)
 }
 
 /// What a desk makes of partials, each a signer, an epoch and a value.
@@ -130,14 +167,7 @@ fn combined(
     desk: &SigningDesk,
     given: &[(u32, u64, u16)],
 ) -> Result<Result<u16, CombineError>, Fail> {
-    let mut partials = Vec::new(alloc);
-    for (signer, epoch, value) in given {
-        partials.push(Partial {
-            epoch: Epoch(*epoch),
-            signer: Key(*signer),
-            value: element(*value)?,
-        })?;
-    }
+    let partials = partials_of(alloc, given)?;
     if partials.len() > 4 {
         return Err(Fail::from("more partials than participants"));
     }
@@ -145,8 +175,8 @@ fn combined(
     Ok(made.map(|signature| signature.value.get()))
 }
 
-#[test]
-fn a_quorum_of_partials_makes_the_signature(rt: HostRuntime) -> Result<(), Fail> {
+/// Fails where this desk, which holds epoch 0, makes something else of some partials than it has to.
+fn combines(rt: &impl Abort, alloc: Global, desk: &SigningDesk) -> Result<(), Fail> {
     let (one, two, three) = ((1, 0, 54283), (2, 0, 60830), (3, 0, 61758));
     let (wrong, later) = ((1, 0, 54284), (2, 1, 60830));
     let rows: [(&[(u32, u64, u16)], Result<u16, CombineError>); 8] = [
@@ -165,18 +195,27 @@ fn a_quorum_of_partials_makes_the_signature(rt: HostRuntime) -> Result<(), Fail>
         (&[one, later, one], Err(CombineError::Invalid { index: 1 })),
         (&[one, one, later], Err(CombineError::Doubled { index: 1 })),
     ];
-    let desk = first_desk(rt.alloc(), 1, 8)?;
     for (given, want) in rows {
-        is_at(&rt, combined(rt.alloc(), &desk, given)?, want, given);
+        is_at(rt, combined(alloc, desk, given)?, want, given);
     }
-    let unknown = desk.combine(rt.alloc(), MESSAGE, Epoch(1), &[]);
-    is(&rt, unknown, Err(CombineError::Unknown { epoch: Epoch(1) }));
+    let unknown = desk.combine(alloc, MESSAGE, Epoch(1), &[]);
+    is(rt, unknown, Err(CombineError::Unknown { epoch: Epoch(1) }));
     Ok(())
 }
 
 #[test]
-fn material_is_refused_by_its_tests_in_order(rt: HostRuntime) -> Result<(), Fail> {
-    let alloc = rt.alloc();
+fn a_quorum_of_partials_makes_the_signature(rt: HostRuntime) -> Result<(), Fail> {
+    let desk = first_desk(rt.alloc())?;
+    combines(&rt, rt.alloc(), &desk)
+}
+
+/// Fails where this new desk takes or refuses some material as it mustn't.
+fn refuses_in_order<D: Disk>(
+    rt: &impl Abort,
+    alloc: Global,
+    disk: &mut D,
+    desk: &mut SigningDesk,
+) -> Result<(), Fail> {
     let (asked, current) = (Epoch(0), Epoch(1));
     let rows: [(u64, Option<u16>, Option<DeskError>); 7] = [
         (0, Some(9), Some(DeskError::Foreign { epoch: Epoch(0) })),
@@ -187,31 +226,23 @@ fn material_is_refused_by_its_tests_in_order(rt: HostRuntime) -> Result<(), Fail
         (1, None, None),
         (0, Some(9), Some(DeskError::Replaced { asked, current })),
     ];
-    let mut disk = SureDisk::new(alloc);
-    let mut desk = opened(alloc, &mut disk, 1)?;
     for (epoch, share, want) in rows {
-        let info = material(alloc, 1, share)?;
-        let why = registered(alloc, &mut disk, &mut desk, epoch, info);
-        is_at(&rt, why, want, (epoch, share));
+        let why = refusal(alloc, disk, desk, epoch, share)?;
+        is_at(rt, why, want, (epoch, share));
     }
     is(
-        &rt,
-        unsigned(&desk, 1),
+        rt,
+        unsigned(desk, 1),
         Some(SignError::NoShare { epoch: Epoch(1) }),
     );
     Ok(())
 }
 
-/// A desk of key 1 that registered two epochs, one behind the other.
-fn registered_twice<D: Disk>(alloc: Global, disk: &mut D) -> Result<SigningDesk, Fail> {
-    let mut desk = opened(alloc, disk, 1)?;
-    for epoch in 0..2 {
-        let info = material(alloc, 1, Some(8))?;
-        if let Some(why) = registered(alloc, disk, &mut desk, epoch, info) {
-            return Err(why.into());
-        }
-    }
-    Ok(desk)
+#[test]
+fn material_is_refused_by_its_tests_in_order(rt: HostRuntime) -> Result<(), Fail> {
+    let mut disk = SureDisk::new(rt.alloc());
+    let mut desk = opened(rt.alloc(), &mut disk)?;
+    refuses_in_order(&rt, rt.alloc(), &mut disk, &mut desk)
 }
 
 const REPLACED: SignError = SignError::Replaced {
@@ -219,16 +250,16 @@ const REPLACED: SignError = SignError::Replaced {
     current: Epoch(1),
 };
 
-/// A disk with the record of epoch 1.
-fn recorded(alloc: Global) -> Result<SureDisk, Fail> {
-    let mut disk = SureDisk::new(alloc);
-    let _desk = registered_twice(alloc, &mut disk)?;
-    Ok(disk)
+/// A desk that is opened behind a life that registered epochs 0 and 1.
+fn opened_again<D: Disk>(alloc: Global, disk: &mut D) -> Result<SigningDesk, Fail> {
+    let mut desk = first_desk_over(alloc, disk)?;
+    register(alloc, disk, &mut desk, 1)?;
+    Ok(opened(alloc, disk)?)
 }
 
 #[test]
 fn an_opened_desk_has_its_epoch_without_material(rt: HostRuntime) -> Result<(), Fail> {
-    let desk = opened(rt.alloc(), &mut recorded(rt.alloc())?, 1)?;
+    let desk = opened_again(rt.alloc(), &mut SureDisk::new(rt.alloc()))?;
     is(&rt, desk.current(), Some(Epoch(1)));
     is(&rt, unsigned(&desk, 0), Some(REPLACED));
     let unknown = SignError::Unknown { epoch: Epoch(1) };
@@ -236,18 +267,26 @@ fn an_opened_desk_has_its_epoch_without_material(rt: HostRuntime) -> Result<(), 
     Ok(())
 }
 
-/// Cuts the put of epoch 1 behind that of epoch 0. What the desk then opens with is returned.
-fn left_by_a_cut<D: Disk>(alloc: Global, disk: &mut D, pick: u64) -> Result<Option<Epoch>, Fail> {
-    let mut desk = opened(alloc, disk, 1)?;
-    if let Some(why) = registered(alloc, disk, &mut desk, 0, material(alloc, 1, Some(8))?) {
-        return Err(why.into());
-    }
-    let info = material(alloc, 1, Some(8))?;
-    let cut = desk.register(alloc, disk, &mut Fuse::at(1, pick), Epoch(1), info);
-    if cut != Err(DeskError::Cut) {
+/// Cuts the put of epoch 1 of a desk. Fails where it isn't cut.
+fn cut<D: Disk>(
+    alloc: Global,
+    disk: &mut D,
+    desk: &mut SigningDesk,
+    pick: u64,
+) -> Result<(), Fail> {
+    let info = material(alloc, Some(8))?;
+    let made = desk.register(alloc, disk, &mut Fuse::at(1, pick), Epoch(1), info);
+    if made != Err(DeskError::Cut) {
         return Err(Fail::from("the put was not cut"));
     }
-    Ok(opened(alloc, disk, 1)?.current())
+    Ok(())
+}
+
+/// Cuts the put of epoch 1 behind that of epoch 0. What the desk then opens with is returned.
+fn left_by_a_cut<D: Disk>(alloc: Global, disk: &mut D, pick: u64) -> Result<Option<Epoch>, Fail> {
+    let mut desk = first_desk_over(alloc, disk)?;
+    cut(alloc, disk, &mut desk, pick)?;
+    Ok(opened(alloc, disk)?.current())
 }
 
 #[test]
@@ -263,7 +302,7 @@ fn a_cut_put_leaves_the_old_epoch_or_the_new_one(rt: HostRuntime) -> Result<(), 
 fn current_of(alloc: Global, bytes: &[u8]) -> Result<Result<Option<Epoch>, DeskError>, Fail> {
     let mut disk = SureDisk::new(alloc);
     disk.install(alloc, Name::Plan, bytes)?;
-    Ok(opened(alloc, &mut disk, 1).map(|desk| desk.current()))
+    Ok(opened(alloc, &mut disk).map(|desk| desk.current()))
 }
 
 #[test]
@@ -305,7 +344,7 @@ fn ask<D: Disk>(
         }
         return Ok(true);
     }
-    let info = material(alloc, 1, Some(8))?;
+    let info = material(alloc, Some(8))?;
     match desk.register(alloc, disk, fuse, Epoch(epoch), info) {
         Ok(()) => {
             deeds.insert(0, (true, epoch))?;
@@ -328,7 +367,7 @@ fn live<D: Disk>(
 {
     let (call, pick, requests) = *life;
     let mut fuse = Fuse::at(call, pick);
-    let Ok(mut desk) = SigningDesk::open(alloc, disk, &mut fuse, Key(1)) else {
+    let Ok(mut desk) = SigningDesk::open(alloc, disk, &mut fuse, ME) else {
         return Ok(());
     };
     for request in requests {
@@ -357,22 +396,24 @@ fn live_all<D: Disk>(
     Ok(deeds)
 }
 
+/// What is done in three lives of which the second is cut in its second call, the put of epoch 1, which an even pick has done and an odd one has not.
+fn done_in_three_lives(alloc: Global, pick: u64) -> Result<Vec<(bool, u64)>, Fail> {
+    let lives: [Life<'_>; 3] = [
+        (0, 1, &[(false, 0), (true, 0), (false, 0), (false, 1)]),
+        (2, pick, &[(true, 1), (false, 0), (false, 1)]),
+        (0, 0, &[(false, 0), (true, 0), (false, 0)]),
+    ];
+    live_all(alloc, &mut SureDisk::new(alloc), &lives)
+}
+
 #[test]
 fn no_life_signs_below_what_was_registered(rt: HostRuntime) -> Result<(), Fail> {
-    let alloc = rt.alloc();
-    // The second life is cut in its second call, the put of epoch 1, which an even pick has done and an odd one has not.
     let rows: [(u64, &[(bool, u64)]); 2] = [
         (0, &[(false, 0), (true, 0)]),
         (1, &[(false, 0), (true, 0), (false, 0), (true, 0)]),
     ];
     for (pick, done) in rows {
-        let mut disk = SureDisk::new(alloc);
-        let lives: [Life<'_>; 3] = [
-            (0, 1, &[(false, 0), (true, 0), (false, 0), (false, 1)]),
-            (2, pick, &[(true, 1), (false, 0), (false, 1)]),
-            (0, 0, &[(false, 0), (true, 0), (false, 0)]),
-        ];
-        let deeds = live_all(alloc, &mut disk, &lives)?;
+        let deeds = done_in_three_lives(rt.alloc(), pick)?;
         is_at(&rt, deeds.as_slice(), done, pick);
     }
     Ok(())
@@ -385,42 +426,56 @@ fn register_each<D: Disk>(
     epochs: &[u64],
 ) -> Result<(), Fail> {
     for epoch in epochs {
-        registrar.register(alloc, Epoch(*epoch), material(alloc, 1, Some(8))?)?;
+        registrar.register(alloc, Epoch(*epoch), material(alloc, Some(8))?)?;
     }
     Ok(())
 }
 
-/// A registrar that registered epoch 0, and whose registration of epoch 1 failed.
-fn refused_once(alloc: Global) -> Result<DeskRegistrar<MemoryDisk>, Fail> {
+/// A registrar whose registration of epoch 1 fails behind that of epoch 0.
+fn failing_registrar(alloc: Global) -> Result<DeskRegistrar<MemoryDisk>, Fail> {
     // The calls are a barrier and a read, the put of epoch 0, and that of epoch 1, which fails.
     let mut disk = MemoryDisk::failing(alloc, vec![in alloc; 4]?);
-    let desk = opened(alloc, &mut disk, 1)?;
-    let mut registrar = DeskRegistrar::new(alloc, desk, disk);
-    register_each(alloc, &mut registrar, &[0, 1])?;
-    Ok(registrar)
+    let desk = opened(alloc, &mut disk)?;
+    Ok(DeskRegistrar::new(alloc, desk, disk))
+}
+
+/// Fails where a registrar whose registration of epoch 1 fails doesn't list that, or goes on from it.
+fn keeps_what_is_refused<D: Disk>(
+    rt: &impl Abort,
+    alloc: Global,
+    registrar: &mut DeskRegistrar<D>,
+) -> Result<(), Fail> {
+    register_each(alloc, registrar, &[0, 1])?;
+    is(rt, registrar.refused(), &[DeskError::Disk][..]);
+    is(rt, registrar.desk().current(), Some(Epoch(0)));
+    Ok(())
 }
 
 #[test]
 fn a_registrar_keeps_what_is_refused(rt: HostRuntime) -> Result<(), Fail> {
-    let registrar = refused_once(rt.alloc())?;
-    is(&rt, registrar.refused(), &[DeskError::Disk][..]);
-    is(&rt, registrar.desk().current(), Some(Epoch(0)));
+    let mut registrar = failing_registrar(rt.alloc())?;
+    keeps_what_is_refused(&rt, rt.alloc(), &mut registrar)
+}
+
+/// Fails where such a registrar doesn't register epoch 1 later, refuse epoch 0 then, and sign for epoch 1.
+fn opens_its_desk_again<D: Disk>(
+    rt: &impl Abort,
+    alloc: Global,
+    registrar: &mut DeskRegistrar<D>,
+) -> Result<(), Fail> {
+    register_each(alloc, registrar, &[0, 1, 1, 0])?;
+    let replaced = DeskError::Replaced {
+        asked: Epoch(0),
+        current: Epoch(1),
+    };
+    is(rt, registrar.refused(), &[DeskError::Disk, replaced][..]);
+    let partial = registrar.desk().sign(Epoch(1), MESSAGE)?;
+    is(rt, partial.value.get(), 54283);
     Ok(())
 }
 
 #[test]
 fn a_registrar_opens_its_desk_again(rt: HostRuntime) -> Result<(), Fail> {
-    let mut registrar = refused_once(rt.alloc())?;
-    register_each(rt.alloc(), &mut registrar, &[1, 0])?;
-    let replaced = DeskError::Replaced {
-        asked: Epoch(0),
-        current: Epoch(1),
-    };
-    is(&rt, registrar.refused(), &[DeskError::Disk, replaced][..]);
-    is(
-        &rt,
-        registrar.desk().sign(Epoch(1), MESSAGE)?.value.get(),
-        54283,
-    );
-    Ok(())
+    let mut registrar = failing_registrar(rt.alloc())?;
+    opens_its_desk_again(&rt, rt.alloc(), &mut registrar)
 }

@@ -12,16 +12,13 @@ use std::test::Fail;
 /// The keys 1 to 4 as a set is spelled.
 const FOUR: [u8; 17] = [4, 0, 0, 0, 1, 0, 0, 0, 2, 0, 0, 0, 3, 0, 0, 0, 4];
 
-/// The bytes of an info: success, epoch 0, four players who share 5 + x + 2x², the same players now and next.
+/// Success, epoch 0, and four players who share 5 + x + 2x².
+const HEAD: [u8; 19] = [0, 0, 0, 0, 0, 0, 0, 0, 0, 0, 0, 4, 3, 0, 5, 0, 1, 0, 2];
+
+/// The bytes of an info with that head, whose players are the same now and next.
 fn info_bytes(alloc: Global) -> Mem<Vec<u8>> {
-    let mut bytes = [0; 10].to_vec(alloc)?;
-    bytes.extend_from_slice(&[0, 4, 3, 0, 5, 0, 1, 0, 2])?;
-    bytes.extend_from_slice(&FOUR)?;
-    bytes.extend_from_slice(&FOUR)?;
-    bytes.push(0)?;
-    bytes.extend_from_slice(&FOUR)?;
-    bytes.extend_from_slice(&FOUR)?;
-    Ok(bytes)
+    let pieces: [&[u8]; 6] = [&HEAD, &FOUR, &FOUR, &[0], &FOUR, &FOUR];
+    Ok(pieces.concat(alloc)?)
 }
 
 fn four() -> Result<NonZeroU32, Fail> {
@@ -29,15 +26,22 @@ fn four() -> Result<NonZeroU32, Fail> {
 }
 
 fn info(alloc: Global) -> Result<EpochInfo<Unit>, Fail> {
+    let limits = limits()?;
     let bytes = info_bytes(alloc)?;
-    Ok(decode_cfg::<EpochInfo<Unit>>(alloc, &bytes, &limits()?)?)
+    Ok(decode_cfg::<EpochInfo<Unit>>(alloc, &bytes, &limits)?)
 }
 
-fn keys(alloc: Global, count: u32) -> Result<Set, Fail> {
+/// The keys from 1 on.
+fn first_keys(alloc: Global, count: u32) -> Mem<Vec<Key>> {
     let mut keys = Vec::new(alloc);
     for number in 0..count {
         keys.push(Key(number + 1))?;
     }
+    Ok(keys)
+}
+
+fn keys(alloc: Global, count: u32) -> Result<Set, Fail> {
+    let keys = first_keys(alloc, count)?;
     if keys.len() > 70000 {
         return Err(Fail::from("too many keys"));
     }
@@ -55,12 +59,22 @@ fn payload_of(alloc: Global, bytes: &[u8]) -> Result<Payload<Unit>, Fail> {
     Ok(decode_cfg::<Payload<Unit>>(alloc, bytes, &limits()?)?)
 }
 
+/// Whether a payload is the worked info.
+fn is_info(alloc: Global, payload: &Payload<Unit>) -> Result<bool, Fail> {
+    let info = Payload::EpochInfo(info(alloc)?);
+    Ok(payload.same(&info))
+}
+
+fn log_is_info(alloc: Global) -> Result<bool, Fail> {
+    let log = payload_of(alloc, &LOG)?;
+    is_info(alloc, &log)
+}
+
 #[test]
 fn a_log_is_no_info(rt: HostRuntime) -> Result<(), Fail> {
     let alloc = rt.alloc();
-    let log = payload_of(alloc, &LOG)?;
-    holds(&rt, !log.same(&Payload::EpochInfo(info(alloc)?)));
-    let block = block_of(alloc, log)?;
+    is(&rt, log_is_info(alloc)?, false);
+    let block = block_of(alloc, payload_of(alloc, &LOG)?)?;
     holds(&rt, block.payload().is_some());
     holds(&rt, block.epoch_info().is_none());
     Ok(())
@@ -88,24 +102,37 @@ fn participants(
     })
 }
 
+/// What comes of these participants in a round behind the worked info's, or in one of no output.
+fn validated_in(
+    alloc: Global,
+    participants: &Participants,
+    max: NonZeroU32,
+    round: Option<u64>,
+) -> Result<Result<(), ParticipantsError>, Fail> {
+    let Some(round) = round else {
+        return Ok(participants.validate(max, None, 0));
+    };
+    let info = info(alloc)?;
+    Ok(participants.validate(max, Some(&info.output), round))
+}
+
 fn validated(
     alloc: Global,
     sizes: (u32, u32, u32),
     max: u32,
     round: Option<u64>,
 ) -> Result<Result<(), ParticipantsError>, Fail> {
-    let participants = participants(alloc, sizes)?;
     let max = NonZeroU32::new(max).ok_or("a limit is not zero")?;
-    let info = info(alloc)?;
-    match round {
-        None => Ok(participants.validate(max, None, 0)),
-        Some(round) => Ok(participants.validate(max, Some(&info.output), round)),
-    }
+    let participants = participants(alloc, sizes)?;
+    validated_in(alloc, &participants, max, round)
+}
+
+fn above(actual: u32, max: u32) -> Result<(), ParticipantsError> {
+    Err(ParticipantsError::TooManyParticipants { actual, max })
 }
 
 #[test]
 fn participants_are_validated_in_order(rt: HostRuntime) -> Result<(), Fail> {
-    let above = |actual, max| Err(ParticipantsError::TooManyParticipants { actual, max });
     let rows = [
         ((1, 4, 0), 3, None, above(4, 3)),
         ((0, 0, 9), 3, None, Err(ParticipantsError::EmptyDealers)),
@@ -152,52 +179,76 @@ fn outcomes_are_read(rt: HostRuntime) -> Result<(), Fail> {
     Ok(())
 }
 
-/// The peers of two dealers, three players, and the next players 9 and 2.
-fn tracked(alloc: Global) -> Result<TrackedPeers, Fail> {
-    let dealers = keys(alloc, 2)?;
-    let players = keys(alloc, 3)?;
-    let next_players = Set::from_any(alloc, &[Key(9), Key(2)])?;
-    if players.len() > 9 || next_players.len() > 9 {
+/// Two dealers, three players, and the next players 9 and 2.
+fn few(alloc: Global) -> Result<Participants, Fail> {
+    Ok(Participants {
+        dealers: keys(alloc, 2)?,
+        players: keys(alloc, 3)?,
+        next_players: Set::from_any(alloc, &[Key(9), Key(2)])?,
+    })
+}
+
+/// The peers of participants.
+fn peers_of(alloc: Global, participants: &Participants) -> Result<TrackedPeers, Fail> {
+    if participants.players.len() > 9 || participants.next_players.len() > 9 {
         return Err(Fail::from("too many keys"));
     }
-    let participants = Participants {
-        dealers,
-        players,
-        next_players,
-    };
     Ok(participants.tracked_peers(alloc)?)
+}
+
+/// A copy of the peers of those few.
+fn tracked(alloc: Global) -> Result<TrackedPeers, Fail> {
+    let participants = few(alloc)?;
+    let peers = peers_of(alloc, &participants)?;
+    Ok(peers.copy(alloc)?)
+}
+
+/// How many players the worked info has.
+fn players_of_info(alloc: Global) -> Result<u32, Fail> {
+    let info = info(alloc)?;
+    Ok(info.participants(alloc)?.players.len())
 }
 
 #[test]
 fn players_are_tracked_beside_dealers(rt: HostRuntime) -> Result<(), Fail> {
     let alloc = rt.alloc();
-    let peers = tracked(alloc)?.copy(alloc)?;
+    is(&rt, players_of_info(alloc)?, 4);
+    let peers = tracked(alloc)?;
     is(&rt, peers.primary.len(), 2);
     let want = [Key(1), Key(2), Key(3), Key(9)];
     is(&rt, peers.secondary.as_slice(), want.as_slice());
-    is(&rt, info(alloc)?.participants(alloc)?.players.len(), 4);
     Ok(())
 }
 
-/// The part that a key has in the worked info's scheme.
-fn part_of(alloc: Global, key: u32, share: Option<Share>) -> Result<Role, Fail> {
-    let output = info(alloc)?.output;
-    let scheme = SchemeInfo::new(
-        Key(key),
-        keys(alloc, 4)?,
-        output.sharing.copy(alloc)?,
-        share,
-    );
+/// The worked info's scheme for a key.
+fn scheme_of(alloc: Global, key: u32, share: Option<Share>) -> Result<SchemeInfo, Fail> {
+    let keys = keys(alloc, 4)?;
+    let sharing = info(alloc)?.output.sharing;
+    Ok(SchemeInfo::new(Key(key), keys, sharing, share))
+}
+
+/// Registers a copy of a scheme. Fails where the copy differs.
+fn register_copy(alloc: Global, scheme: &SchemeInfo) -> Result<(), Fail> {
     let copy = scheme.copy(alloc)?;
-    if !copy.same(&scheme) {
+    if !copy.same(scheme) {
         return Err(Fail::from("a copy differs"));
     }
-    NoopRegistrar.register(alloc, Epoch(0), copy)?;
-    Ok(match scheme {
+    Ok(NoopRegistrar.register(alloc, Epoch(0), copy)?)
+}
+
+fn role_in(scheme: &SchemeInfo) -> Role {
+    match scheme {
         SchemeInfo::Verifier { .. } => Role::Verifier,
         SchemeInfo::Member { .. } => Role::Member,
         SchemeInfo::Signer { .. } => Role::Signer,
-    })
+    }
+}
+
+/// The part that a key has in that scheme.
+fn part_of(alloc: Global, key: u32, share: Option<Share>) -> Result<Role, Fail> {
+    let scheme = scheme_of(alloc, key, share)?;
+    register_copy(alloc, &scheme)?;
+    Ok(role_in(&scheme))
 }
 
 #[test]
@@ -259,11 +310,15 @@ fn a_block_has_the_digest_of_its_encoding(rt: HostRuntime) -> Result<(), Fail> {
     Ok(())
 }
 
+fn is_copied_block(alloc: Global) -> Result<bool, Fail> {
+    let block = later_block(alloc)?;
+    let copy = block.copy(alloc)?;
+    Ok(copy.same(&block))
+}
+
 #[test]
 fn a_copied_block_is_the_same(rt: HostRuntime) -> Result<(), Fail> {
-    let block = later_block(rt.alloc())?;
-    let copy = block.copy(rt.alloc())?;
-    holds(&rt, copy.same(&block));
+    holds(&rt, is_copied_block(rt.alloc())?);
     Ok(())
 }
 
@@ -304,18 +359,33 @@ fn a_provider_gives_its_set(rt: HostRuntime) -> Result<(), Fail> {
     Ok(())
 }
 
+/// Tells a step and a copy of a fault.
+fn tell(alloc: Global, told: &mut Transcript, fault: &Fault) -> Mem<()> {
+    told.reserve(2)?;
+    told.push(Entry::Step { step: 0 })?;
+    told.push(Entry::Fault(fault.copy(alloc)?))
+}
+
+/// How many entries a transcript has then.
+fn told_of(alloc: Global, fault: &Fault) -> Mem<usize> {
+    let mut told = Transcript::new(alloc);
+    tell(alloc, &mut told, fault)?;
+    Ok(told.entries().len())
+}
+
+/// The number of a fault's copy.
+fn number_of_copy(alloc: Global, fault: &Fault) -> Mem<u8> {
+    Ok(fault.copy(alloc)?.number())
+}
+
 #[test]
 fn a_transcript_keeps_its_entries(rt: HostRuntime) -> Result<(), Fail> {
     let alloc = rt.alloc();
-    let mut told = Transcript::new(alloc);
-    told.reserve(2)?;
-    told.push(Entry::Step { step: 0 })?;
+    is(&rt, Fault::from(NoMemory).number(), 1);
+    is(&rt, number_of_copy(alloc, &Fault::FloorBlockMissing)?, 19);
     let fault = Fault::LocalState(LocalCause::ShareRefused { epoch: Epoch(2) });
     is(&rt, fault.number(), 17);
-    told.push(Entry::Fault(fault.copy(alloc)?))?;
-    is(&rt, told.entries().len(), 2);
-    is(&rt, Fault::from(NoMemory).number(), 1);
-    is(&rt, Fault::FloorBlockMissing.copy(alloc)?.number(), 19);
+    is(&rt, told_of(alloc, &fault)?, 2);
     Ok(())
 }
 
@@ -346,26 +416,38 @@ fn addresses(alloc: Global, pairs: &[(Key, Address)]) -> Mem<Addresses> {
     Addresses::from_pairs(alloc, pairs.to_vec(alloc)?)
 }
 
+/// Whether a directory is one of so many keys.
+fn matches(alloc: Global, directory: &Addresses, count: u32) -> Result<bool, Fail> {
+    let keys = keys(alloc, count)?;
+    Ok(directory.matches(&keys))
+}
+
 #[test]
 fn a_directory_matches_its_keys_alone(rt: HostRuntime) -> Result<(), Fail> {
     let alloc = rt.alloc();
     let directory = addresses(alloc, &ADDRESSES)?;
     let rows = [(2, true), (3, false), (1, false)];
     for (count, want) in rows {
-        is_at(&rt, directory.matches(&keys(alloc, count)?), want, count);
+        is_at(&rt, matches(alloc, &directory, count)?, want, count);
     }
     is(&rt, directory.get(Key(2)), Some(&TWO));
     is(&rt, directory.get(Key(3)), None);
     Ok(())
 }
 
+/// The directory of a directory's map, copied. Fails where the copy differs.
+fn made_again(alloc: Global, directory: &Addresses) -> Result<Addresses, Fail> {
+    let copy = directory.copy(alloc)?;
+    if !copy.same(directory) {
+        return Err(Fail::from("a copy differs"));
+    }
+    Ok(Addresses::from_map(copy.into_inner()))
+}
+
 #[test]
 fn a_directory_is_spelled_as_a_map(rt: HostRuntime) -> Result<(), Fail> {
     let alloc = rt.alloc();
-    let directory = addresses(alloc, &ADDRESSES)?;
-    let copy = directory.copy(alloc)?;
-    holds(&rt, copy.same(&directory));
-    let again = Addresses::from_map(copy.into_inner());
+    let again = made_again(alloc, &addresses(alloc, &ADDRESSES)?)?;
     let bytes = encode(alloc, &again)?;
     let want = [
         2, 0, 0, 0, 1, 0, 0, 0, 2, 2, 0, 0, 0, 0, 1, 0, 1, 1, 0, 0, 0, 2, 0, 2, 0, 0, 0, 3, 0, 3,
@@ -373,6 +455,18 @@ fn a_directory_is_spelled_as_a_map(rt: HostRuntime) -> Result<(), Fail> {
     is(&rt, bytes.as_slice(), want.as_slice());
     is(&rt, again.size(), 30);
     Ok(())
+}
+
+/// The keys that have addresses.
+fn keys_of(alloc: Global, addresses: &Map<Address>) -> Mem<Set> {
+    let mut keys = Vec::new(alloc);
+    for (key, _) in addresses.as_slice() {
+        keys.push(*key)?;
+    }
+    if keys.len() > 9 {
+        return Err(NoMemory);
+    }
+    Set::from_any(alloc, &keys)
 }
 
 /// A manager of peers that keeps the last set that it was handed.
@@ -420,16 +514,17 @@ impl AddressedPeerManager for Kept {
         primary: Map<Address>,
         _secondary: Map<Address>,
     ) -> Mem<()> {
-        let mut keys = Vec::new(alloc);
-        for (key, _) in primary.as_slice() {
-            keys.push(*key)?;
-        }
-        if keys.len() > 9 {
-            return Err(NoMemory);
-        }
+        self.primary = Some(keys_of(alloc, &primary)?);
         self.id = id;
-        self.primary = Some(Set::from_any(alloc, &keys)?);
         Ok(())
+    }
+}
+
+/// How many primary peers a manager tracks by the number 0.
+fn primary_of<M: Manager>(manager: &mut M, alloc: Global) -> Mem<Option<u32>> {
+    match manager.peer_set(alloc, 0)? {
+        Some(peers) => Ok(Some(peers.primary.len())),
+        None => Ok(None),
     }
 }
 
@@ -444,8 +539,7 @@ fn tracked_by<M: Manager>(
         secondary: keys(alloc, 0)?,
     };
     let answer = manager.track(alloc, Epoch(0), peers, directory);
-    let set = manager.peer_set(alloc, 0)?;
-    Ok((answer, set.map(|peers| peers.primary.len())))
+    Ok((answer, primary_of(manager, alloc)?))
 }
 
 fn empty_manager() -> Kept {
@@ -476,7 +570,7 @@ fn keys_alone_never_miss(rt: HostRuntime) -> Result<(), Fail> {
 }
 
 /// Whether a copy is the value, and no other value is.
-fn is_copied<T: Value + Drop>(alloc: Global, value: &T, other: &T) -> Mem<bool> {
+fn is_copied<T: Value + Drop>(alloc: Global, value: &T, other: &T) -> Result<bool, Fail> {
     let copy = value.copy(alloc)?;
     Ok(copy.same(value) && !copy.same(other))
 }
@@ -486,69 +580,88 @@ fn constant(alloc: Global, byte: u8) -> Result<Public, Fail> {
     Ok(decode_cfg::<Public>(alloc, &[1, 0, byte], &4)?)
 }
 
-fn opened(alloc: Global, byte: u8) -> Result<Entry, Fail> {
-    let mut found = Vec::new(alloc);
-    found.push(Restored {
+fn restored(alloc: Global, byte: u8) -> Result<Restored, Fail> {
+    let private = Private(Element::new(7).ok_or("an element")?);
+    Ok(Restored {
         epoch: Epoch(0),
         dealer: Key(2),
         public: constant(alloc, byte)?,
-        private: Private(Element::new(7).ok_or("an element")?),
-    })?;
+        private,
+    })
+}
+
+fn opened(alloc: Global, byte: u8) -> Result<Entry, Fail> {
+    let restored = vec![in alloc; restored(alloc, byte)?]?;
     Ok(Entry::Opened {
         life: 1,
-        restored: RestoredList(found),
+        restored: RestoredList(restored),
     })
+}
+
+fn openings_are_copied(alloc: Global) -> Result<bool, Fail> {
+    let one = opened(alloc, 5)?;
+    let other = opened(alloc, 6)?;
+    is_copied(alloc, &one, &other)
+}
+
+fn boxed(alloc: Global, byte: u8) -> Result<BoxedPublic, Fail> {
+    Ok(BoxedPublic::of(alloc, constant(alloc, byte)?)?)
 }
 
 fn other_dealing(alloc: Global, byte: u8) -> Result<Entry, Fail> {
     Ok(Entry::Fault(Fault::LocalState(LocalCause::OwnDealing {
         epoch: Epoch(0),
-        kept: BoxedPublic::of(alloc, constant(alloc, 5)?)?,
-        dealt: BoxedPublic::of(alloc, constant(alloc, byte)?)?,
+        kept: boxed(alloc, 5)?,
+        dealt: boxed(alloc, byte)?,
     })))
+}
+
+fn other_dealings_are_copied(alloc: Global) -> Result<bool, Fail> {
+    let one = other_dealing(alloc, 6)?;
+    let other = other_dealing(alloc, 7)?;
+    is_copied(alloc, &one, &other)
 }
 
 fn answered(answer: AnswerLine) -> Entry {
     Entry::Answer { request: 1, answer }
 }
 
+fn answers_are_copied(alloc: Global) -> Result<bool, Fail> {
+    let one = answered(AnswerLine::Available(None));
+    let other = answered(AnswerLine::Unavailable(Why::Short));
+    is_copied(alloc, &one, &other)
+}
+
+fn preparations_are_copied(alloc: Global) -> Result<bool, Fail> {
+    let one = Entry::Prepared(PreparedLine::Ready(None));
+    let other = Entry::Prepared(PreparedLine::Wait);
+    is_copied(alloc, &one, &other)
+}
+
 #[test]
 fn entries_are_copied_and_compared(rt: HostRuntime) -> Result<(), Fail> {
     let alloc = rt.alloc();
-    holds(
-        &rt,
-        is_copied(alloc, &opened(alloc, 5)?, &opened(alloc, 6)?)?,
-    );
-    holds(
-        &rt,
-        is_copied(alloc, &other_dealing(alloc, 6)?, &other_dealing(alloc, 7)?)?,
-    );
-    let short = answered(AnswerLine::Unavailable(Why::Short));
-    holds(
-        &rt,
-        is_copied(alloc, &answered(AnswerLine::Available(None)), &short)?,
-    );
-    let ready = Entry::Prepared(PreparedLine::Ready(None));
-    holds(
-        &rt,
-        is_copied(alloc, &ready, &Entry::Prepared(PreparedLine::Wait))?,
-    );
+    holds(&rt, openings_are_copied(alloc)?);
+    holds(&rt, other_dealings_are_copied(alloc)?);
+    holds(&rt, answers_are_copied(alloc)?);
+    holds(&rt, preparations_are_copied(alloc)?);
     Ok(())
 }
 
 #[test]
-fn what_is_held_is_within_its_bound(rt: HostRuntime) -> Result<(), Fail> {
-    let alloc = rt.alloc();
-    let block = later_block(alloc)?;
+fn a_block_is_within_its_bound(rt: HostRuntime) -> Result<(), Fail> {
+    is(&rt, Block::<Unit>::max_encode_size(four()?), 253);
+    let block = later_block(rt.alloc())?;
     block.fits_limits();
     is(&rt, block.encode_size(), 163);
-    is(&rt, Block::<Unit>::max_encode_size(four()?), 253);
-    let directory = addresses(alloc, &ADDRESSES)?;
+    Ok(())
+}
+
+#[test]
+fn a_directory_is_within_its_bound(rt: HostRuntime) -> Result<(), Fail> {
+    is(&rt, Addresses::max_encode_size(2), 44);
+    let directory = addresses(rt.alloc(), &ADDRESSES)?;
     directory.fits_peers();
-    is(
-        &rt,
-        (directory.size(), Addresses::max_encode_size(2)),
-        (30, 44),
-    );
+    is(&rt, directory.size(), 30);
     Ok(())
 }

@@ -1,20 +1,20 @@
 use Rattle.std.specs.Int.NonZero.{non_zero_u32_get}
 use Rattle.dkg_reshare_calls.proofs.lives.heard.Goals as goal
 
-pub step-requires-clause-within : goal.step-requires-clause-within
-step-requires-clause-within g c = c.in_ok-message.ensures (non_zero_u32_get c.open.new.actor.terms.limit)
+pub step-ended-requires-clause-within : goal.step-ended-requires-clause-within
+step-ended-requires-clause-within g c = c.in_ok-message.ensures (non_zero_u32_get c.open-ended.new.actor.terms.limit)
 
-pub open-requires : goal.open-requires
-open-requires g c = c.requires
+pub open-ended-requires : goal.open-ended-requires
+open-ended-requires g c = c.requires
 
-pub step-requires-clause-at : goal.step-requires-clause-at
-step-requires-clause-at g c = c.open.ensures.at
+pub step-ended-requires-clause-at : goal.step-ended-requires-clause-at
+step-ended-requires-clause-at g c = c.open-ended.ensures.at
 
-pub step-requires-clause-including : goal.step-requires-clause-including
-step-requires-clause-including g c = c.open.ensures.including
+pub step-ended-requires-clause-including : goal.step-ended-requires-clause-including
+step-ended-requires-clause-including g c = c.open-ended.ensures.including
 
 pub returns-clause-at : goal.returns-clause-at
-returns-clause-at g c = c.step.ensures.at
+returns-clause-at g c = c.step-ended.ensures.at
 
 pub returns-clause-including : goal.returns-clause-including
-returns-clause-including g c = c.step.ensures.including
+returns-clause-including g c = c.step-ended.ensures.including

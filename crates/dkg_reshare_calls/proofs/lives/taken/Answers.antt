@@ -1,26 +1,23 @@
 use Rattle.std.specs.Int.NonZero.{non_zero_u32_get}
 use Rattle.dkg_reshare_calls.proofs.lives.taken.Goals as goal
 
-pub deliver-requires-clause-within : goal.deliver-requires-clause-within
-deliver-requires-clause-within g c = c.in_ok-block.ensures (non_zero_u32_get c.args.actor.now.terms.limit)
-
 pub step-ended-requires-clause-within : goal.step-ended-requires-clause-within
-step-ended-requires-clause-within g c = c.in_ok-apart.ensures (non_zero_u32_get c.deliver.new.actor.terms.limit)
+step-ended-requires-clause-within g c = c.in_ok-apart.ensures (non_zero_u32_get c.delivered-ended.new.actor.terms.limit)
 
 pub step-ended-requires-2-clause-within : goal.step-ended-requires-2-clause-within
 step-ended-requires-2-clause-within g c = c.in_ok-late.ensures (non_zero_u32_get c.step-ended.new.actor.terms.limit)
 
-pub deliver-requires-clause-at : goal.deliver-requires-clause-at
-deliver-requires-clause-at g c = c.requires.at
+pub delivered-ended-requires-clause-at : goal.delivered-ended-requires-clause-at
+delivered-ended-requires-clause-at g c = c.requires.at
 
-pub deliver-requires-clause-including : goal.deliver-requires-clause-including
-deliver-requires-clause-including g c = c.requires.including
+pub delivered-ended-requires-clause-including : goal.delivered-ended-requires-clause-including
+delivered-ended-requires-clause-including g c = c.requires.including
 
 pub step-ended-requires-clause-at : goal.step-ended-requires-clause-at
-step-ended-requires-clause-at g c = c.deliver.ensures.at
+step-ended-requires-clause-at g c = c.delivered-ended.ensures.at
 
 pub step-ended-requires-clause-including : goal.step-ended-requires-clause-including
-step-ended-requires-clause-including g c = c.deliver.ensures.including
+step-ended-requires-clause-including g c = c.delivered-ended.ensures.including
 
 pub step-ended-requires-2-clause-at : goal.step-ended-requires-2-clause-at
 step-ended-requires-2-clause-at g c = c.step-ended.ensures.at

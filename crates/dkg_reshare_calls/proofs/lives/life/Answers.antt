@@ -1,4 +1,4 @@
-use Rattle.dkg_reshare_calls.proofs.lives.hears_and_takes.Goals as goal
+use Rattle.dkg_reshare_calls.proofs.lives.life.Goals as goal
 
 pub heard-requires : goal.heard-requires
 heard-requires g c = c.requires
