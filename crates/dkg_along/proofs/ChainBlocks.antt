@@ -131,7 +131,7 @@ module _ (s : Setting) (ends : List (Option CutAt)) (consistent : IsConsistentSc
     ChainUp high = life_follows s l life (epoch_of n high) ≡ false → (height : ℕ) → midpoint n (epoch_of n high) ≤ height → start ≤ height → height < high → HasBlockAt s height
 
     chain_up : (high : ℕ) → HasBlockAt s high → ChainUp high → ChainUp (high + 1)
-    chain_up high here was part height late begun below = by_place (cases_lt height high)
+    chain_up high here was part height late begun below = by_order (cases_lt height high)
       where
         under : (h k : ℕ) → h < k + 1 → h ≤ k
         under h k low = omega (arith, low)
@@ -139,9 +139,9 @@ module _ (s : Setting) (ends : List (Option CutAt)) (consistent : IsConsistentSc
         same : epoch_of n high ≡ epoch_of n (high + 1)
         same = below_one n (epoch_of n (high + 1)) height high some late (under height high below) refl
 
-        by_place : (height < high) ⊎ (high ≤ height) → HasBlockAt s height
-        by_place (inl low) = was (ap (life_follows s l life) same ∙ part) height (subst (λ (e : ℕ). midpoint n e ≤ height) (sym same) late) begun low
-        by_place (inr at) = let is : high ≡ height = omega (arith, at, below) in subst (HasBlockAt s) is here
+        by_order : (height < high) ⊎ (high ≤ height) → HasBlockAt s height
+        by_order (inl low) = was (ap (life_follows s l life) same ∙ part) height (subst (λ (e : ℕ). midpoint n e ≤ height) (sym same) late) begun low
+        by_order (inr at) = let is : high ≡ height = omega (arith, at, below) in subst (HasBlockAt s) is here
 
     -- a first block that isn't followed lies below the midpoint
     chain_first : (high : ℕ) → enters_blind_at s l life (epoch_of n high) ≡ true → (life_follows (alone s.script) l life 0 || ((epoch_of n high == 0) && nat_lt high (midpoint n (epoch_of n high)))) ≡ true → ChainUp (high + 1)
@@ -194,7 +194,7 @@ module _ (s : Setting) (ends : List (Option CutAt)) (consistent : IsConsistentSc
         still none = subst ChainUp (sym (event_behind s l life i e is reached none)) was
 
         of_block : (number : ℕ) → e ≡ event.Final number → IsMadeOf s.script number → ChainTo (suc i)
-        of_block number of made_it = subst ChainUp (sym behind) (by_place (cases_lt its.height (awaited_height_after s l life i)))
+        of_block number of made_it = subst ChainUp (sym behind) (by_order (cases_lt its.height (awaited_height_after s l life i)))
           where
             its : made.Block directory.Unit
             its = made_it.block
@@ -234,9 +234,9 @@ module _ (s : Setting) (ends : List (Option CutAt)) (consistent : IsConsistentSc
                 equal : (a x t : ℕ) → t + 1 ≡ a → a ≤ x → x ≤ t + 1 → a ≡ x
                 equal a x t one two three = omega (arith, one, two, three)
 
-            by_place : (its.height < awaited_height_after s l life i) ⊎ (awaited_height_after s l life i ≤ its.height) → ChainUp (max (awaited_height_after s l life i) (its.height + 1))
-            by_place (inl low) = subst ChainUp (lower (awaited_height_after s l life i) its.height low) was
-            by_place (inr above) = subst ChainUp (higher (awaited_height_after s l life i) its.height above) (new above (tip_in s.script life i) refl)
+            by_order : (its.height < awaited_height_after s l life i) ⊎ (awaited_height_after s l life i ≤ its.height) → ChainUp (max (awaited_height_after s l life i) (its.height + 1))
+            by_order (inl low) = subst ChainUp (lower (awaited_height_after s l life i) its.height low) was
+            by_order (inr above) = subst ChainUp (higher (awaited_height_after s l life i) its.height above) (new above (tip_in s.script life i) refl)
 
         by_event : (x : Event) → e ≡ x → IsEventIn s.script.blocks x → ChainTo (suc i)
         by_event (event.Final number) of of_form = of_block number of (made_of s.script number of_form)
@@ -306,7 +306,7 @@ module _ (s : Setting) (ends : List (Option CutAt)) (consistent : IsConsistentSc
   pub chain_to_tip : (some : 1 ≤ n) (l : ℕ) (life : Life) (life_is : life_at s l ≡ Some life) (anchored : IfSome life.anchor (IsAnchorAbove s.script.blocks)) (no_sync : life.sync ≡ None) (none_found : found s l ≡ None)
       → MayEndSo s.script.lives ends → l ≤ length ends → MissesNone s ends → (j : ℕ) → ChainTo some l life life_is anchored no_sync none_found j → Tips s ends consistent form bytes l life life_is anchored no_sync none_found j
       → life_follows s l life (awaited_epoch s l life j) ≡ false → (t : Tip) → tip_in s.script life j ≡ Some t → (height : ℕ) → midpoint n (awaited_epoch s l life j) ≤ height → height ≤ t.height → HasBlockAt s height
-  chain_to_tip some l life life_is anchored no_sync none_found may begun misses j chained tips part t at height late low = by_place (cases_lt height (awaited_height_after s l life 0))
+  chain_to_tip some l life life_is anchored no_sync none_found may begun misses j chained tips part t at height late low = by_order (cases_lt height (awaited_height_after s l life 0))
     where
       tip_is : t.height + 1 ≡ awaited_height_after s l life j
       tip_is = sym (ap awaited at) ∙ tips.height
@@ -314,9 +314,9 @@ module _ (s : Setting) (ends : List (Option CutAt)) (consistent : IsConsistentSc
       below : (h t a : ℕ) → h ≤ t → t + 1 ≡ a → h < a
       below h t a one two = omega (arith, one, two)
 
-      by_place : (height < awaited_height_after s l life 0) ⊎ (awaited_height_after s l life 0 ≤ height) → HasBlockAt s height
-      by_place (inr above) = chained part height late above (below height t.height (awaited_height_after s l life j) low tip_is)
-      by_place (inl under) =
+      by_order : (height < awaited_height_after s l life 0) ⊎ (awaited_height_after s l life 0 ≤ height) → HasBlockAt s height
+      by_order (inr above) = chained part height late above (below height t.height (awaited_height_after s l life j) low tip_is)
+      by_order (inl under) =
           let same : awaited_epoch s l life j ≡ awaited_epoch s l life 0 =
           equal (awaited_epoch s l life j) (epoch_of n height) (awaited_epoch s l life 0) (late_epoch n (awaited_epoch s l life j) height some late)
           (epochs_rise n height (awaited_height_after s l life 0) some (up height (awaited_height_after s l life 0) under)) (from_first s l life some j) in

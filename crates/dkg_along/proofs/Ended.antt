@@ -7,7 +7,7 @@ use Rattle.dkg_script.specs.Order.{IsInOrder}
 use Rattle.dkg_script.specs.Promise.{Adds, RunsInOrder}
 use Rattle.dkg_lives.proofs.Standing.{Moves, MayTell, IsBetweenOf, TellsFault}
 use Rattle.dkg_along.proofs.Runs.{runs_in_order, faulted_in_order}
-use Rattle.dkg_lives.proofs.Places.{moves_then, moves_none}
+use Rattle.dkg_lives.proofs.Moving.{moves_then, moves_none}
 
 pub told_in_order : (script : Script) (fault answered : Fault) (old mid new : List Entry) → Moves IsInOrder (IsBetweenOf script 0) (MayTell fault) old mid
     → TellsFault fault answered mid new → Adds old new (RunsInOrder script)

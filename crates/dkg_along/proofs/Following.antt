@@ -20,8 +20,8 @@ use Rattle.dkg_lives.specs.Epochs.{refused_config}
 use Rattle.dkg_lives.specs.Given.{lived}
 use Rattle.dkg_lives.specs.Lives.{AnyFiles, EndsLife, LivesFrom, LivesSo, RunsAllSo}
 use Rattle.dkg_lives.specs.Ways.{ReadsSomething, Trace, by_lines}
-use Rattle.dkg_along.proofs.InPlace.{life_begins}
-use Rattle.dkg_lives.proofs.Places.{moves_none, moves_then, moves_within}
+use Rattle.dkg_along.proofs.InOrder.{life_begins}
+use Rattle.dkg_lives.proofs.Moving.{moves_none, moves_then, moves_within}
 use Rattle.dkg_lives.proofs.Standing.{IsAtCut, IsBefore, IsBetween, IsBetweenOf, Moves}
 
 -- WHAT IS LEFT of a list

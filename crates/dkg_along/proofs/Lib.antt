@@ -16,7 +16,7 @@ pub mod FitsBrought
 pub mod Following
 pub mod GivingLives
 pub mod HeightsRise
-pub mod InPlace
+pub mod InOrder
 pub mod KeptOpenings
 pub mod KeptSteps
 pub mod Leading

@@ -2,7 +2,7 @@
 use Rattle.std.proofs.Common.{◌≡◌, ◌<◌, ◌≤◌, ◌&&◌, ℕ, Bool, true, false, nat_le, Option, Some, None, arith, refl, sym, ◌∙◌, ap, subst}
 use Rattle.std.specs.Prelude.{is_some, nat_lt, option_and_then, if◌then◌else◌}
 use Rattle.std.proofs.lemmas.Bool.Decides.{nat_tests}
-use Rattle.dkg_values.specs.Rising.{place_of}
+use Rattle.dkg_values.specs.Rising.{index_of}
 use Rattle.dkg_ceremony.specs.Schedule.{last, midpoint}
 use Rattle.dkg_ceremony.specs.ValidLogs.{check_log_of}
 use Rattle.dkg_ceremony.specs.declared.dealer_log.DealerLog.{DealerLog}
@@ -61,7 +61,7 @@ module _ (s : Setting) (l : ℕ) (life : Life) (seen : Held → Seen) (files : F
     accepted_counts : (log : SignedDealerLog) → is_accepted c round log ≡ true → log_counts check_log_of (midpoint (blocks_per_epoch s) epoch) (last (blocks_per_epoch s) epoch) round (b.height, log) ≡ true
     unfolding at_step
     accepted_counts log accepted =
-        all_four (nat_le (midpoint (blocks_per_epoch s) epoch) b.height) (nat_lt b.height (last (blocks_per_epoch s) epoch)) (is_some (place_of log.dealer round.dealers)) (check_log_of round log)
+        all_four (nat_le (midpoint (blocks_per_epoch s) epoch) b.height) (nat_lt b.height (last (blocks_per_epoch s) epoch)) (is_some (index_of log.dealer round.dealers)) (check_log_of round log)
         (is_le (midpoint (blocks_per_epoch s) epoch) b.height late) (is_lt b.height (last (blocks_per_epoch s) epoch) below) accepted
       where
         is_le : (x y : ℕ) → x ≤ y → nat_le x y ≡ true
@@ -73,7 +73,7 @@ module _ (s : Setting) (l : ℕ) (life : Life) (seen : Held → Seen) (files : F
     counts_accepted : (log : SignedDealerLog) → log_counts check_log_of (midpoint (blocks_per_epoch s) epoch) (last (blocks_per_epoch s) epoch) round (b.height, log) ≡ true → is_accepted c round log ≡ true
     unfolding at_step
     counts_accepted log counted =
-        two_last (nat_le (midpoint (blocks_per_epoch s) epoch) b.height) (nat_lt b.height (last (blocks_per_epoch s) epoch)) (is_some (place_of log.dealer round.dealers)) (check_log_of round log) counted
+        two_last (nat_le (midpoint (blocks_per_epoch s) epoch) b.height) (nat_lt b.height (last (blocks_per_epoch s) epoch)) (is_some (index_of log.dealer round.dealers)) (check_log_of round log) counted
 
     -- .. so the chain brings it here
     pub brings_accepted : (log : SignedDealerLog) → carried ≡ Some log → is_accepted c round log ≡ true → brings_of s epoch round b.height ≡ Some (log.dealer, log.log)

@@ -38,9 +38,9 @@ use Rattle.dkg_lives.specs.Lives.{LivesSo, RunsAllSo, RunsSo, Steps, TakesAll, T
 use Rattle.dkg_lives.specs.Ways.{Trace, by_lines}
 use Rattle.dkg_along.proofs.Ended.{told_in_order}
 use Rattle.dkg_along.proofs.Following.{EndsBy, RunEndsBy, all_move, rest_at}
-use Rattle.dkg_along.proofs.InPlace.{moves_cut}
+use Rattle.dkg_along.proofs.InOrder.{moves_cut}
 use Rattle.dkg_laws.proofs.NodeEndings.{node_openings_are_quiet, node_steps_are_quiet}
-use Rattle.dkg_lives.proofs.Places.{moves_none, moves_then, moves_within, quiet_none}
+use Rattle.dkg_lives.proofs.Moving.{moves_none, moves_then, moves_within, quiet_none}
 use Rattle.dkg_along.proofs.Runs.{runs_all, runs_in_order}
 use Rattle.dkg_lives.proofs.Standing.{AddsOpening, AddsQuiet, IsBefore, IsBehind, IsBetween, IsBetweenOf, IsCutBefore, IsStopped, IsWithin, MayTell, Moves, TellsFault, IsCutWithin}
 use Rattle.dkg_along.proofs.Steps.{Opening, opened_so_far, opening_step, opening_stops, quiet_so_far, quiet_step, quiet_stops, stops_before}

@@ -3,7 +3,7 @@ use Rattle.std.proofs.Common.{◌≡◌, ℕ, ◌<◌, ◌^◌, List, Option, So
 use Rattle.std.specs.Prelude.{nat_eq, nat_lt, if◌then◌else◌}
 use Rattle.std.specs.FinMap.{get}
 use Rattle.std.proofs.lemmas.Bool.Decides.{nat_tests}
-use Rattle.dkg_values.specs.Places.{place_of-Contains}
+use Rattle.dkg_values.specs.IndexLaws.{index_of-Contains}
 use Rattle.dkg_values.specs.Rising.{has_key}
 use Rattle.dkg_values.specs.RisingLaws.{has_key-to}
 use Rattle.dkg_ceremony.specs.Dealings.{dealing_of}
@@ -80,7 +80,7 @@ module _ (s : Setting) (l : ℕ) (life : Life) (seen : Held → Seen) (files : F
     seated_plays recorded holds of_round = λ round there key.
         let same : seated.round ≡ round = some_is (sym seated.in_round ∙ there) in
         let its_key : has_key (me s) (seated.round).players ≡ true = subst (λ (r : Round). has_key (me s) r.players ≡ true) (sym same) key in
-        plays_so g taken standing info share seed st end seated now agreed (place_of-Contains (me s) (seated.round).players (has_key-to (seated.round).players (me s) its_key))
+        plays_so g taken standing info share seed st end seated now agreed (index_of-Contains (me s) (seated.round).players (has_key-to (seated.round).players (me s) its_key))
         (lacks_none s (seated.round).number recorded (recovered_in now) (logs_in (notes now)) seated.round holds.dealings holds.logs (of_round seated.round seated.in_round))
 
     pub seated_valid : ValidWhere s now end

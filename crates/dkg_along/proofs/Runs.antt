@@ -14,7 +14,7 @@ use Rattle.dkg_script.specs.Promise.{Adds, RunsInOrder, RunsAll}
 use Rattle.dkg_script.specs.Setting.{Setting, setting_of}
 use Rattle.dkg_script.proofs.EachEntry.{EachAfter, at_each}
 use Rattle.dkg_lives.proofs.Standing.{Each, Moves, MayTell, IsBetweenOf}
-use Rattle.dkg_lives.proofs.Places.{each_of_both}
+use Rattle.dkg_lives.proofs.Moving.{each_of_both}
 
 -- THE WHOLE RUN
 

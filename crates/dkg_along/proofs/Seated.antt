@@ -1,7 +1,7 @@
 -- Recorded dealings of the epoch in which a life plays pass, and so does what it deals to itself.
 use Rattle.std.proofs.Common.{◌≡◌, inl, inr, ℕ, suc, ◌<◌, true, List, [], ◌∷◌, Option, Some, sym, subst, ◌∙◌, arith, length}
 use Rattle.std.specs.Prelude.{Contains, Ok}
-use Rattle.dkg_values.specs.Places.{place_of-Contains}
+use Rattle.dkg_values.specs.IndexLaws.{index_of-Contains}
 use Rattle.dkg_ceremony.specs.Dealings.{dealing_of}
 use Rattle.dkg_ceremony.specs.declared.round.RoundParts.{RoundParts as Round}
 use Rattle.dkg_script.specs.Setting.{Setting, me}
@@ -37,7 +37,7 @@ own_valid {Dir} c stored s st key pair form live knows its = as_known (subst (λ
     same_round = some_is mine.0 its.round (sym mine.1 ∙ its.of_epoch)
 
     plays : has (mine.0).players c.me ≡ true
-    plays = place_of-Contains c.me (mine.0).players (among_has c.me (mine.0).players (subst (λ (r : Round). IsAmong c.me r.players) (sym same_round) its.plays))
+    plays = index_of-Contains c.me (mine.0).players (among_has c.me (mine.0).players (subst (λ (r : Round). IsAmong c.me r.players) (sym same_round) its.plays))
 
     as_known : c.rules.dealing_of its.round c.me c.me pair.0 pair.1 ≡ Ok tt → dealing_of its.round (me s) (me s) pair.0 pair.1 ≡ Ok tt
     as_known is = rw (knows.rules_are, knows.me_is) at is

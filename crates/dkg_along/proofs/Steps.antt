@@ -7,8 +7,8 @@ use Rattle.dkg_script.specs.Order.{IsInOrder}
 use Rattle.dkg_life.specs.declared.stop.Stop.{Stop}
 use Rattle.dkg_life.specs.declared.stop.Stop.TheVariants.{Cut}
 use Rattle.dkg_lives.proofs.Standing.{Moves, AddsQuiet, AddsOpening, IsBefore, IsWithin, IsAtCut, IsStopped, IsBehind, IsCutBefore, IsCutWithin}
-use Rattle.dkg_lives.proofs.Places.{moves_none, moves_then, moves_within}
-use Rattle.dkg_along.proofs.InPlace.{begins, cut_before, stopped_within, moves_quiet, moves_opening, moves_step}
+use Rattle.dkg_lives.proofs.Moving.{moves_none, moves_then, moves_within}
+use Rattle.dkg_along.proofs.InOrder.{begins, cut_before, stopped_within, moves_quiet, moves_opening, moves_step}
 
 -- A STEP
 

@@ -103,39 +103,39 @@ none_later epoch x (y ∷ ys) up low =
     below : (a b : ℕ) → a < b → a ≤ b
     below a b low = omega (arith, low)
 
--- where they are parted at a place
-abbrev IsPlace : (epoch : ℕ) → List PlayerLine → ℕ → Type 0
-IsPlace epoch xs i = IsPartitionPoint (λ y. ltb y.epoch epoch ≡ true) (λ y. ltb y.epoch epoch ≡ false) xs i
+-- where they are parted at an index
+abbrev IsSplit : (epoch : ℕ) → List PlayerLine → ℕ → Type 0
+IsSplit epoch xs i = IsPartitionPoint (λ y. ltb y.epoch epoch ≡ true) (λ y. ltb y.epoch epoch ≡ false) xs i
 
-tail_place : (epoch : ℕ) (x : PlayerLine) (xs : List PlayerLine) (i : ℕ) → IsPlace epoch (x ∷ xs) (suc i) → IsPlace epoch xs i
-tail_place epoch x xs i place = (
-  λ k d from to. place.0 (suc k) d (omega arith) (omega (arith, to)),
-  λ k d from to. place.1 (suc k) d (omega (arith, from)) (omega (arith, to)),
+tail_split : (epoch : ℕ) (x : PlayerLine) (xs : List PlayerLine) (i : ℕ) → IsSplit epoch (x ∷ xs) (suc i) → IsSplit epoch xs i
+tail_split epoch x xs i split = (
+  λ k d from to. split.0 (suc k) d (omega arith) (omega (arith, to)),
+  λ k d from to. split.1 (suc k) d (omega (arith, from)) (omega (arith, to)),
 )
 
-head_low : (epoch : ℕ) (x : PlayerLine) (xs : List PlayerLine) (i : ℕ) → IsPlace epoch (x ∷ xs) (suc i) → (x.epoch == epoch) ≡ false
-head_low epoch x xs i place = not_same x.epoch epoch (ltb-true x.epoch epoch (place.0 0 x (omega arith) (omega arith)))
+head_low : (epoch : ℕ) (x : PlayerLine) (xs : List PlayerLine) (i : ℕ) → IsSplit epoch (x ∷ xs) (suc i) → (x.epoch == epoch) ≡ false
+head_low epoch x xs i split = not_same x.epoch epoch (ltb-true x.epoch epoch (split.0 0 x (omega arith) (omega arith)))
 
 -- the line that stands there, where it is the epoch's
-pub found_at : (epoch : ℕ) (xs : List PlayerLine) (i : ℕ) → IsPlace epoch xs i → (line : PlayerLine) → slice_get xs i ≡ Some line → line.epoch ≡ epoch → find (λ line. line.epoch == epoch) xs ≡ Some line
-found_at epoch [] i place line is same = absurd (let wrong : ◌≡◌ {A = Option PlayerLine} None (Some line) = is in cc)
-found_at epoch (x ∷ xs) zero place line is same =
+pub found_at : (epoch : ℕ) (xs : List PlayerLine) (i : ℕ) → IsSplit epoch xs i → (line : PlayerLine) → slice_get xs i ≡ Some line → line.epoch ≡ epoch → find (λ line. line.epoch == epoch) xs ≡ Some line
+found_at epoch [] i split line is same = absurd (let wrong : ◌≡◌ {A = Option PlayerLine} None (Some line) = is in cc)
+found_at epoch (x ∷ xs) zero split line is same =
     ap (λ (t : Bool). if t then Some x else find (λ line. line.epoch == epoch) xs) (are_equal x.epoch epoch (ap (λ (l : PlayerLine). l.epoch) (the_line x line is) ∙ same)) ∙ is
   where
     the_line : (a b : PlayerLine) → ◌≡◌ {A = Option PlayerLine} (Some a) (Some b) → a ≡ b
     the_line a b e = cc
-found_at epoch (x ∷ xs) (suc i) place line is same =
-    ap (λ (t : Bool). if t then Some x else find (λ line. line.epoch == epoch) xs) (head_low epoch x xs i place) ∙ found_at epoch xs i (tail_place epoch x xs i place) line is same
+found_at epoch (x ∷ xs) (suc i) split line is same =
+    ap (λ (t : Bool). if t then Some x else find (λ line. line.epoch == epoch) xs) (head_low epoch x xs i split) ∙ found_at epoch xs i (tail_split epoch x xs i split) line is same
 
 -- .. and there is none else
-pub none_at : (epoch : ℕ) (xs : List PlayerLine) → rises (epochs_of xs) ≡ true → (i : ℕ) → IsPlace epoch xs i → ((line : PlayerLine) → slice_get xs i ≡ Some line → line.epoch ≡ epoch → ⊥)
+pub none_at : (epoch : ℕ) (xs : List PlayerLine) → rises (epochs_of xs) ≡ true → (i : ℕ) → IsSplit epoch xs i → ((line : PlayerLine) → slice_get xs i ≡ Some line → line.epoch ≡ epoch → ⊥)
     → find (λ line. line.epoch == epoch) xs ≡ None
-none_at epoch [] up i place other = refl
-none_at epoch (x ∷ xs) up zero place other =
+none_at epoch [] up i split other = refl
+none_at epoch (x ∷ xs) up zero split other =
     ap (λ (t : Bool). if t then Some x else find (λ line. line.epoch == epoch) xs) (not_equal x.epoch epoch (other x refl))
-    ∙ none_later epoch x.epoch xs up (from_test x.epoch epoch (place.1 0 x (omega arith) (omega arith)))
-none_at epoch (x ∷ xs) up (suc i) place other =
-    ap (λ (t : Bool). if t then Some x else find (λ line. line.epoch == epoch) xs) (head_low epoch x xs i place) ∙ none_at epoch xs (tail_up x xs up) i (tail_place epoch x xs i place) other
+    ∙ none_later epoch x.epoch xs up (from_test x.epoch epoch (split.1 0 x (omega arith) (omega arith)))
+none_at epoch (x ∷ xs) up (suc i) split other =
+    ap (λ (t : Bool). if t then Some x else find (λ line. line.epoch == epoch) xs) (head_low epoch x xs i split) ∙ none_at epoch xs (tail_up x xs up) i (tail_split epoch x xs i split) other
 
 -- WHAT IS NO LINE of an epoch
 

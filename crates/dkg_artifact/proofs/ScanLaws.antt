@@ -5,7 +5,7 @@ use Rattle.std.specs.List.{filter, cons_option}
 use Rattle.std.specs.Option.{option_map_or}
 use Rattle.std.proofs.lemmas.Bool.{lt-ltb, le-ltb, cases_lt}
 use Rattle.std.proofs.lemmas.Bool.Decides.{nat_tests}
-use Rattle.dkg_values.specs.Rising.{map_of, place_of, with_pair}
+use Rattle.dkg_values.specs.Rising.{map_of, index_of, with_pair}
 use Rattle.dkg_ceremony.specs.declared.round.RoundParts.{RoundParts as Round}
 use Rattle.dkg_ceremony.specs.declared.signed_log.SignedDealerLog.{SignedDealerLog}
 use Rattle.dkg_ceremony.specs.Outcomes.{LogMap}
@@ -62,7 +62,7 @@ module _ (check : Check) (middle last : ℕ) (round : Round) where
 
   late : (p : ℕ × SignedDealerLog) → last ≤ p.0 → log_counts check middle last round p ≡ false
   late p ge =
-      rw (le-ltb p.0 last ge) (elim (nat_le middle p.0) as (λ (b : Bool). (b && false && is_some (place_of p.1.dealer round.dealers) && check round p.1) ≡ false) [ true ↦ refl | false ↦ refl ])
+      rw (le-ltb p.0 last ge) (elim (nat_le middle p.0) as (λ (b : Bool). (b && false && is_some (index_of p.1.dealer round.dealers) && check round p.1) ≡ false) [ true ↦ refl | false ↦ refl ])
 
   within : (p : ℕ × SignedDealerLog) → middle ≤ p.0 → p.0 < last → log_counts check middle last round p ≡ is_counted check round p.1
   within p ge lt = let e : nat_le middle p.0 ≡ true = grind (arith, nat_tests) in rw (e, lt-ltb p.0 last lt) refl

@@ -1,7 +1,7 @@
 pub mod Ancestries
 pub mod Found
 pub mod Lacking
-pub mod Places
+pub mod Ranks
 pub mod Requested
 pub mod Results
 pub mod Scans

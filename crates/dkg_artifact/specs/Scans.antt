@@ -3,7 +3,7 @@ use Rattle.std.specs.Prelude.{ℕ, ◌+◌, ◌-◌, ◌==◌, ◌&&◌, nat_lt,
 use Rattle.std.specs.List.{filter}
 use Rattle.std.specs.Option.{option_map_or}
 use Rattle.std.specs.Str.{bytes_eq}
-use Rattle.dkg_values.specs.Rising.{place_of}
+use Rattle.dkg_values.specs.Rising.{index_of}
 use Rattle.dkg_ceremony.specs.declared.dealer_log.DealerLog.{DealerLog}
 use Rattle.dkg_ceremony.specs.declared.epocher.Bounds.{Bounds}
 use Rattle.dkg_ceremony.specs.declared.round.RoundParts.{RoundParts as Round}
@@ -78,7 +78,7 @@ Check = Round → SignedDealerLog → Bool
 
 -- a dealer of the round signed it, and it is checked
 abbrev pub is_counted : Check → Round → SignedDealerLog → Bool
-is_counted check round s = is_some (place_of s.dealer round.dealers) && check round s
+is_counted check round s = is_some (index_of s.dealer round.dealers) && check round s
 
 -- a log that counts, with its dealer
 abbrev pub counted_log : Check → Round → Option SignedDealerLog → Option (ℕ × DealerLog)

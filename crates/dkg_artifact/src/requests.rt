@@ -1,14 +1,14 @@
 //! Requests for a final block's payload, in the order in which they came, each with the ancestry that it was fed.
 //!
-//! Each that waits has a place, and a tree has the requests by place, a second one the places by number. So whatever is done to the
+//! Each that waits has a rank, and a tree has the requests by rank, a second one the ranks by number. So whatever is done to the
 //! requests of a number costs the logarithm of how many wait, for each of them. A tree is looked through from its front, and what is done
-//! is mostly done to a new request, whose number mostly is the greatest: so places fall in the order of the requests, and the greatest
+//! is mostly done to a new request, whose number mostly is the greatest: so ranks fall in the order of the requests, and the greatest
 //! number is the first.
 ghost use Rattle.std.specs.Prelude.{◌≡◌, ◌+◌, ◌^◌, ◌<◌, ◌++◌, ◌∷◌, [], OnOk, OnErr, IfOk, IfSome, IfNone, None, filter, length, map};
 ghost use Rattle.std.specs.BTreeMap.{IsOrdered, get, insert_entry, values};
 ghost use Rattle.std.specs.Ordering.{nat_cmp};
 ghost use Rattle.dkg_artifact.specs.Requested.{ended_for, fed_for, is_other};
-ghost use Rattle.dkg_artifact.specs.Places.{AreKnown, IsAbove, IsBelow, IsNextPlace, changed_at, KeepsNumbers};
+ghost use Rattle.dkg_artifact.specs.Ranks.{AreKnown, IsAbove, IsBelow, IsNextRank, changed_at, KeepsNumbers};
 
 use dkg_ceremony::Mem;
 use dkg_infos::Directory;
@@ -20,7 +20,7 @@ use std::collections::{BTreeMap, BTreeSet};
 use std::marker::Model;
 use std::ops::Bound;
 
-/// The place of a request where no other waits. Later ones get places below it, and those that are put back get places above it.
+/// The rank of a request where no other waits. Later ones get ranks below it, and those that are put back get ranks above it.
 const MIDDLE: u64 = 1 << 63;
 
 /// Blocks in the order in which they were fed, each the parent of the one before.
@@ -103,9 +103,9 @@ impl<Dir: Directory + Drop> Request<Dir> {
 /// Requests that wait, the first first.
 #[derive(Drop)]
 pub struct Requests<Dir: Directory> {
-    /// By their places, the newest first.
+    /// By their ranks, the newest first.
     waiting: BTreeMap<u64, Request<Dir>>,
-    /// The number and the place of each, the greatest number first.
+    /// The number and the rank of each, the greatest number first.
     numbers: BTreeSet<(Reverse<u64>, u64)>,
 }
 
@@ -113,7 +113,7 @@ impl<Dir: Directory> Model for Requests<Dir> {
     ghost use Rattle.std.specs.Prelude.{List, reverse};
     ghost use Rattle.std.specs.BTreeMap.{values};
     ghost use Rattle.dkg_artifact.specs.Requested.{WaitingRequest as Seen};
-    ghost use Rattle.dkg_artifact.specs.Places.{AreKnown};
+    ghost use Rattle.dkg_artifact.specs.Ranks.{AreKnown};
 
     ghost Value = { List (Seen Dir) };
 
@@ -122,48 +122,48 @@ impl<Dir: Directory> Model for Requests<Dir> {
     ghost invariant = { λ r. AreKnown r.numbers r.waiting };
 }
 
-/// A place above all of these. Where no number of 64 bits is left for one, it is as if memory ran out.
+/// A rank above all of these. Where no number of 64 bits is left for one, it is as if memory ran out.
 fn above<Dir: Directory>(waiting: &BTreeMap<u64, Request<Dir>>) -> Mem<u64>
-    ensures { IfOk result (λ place. IsAbove place waiting.now) }
+    ensures { IfOk result (λ rank. IsAbove rank waiting.now) }
 {
     let Some((last, _)) = waiting.last_key_value() else {
         return Ok(MIDDLE);
     };
     match last.checked_add(1) {
-        Some(place) => Ok(place),
+        Some(rank) => Ok(rank),
         None => Err(NoMemory),
     }
 }
 
 /// .. below all of them
 fn below<Dir: Directory>(waiting: &BTreeMap<u64, Request<Dir>>) -> Mem<u64>
-    ensures { IfOk result (λ place. IsBelow place waiting.now) }
+    ensures { IfOk result (λ rank. IsBelow rank waiting.now) }
 {
     let Some((first, _)) = waiting.first_key_value() else {
         return Ok(MIDDLE);
     };
     match first.checked_sub(1) {
-        Some(place) => Ok(place),
+        Some(rank) => Ok(rank),
         None => Err(NoMemory),
     }
 }
 
-/// Puts a request at a place where none waits. Where memory runs out all is as before.
+/// Puts a request at a rank where none waits. Where memory runs out all is as before.
 fn put<Dir: Directory + Drop>(
     waiting: &mut BTreeMap<u64, Request<Dir>>,
     numbers: &mut BTreeSet<(Reverse<u64>, u64)>,
-    place: u64,
+    rank: u64,
     request: Request<Dir>,
 ) -> Mem<()>
     requires known { AreKnown numbers.old waiting.old }
-    requires free { get nat_cmp waiting.old place ≡ None }
-    ensures ok { OnOk result (waiting.new.entries ≡ insert_entry nat_cmp waiting.old.entries place request) }
+    requires free { get nat_cmp waiting.old rank ≡ None }
+    ensures ok { OnOk result (waiting.new.entries ≡ insert_entry nat_cmp waiting.old.entries rank request) }
     ensures err { OnErr result (waiting.new.entries ≡ waiting.old.entries) }
     ensures known { AreKnown numbers.new waiting.new }
 {
-    let pair = (Reverse(request.number), place);
+    let pair = (Reverse(request.number), rank);
     numbers.insert(pair)?;
-    match waiting.insert(place, request) {
+    match waiting.insert(rank, request) {
         Ok(_) => Ok(()),
         Err(_) => {
             numbers.remove(&pair);
@@ -172,9 +172,9 @@ fn put<Dir: Directory + Drop>(
     }
 }
 
-/// The first place at which a request of a number waits.
+/// The first rank at which a request of a number waits.
 fn first_of(numbers: &BTreeSet<(Reverse<u64>, u64)>, number: u64) -> Option<u64>
-    ensures { IsNextPlace numbers.now number 0 result }
+    ensures { IsNextRank numbers.now number 0 result }
 {
     match numbers.range((Reverse(number), 0)..).next() {
         Some(pair) if pair.0.0 == number => Some(pair.1),
@@ -182,25 +182,25 @@ fn first_of(numbers: &BTreeSet<(Reverse<u64>, u64)>, number: u64) -> Option<u64>
     }
 }
 
-/// .. behind a place
-fn next_of(numbers: &BTreeSet<(Reverse<u64>, u64)>, number: u64, place: u64) -> Option<u64>
-    ensures next { IsNextPlace numbers.now number (place + 1) result }
-    ensures fits { place < 2 ^ 64 }
+/// .. behind a rank
+fn next_of(numbers: &BTreeSet<(Reverse<u64>, u64)>, number: u64, rank: u64) -> Option<u64>
+    ensures next { IsNextRank numbers.now number (rank + 1) result }
+    ensures fits { rank < 2 ^ 64 }
 {
-    let from = Bound::Excluded((Reverse(number), place));
+    let from = Bound::Excluded((Reverse(number), rank));
     match numbers.range((from, Bound::Unbounded)).next() {
         Some(pair) if pair.0.0 == number => Some(pair.1),
         _ => None,
     }
 }
 
-/// Ends the ancestry of the request at a place, where it is of this number.
-fn end_at<Dir: Directory>(waiting: &mut BTreeMap<u64, Request<Dir>>, place: u64, number: u64)
-    ensures entries { waiting.new.entries ≡ changed_at place (ended_for number) waiting.old.entries }
+/// Ends the ancestry of the request at a rank, where it is of this number.
+fn end_at<Dir: Directory>(waiting: &mut BTreeMap<u64, Request<Dir>>, rank: u64, number: u64)
+    ensures entries { waiting.new.entries ≡ changed_at rank (ended_for number) waiting.old.entries }
     ensures numbers { KeepsNumbers waiting.old waiting.new }
     ensures ordered { IsOrdered nat_cmp waiting.new }
 {
-    if let Some(request) = waiting.get_mut(&place) {
+    if let Some(request) = waiting.get_mut(&rank) {
         request.end(number);
     }
 }
@@ -216,26 +216,26 @@ fn end_each<Dir: Directory>(
     ensures known { AreKnown numbers.now waiting.new }
 {
     let mut next = first_of(numbers, number);
-    while let Some(place) = next {
-        end_at(waiting, place, number);
-        next = next_of(numbers, number, place);
+    while let Some(rank) = next {
+        end_at(waiting, rank, number);
+        next = next_of(numbers, number, rank);
     }
 }
 
-/// Feeds a block to the request at a place, where it is of this number.
+/// Feeds a block to the request at a rank, where it is of this number.
 fn feed_at<Dir: Directory + Drop>(
     alloc: Global,
     waiting: &mut BTreeMap<u64, Request<Dir>>,
-    place: u64,
+    rank: u64,
     number: u64,
     block: &Block<Dir>,
 ) -> Mem<()>
-    ensures entries { OnOk result (waiting.new.entries ≡ changed_at place (fed_for number block.now) waiting.old.entries) }
+    ensures entries { OnOk result (waiting.new.entries ≡ changed_at rank (fed_for number block.now) waiting.old.entries) }
     ensures same { map (λ r. r.number) (values waiting.new) ≡ map (λ r. r.number) (values waiting.old) }
     ensures numbers { KeepsNumbers waiting.old waiting.new }
     ensures ordered { IsOrdered nat_cmp waiting.new }
 {
-    match waiting.get_mut(&place) {
+    match waiting.get_mut(&rank) {
         Some(request) => request.feed(alloc, number, block),
         None => Ok(()),
     }
@@ -255,9 +255,9 @@ fn feed_each<Dir: Directory + Drop>(
     ensures known { AreKnown numbers.now waiting.new }
 {
     let mut next = first_of(numbers, number);
-    while let Some(place) = next {
-        feed_at(alloc, waiting, place, number, block)?;
-        next = next_of(numbers, number, place);
+    while let Some(rank) = next {
+        feed_at(alloc, waiting, rank, number, block)?;
+        next = next_of(numbers, number, rank);
     }
     Ok(())
 }
@@ -272,9 +272,9 @@ fn remove_each<Dir: Directory + Drop>(
     ensures values { values waiting.new ≡ filter (is_other number) (values waiting.old) }
     ensures known { AreKnown numbers.new waiting.new }
 {
-    while let Some(place) = first_of(numbers, number) {
-        waiting.remove(&place);
-        numbers.remove(&(Reverse(number), place));
+    while let Some(rank) = first_of(numbers, number) {
+        waiting.remove(&rank);
+        numbers.remove(&(Reverse(number), rank));
     }
 }
 
@@ -294,8 +294,8 @@ impl<Dir: Directory> Requests<Dir> {
         ensures first { IfSome result (λ request. self.old ≡ request ∷ self.new) }
         ensures none { IfNone result ((self.old ≡ []) × (self.new ≡ [])) }
     {
-        let (place, request) = self.waiting.pop_last()?;
-        self.numbers.remove(&(Reverse(request.number), place));
+        let (rank, request) = self.waiting.pop_last()?;
+        self.numbers.remove(&(Reverse(request.number), rank));
         Some(request)
     }
 
@@ -320,8 +320,8 @@ impl<Dir: Directory + Drop> Requests<Dir> {
         ensures ok { OnOk result (self.new ≡ self.old ++ request ∷ []) }
         ensures err { OnErr result (self.new ≡ self.old) }
     {
-        let place = below(&self.waiting)?;
-        put(&mut self.waiting, &mut self.numbers, place, request)
+        let rank = below(&self.waiting)?;
+        put(&mut self.waiting, &mut self.numbers, rank, request)
     }
 
     /// Puts a request back to the front, as one whose scan a finalized block took away. Where memory runs out all is as before, and the
@@ -330,8 +330,8 @@ impl<Dir: Directory + Drop> Requests<Dir> {
         ensures ok { OnOk result (self.new ≡ request ∷ self.old) }
         ensures err { OnErr result (self.new ≡ self.old) }
     {
-        let place = above(&self.waiting)?;
-        put(&mut self.waiting, &mut self.numbers, place, request)
+        let rank = above(&self.waiting)?;
+        put(&mut self.waiting, &mut self.numbers, rank, request)
     }
 
     /// Feeds a block to the requests of a number whose ancestry has not ended. Where memory runs out the same requests wait, of which some may have been fed.

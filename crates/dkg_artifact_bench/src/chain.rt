@@ -50,9 +50,9 @@ pub fn bare(alloc: Global) -> Option<Block<Unit>> {
     block_with(alloc, Digest([0; 32]), 0, None)
 }
 
-fn in_turn(logs: &[SignedDealerLog], place: u64) -> Option<&SignedDealerLog> {
-    let place = place.checked_rem(logs.len() as u64)?;
-    logs.get(place as usize)
+fn in_turn(logs: &[SignedDealerLog], index: u64) -> Option<&SignedDealerLog> {
+    let index = index.checked_rem(logs.len() as u64)?;
+    logs.get(index as usize)
 }
 
 /// So many blocks from a height on. They carry these logs in turns.
@@ -64,9 +64,9 @@ pub fn blocks(
 ) -> Option<Vec<Block<Unit>>> {
     let mut blocks = Vec::new(alloc);
     let mut parent = Digest([0; 32]);
-    for place in 0..count {
-        let height = lowest.0.checked_add(place)?;
-        let block = block_on(alloc, parent, height, in_turn(logs, place)?)?;
+    for index in 0..count {
+        let height = lowest.0.checked_add(index)?;
+        let block = block_on(alloc, parent, height, in_turn(logs, index)?)?;
         parent = block.digest();
         blocks.push(block).ok()?;
     }

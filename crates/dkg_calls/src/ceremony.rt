@@ -328,8 +328,8 @@ fn halves_are_spelled(rt: HostRuntime) -> Result<(), Fail> {
     Ok(())
 }
 
-/// The value at a place's point of the polynomial whose coefficients are one, two, three and so on, so many of them.
-fn value_of_rising(alloc: Global, count: u16, place: u32) -> Result<u32, Fail> {
+/// The value at an index's point of the polynomial whose coefficients are one, two, three and so on, so many of them.
+fn value_of_rising(alloc: Global, count: u16, index: u32) -> Result<u32, Fail> {
     let mut elements = Vec::new(alloc);
     for number in 1..=count {
         elements.push(Element::new(number).ok_or("no element")?)?;
@@ -338,7 +338,7 @@ fn value_of_rising(alloc: Global, count: u16, place: u32) -> Result<u32, Fail> {
         return Err(Fail::from("no polynomial"));
     }
     let polynomial = Public::new(alloc, elements)?;
-    Ok(value_of(&polynomial, place))
+    Ok(value_of(&polynomial, index))
 }
 
 #[test]

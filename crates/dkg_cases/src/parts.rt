@@ -57,7 +57,7 @@ pub fn probe_info(alloc: Global, epoch: u8) -> Option<EpochInfo<Unit>> {
     decode_cfg::<EpochInfo<Unit>>(alloc, bytes.as_slice(), &probe_limits()?).ok()
 }
 
-/// Blocks from genesis on, two an epoch, and their finalizations, each height's at its place.
+/// Blocks from genesis on, two an epoch, and their finalizations, each height's at its index.
 #[derive(Drop)]
 pub struct HeldBlocks {
     blocks: Vec<Block<Unit>>,

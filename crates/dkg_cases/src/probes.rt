@@ -112,23 +112,23 @@ where
 }
 
 /// The epoch and the view of a finalization.
-fn place_of(alloc: Global, finalization: Option<Finalization>) -> Option<String> {
+fn epoch_and_view(alloc: Global, finalization: Option<Finalization>) -> Option<String> {
     match finalization {
         None => String::from_str(alloc, "-").ok(),
         Some(one) => format!(in alloc; "{}:{}", one.epoch.0, one.view).ok(),
     }
 }
 
-/// Lists the places of a floor and of a finalization that are known.
+/// Lists the epochs and views of a floor and of a finalization that are known.
 fn put_known(
     alloc: Global,
     floor: Option<Finalization>,
     finalization: Option<Finalization>,
     told: &mut String,
 ) -> Option<()> {
-    put(told, ">known ", place_of(alloc, floor)?.as_str())?;
+    put(told, ">known ", epoch_and_view(alloc, floor)?.as_str())?;
     told.push(' ').ok()?;
-    told.push_str(place_of(alloc, finalization)?.as_str()).ok()
+    told.push_str(epoch_and_view(alloc, finalization)?.as_str()).ok()
 }
 
 /// The floor that a probe knows, and the finalization of the block whose info it knows.

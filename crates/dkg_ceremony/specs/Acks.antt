@@ -7,7 +7,7 @@ use Rattle.dkg_ceremony.specs.declared.round.RoundParts.{RoundParts as Round}
 use Rattle.dkg_ceremony.specs.declared.ceremony.AckError.{AckError}
 use Rattle.dkg_ceremony.specs.declared.ceremony.AckError.TheVariants.{UnexpectedPlayer, InvalidAck, NoMemory}
 use Rattle.dkg_values.specs.Lists.{public_spelling}
-use Rattle.dkg_values.specs.Rising.{place_of}
+use Rattle.dkg_values.specs.Rising.{index_of}
 use Rattle.dkg_ceremony.specs.Marks.{mark_of}
 use Rattle.dkg_ceremony.specs.Rounds.{round_bytes}
 
@@ -27,6 +27,6 @@ AnswersAckCheck answer (Err e) = answer ≡ Err e
 -- what the check of an acknowledgement answers
 unfoldable pub check_ack_of : Round → (dealer : ℕ) → List ℕ → (player : ℕ) → List ℕ → Result (Unit {0}) AckError
 check_ack_of round dealer public player ack =
-    if not (is_some (place_of player round.players)) then Err UnexpectedPlayer
+    if not (is_some (index_of player round.players)) then Err UnexpectedPlayer
     else if not (bytes_eq (ack_of player round dealer public) ack) then Err InvalidAck
     else Ok tt

@@ -1,12 +1,12 @@
 -- What the parts of an output agree on.
 use Rattle.std.specs.Prelude.{◌≡◌, ℕ, ◌<◌, ◌==◌, ◌&&◌, not, Bool, true, IsTrue, List, [], ◌∷◌, length, is_some}
-use Rattle.dkg_values.specs.Rising.{place_of}
+use Rattle.dkg_values.specs.Rising.{index_of}
 use Rattle.dkg_ceremony.specs.Thresholds.{quorum_of}
 
 -- whether each of these is one of the keys
 abbrev pub all_in : List ℕ → List ℕ → Bool
 all_in [] keys = true
-all_in (x ∷ xs) keys = is_some (place_of x keys) && all_in xs keys
+all_in (x ∷ xs) keys = is_some (index_of x keys) && all_in xs keys
 
 abbrev pub parts_agree : ℕ → List ℕ → List ℕ → List ℕ → Bool
 parts_agree total poly players revealed = (total == length players) && not (length players == 0) && (length poly == quorum_of total) && all_in revealed players

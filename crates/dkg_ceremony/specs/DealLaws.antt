@@ -7,8 +7,8 @@ use Rattle.std.proofs.Math.Nat.{max-eq_left}
 use Rattle.std.proofs.lemmas.Bool.{cases_Bool, eq-eqb, eqb-true}
 use Rattle.std.proofs.lemmas.List.{take_all}
 use Rattle.std.proofs.lemmas.List.FromFn.{length-map-range_with_len}
-use Rattle.dkg_values.specs.Rising.{IsSet, keys_of, lookup, place_of}
-use Rattle.dkg_values.specs.Places.{place_of-Contains}
+use Rattle.dkg_values.specs.Rising.{IsSet, keys_of, lookup, index_of}
+use Rattle.dkg_values.specs.IndexLaws.{index_of-Contains}
 use Rattle.dkg_ceremony.specs.declared.round.RoundParts.{RoundParts as Round}
 use Rattle.dkg_ceremony.specs.declared.output.Output.{Output}
 use Rattle.dkg_ceremony.specs.declared.deal.DealError.TheVariants.{ShareRefused}
@@ -18,20 +18,20 @@ use Rattle.dkg_ceremony.specs.Dealings.{dealing_of, fits_at, reshares}
 use Rattle.dkg_ceremony.specs.PartialPublics.{partial_public_of, share_public_of}
 use Rattle.dkg_ceremony.specs.Deals.{again_of, both_halves, deal_of, dealt_at, dealt_length, dealt_poly, halves_from, is_share_of}
 
-pub keys_of_halves : (poly : List ℕ) (place : ℕ) (players : List ℕ) → keys_of (halves_from poly place players) ≡ players
-keys_of_halves poly place [] = refl
-keys_of_halves poly place (player ∷ players) = ap (λ (ks : List ℕ). player ∷ ks) (keys_of_halves poly (place + 1) players)
+pub keys_of_halves : (poly : List ℕ) (index : ℕ) (players : List ℕ) → keys_of (halves_from poly index players) ≡ players
+keys_of_halves poly index [] = refl
+keys_of_halves poly index (player ∷ players) = ap (λ (ks : List ℕ). player ∷ ks) (keys_of_halves poly (index + 1) players)
 
-length_halves : (poly : List ℕ) (place : ℕ) (players : List ℕ) → length (halves_from poly place players) ≡ length players
-length_halves poly place [] = refl
-length_halves poly place (player ∷ players) = ap suc (length_halves poly (place + 1) players)
+length_halves : (poly : List ℕ) (index : ℕ) (players : List ℕ) → length (halves_from poly index players) ≡ length players
+length_halves poly index [] = refl
+length_halves poly index (player ∷ players) = ap suc (length_halves poly (index + 1) players)
 
-halves_step : (poly : List ℕ) (place : ℕ) (players : List ℕ) (i d : ℕ) → i < length players → halves_from poly place (take (suc i) players) ≡ halves_from poly place (take i players) ++ (get_or players i d, value_at poly (place + i + 1)) ∷ []
-halves_step poly place [] i d lt = absurd (omega arith)
-halves_step poly place (player ∷ players) zero d lt = ap (λ (x : ℕ). (player, value_at poly (x + 1)) ∷ []) (omega arith)
-halves_step poly place (player ∷ players) (suc i) d lt =
-    let next : place + suc i ≡ place + 1 + i = omega arith in
-    ap (λ (ps : List (ℕ × ℕ)). (player, value_at poly (place + 1)) ∷ ps) (halves_step poly (place + 1) players i d (omega arith) ∙ ap (λ (x : ℕ). halves_from poly (place + 1) (take i players) ++ (get_or players i d, value_at poly (x + 1)) ∷ []) (sym next))
+halves_step : (poly : List ℕ) (index : ℕ) (players : List ℕ) (i d : ℕ) → i < length players → halves_from poly index (take (suc i) players) ≡ halves_from poly index (take i players) ++ (get_or players i d, value_at poly (index + i + 1)) ∷ []
+halves_step poly index [] i d lt = absurd (omega arith)
+halves_step poly index (player ∷ players) zero d lt = ap (λ (x : ℕ). (player, value_at poly (x + 1)) ∷ []) (omega arith)
+halves_step poly index (player ∷ players) (suc i) d lt =
+    let next : index + suc i ≡ index + 1 + i = omega arith in
+    ap (λ (ps : List (ℕ × ℕ)). (player, value_at poly (index + 1)) ∷ ps) (halves_step poly (index + 1) players i d (omega arith) ∙ ap (λ (x : ℕ). halves_from poly (index + 1) (take i players) ++ (get_or players i d, value_at poly (x + 1)) ∷ []) (sym next))
 
 -- the private half of one player more
 pub halves_more : (poly players : List ℕ) (i player value : ℕ) → i < length players → player ≡ get_or players i player → value ≡ value_at poly (i + 1) → halves_from poly 0 (take (i + 1) players) ≡ halves_from poly 0 (take i players) ++ (player, value) ∷ []
@@ -56,30 +56,30 @@ are_halves poly players pairs i kept le is =
 
 -- ---- what is dealt passes the check
 
-pub found_place : (o : Option ℕ) → is_some o ≡ true → (place : ℕ) × (o ≡ Some place)
-found_place None e = absurd cc
-found_place (Some place) e = (place, refl)
+pub found_index : (o : Option ℕ) → is_some o ≡ true → (index : ℕ) × (o ≡ Some index)
+found_index None e = absurd cc
+found_index (Some index) e = (index, refl)
 
-place_is : (key : ℕ) (keys : List ℕ) → Contains keys key → (place : ℕ) × (place_of key keys ≡ Some place)
-place_is key keys c = found_place (place_of key keys) (place_of-Contains key keys c)
+index_is : (key : ℕ) (keys : List ℕ) → Contains keys key → (index : ℕ) × (index_of key keys ≡ Some index)
+index_is key keys c = found_index (index_of key keys) (index_of-Contains key keys c)
 
-half_at : (poly : List ℕ) (base : ℕ) (players : List ℕ) (player place : ℕ) → position_from (λ x. eqb x player) base players ≡ Some place → lookup player (halves_from poly base players) ≡ Some (value_at poly (place + 1))
-half_at poly base [] player place e = absurd cc
-half_at poly base (x ∷ xs) player place e =
+half_at : (poly : List ℕ) (base : ℕ) (players : List ℕ) (player index : ℕ) → position_from (λ x. eqb x player) base players ≡ Some index → lookup player (halves_from poly base players) ≡ Some (value_at poly (index + 1))
+half_at poly base [] player index e = absurd cc
+half_at poly base (x ∷ xs) player index e =
     elim (cases_Bool (eqb x player)) [
       | inl here ↦
-          let at : Some base ≡ Some place = rw here at e in
-          let same : base ≡ place = cc in
+          let at : Some base ≡ Some index = rw here at e in
+          let same : base ≡ index = cc in
           rw here (ap (λ (n : ℕ). Some (value_at poly (n + 1))) same)
-      | inr other ↦ rw other (half_at poly (base + 1) xs player place (rw other at e))
+      | inr other ↦ rw other (half_at poly (base + 1) xs player index (rw other at e))
     ]
 
 -- the check, part by part
 pub record DealingPasses (round : Round) (me dealer : ℕ) (public : List ℕ) (private : ℕ) : Type 0 where
-  pub dealer_there : is_some (place_of dealer round.dealers) ≡ true
+  pub dealer_there : is_some (index_of dealer round.dealers) ≡ true
   pub degree : length public ≡ quorum_of (length round.players)
   pub again : reshares round.previous dealer public ≡ true
-  pub fits : fits_at (place_of me round.players) public private ≡ true
+  pub fits : fits_at (index_of me round.players) public private ≡ true
 
 pub dealing_passes : (round : Round) (me dealer : ℕ) (public : List ℕ) (private : ℕ) → DealingPasses round me dealer public private → dealing_of round me dealer public private ≡ Ok tt
 unfolding dealing_of
@@ -103,17 +103,17 @@ halves_pass : (round : Round) (signer : ℕ) (share : Option ℕ) (seed : List �
 halves_pass round signer share seed is_dealer ok me (k, lt, is) =
     let count = dealt_length (length round.players) in
     let poly = dealt_poly (again_of round.previous share) seed count in
-    let place = place_is me round.players (k, lt, is) in
+    let index = index_is me round.players (k, lt, is) in
     let some : 0 < quorum_of (length round.players) = omega arith in
     let enough : dealt_length (length round.players) ≡ quorum_of (length round.players) = let least : 1 ≤ quorum_of (length round.players) = omega arith in max-eq_left least in
     let more : 0 < count = omega (arith, enough, some) in
-    let passes : dealing_of round me signer poly (value_at poly (place.0 + 1)) ≡ Ok tt = dealing_passes round me signer poly (value_at poly (place.0 + 1)) (record {
-      dealer_there = place_of-Contains signer round.dealers is_dealer;
+    let passes : dealing_of round me signer poly (value_at poly (index.0 + 1)) ≡ Ok tt = dealing_passes round me signer poly (value_at poly (index.0 + 1)) (record {
+      dealer_there = index_of-Contains signer round.dealers is_dealer;
       degree = length-map-range_with_len (dealt_at (again_of round.previous share) seed) 0 count ∙ enough;
       again = dealt_again round.previous signer share seed count more ok;
-      fits = rw (place.1) (eq-eqb (value_at poly (place.0 + 1)) (value_at poly (place.0 + 1)) refl);
+      fits = rw (index.1) (eq-eqb (value_at poly (index.0 + 1)) (value_at poly (index.0 + 1)) refl);
     }) in
-    rw (half_at poly 0 round.players me place.0 place.1) passes
+    rw (half_at poly 0 round.players me index.0 index.1) passes
 
 deal_where : (round : Round) (signer : ℕ) (share : Option ℕ) (seed : List ℕ) → Contains round.dealers signer → (b : Bool) → is_share_of round.previous signer share ≡ b
     → IfOk (cond (not b) (Err ShareRefused) (Ok (both_halves (dealt_poly (again_of round.previous share) seed (dealt_length (length round.players))) round.players))) (λ d. (me : ℕ) → Contains round.players me → IsSomeAnd (lookup me d.1) (λ private. dealing_of round me signer d.0 private ≡ Ok tt))
@@ -151,9 +151,9 @@ deals_are_short round signer share seed = short_where round (again_of round.prev
 
 -- ---- who may deal
 
-held : (o : Output) (signer share : ℕ) → (place : Option ℕ) → (fits_at place o.sharing.poly share ≡ true) ↔ (option_map (λ n. value_at o.sharing.poly (n + 1)) place ≡ Some share)
+held : (o : Output) (signer share : ℕ) → (index : Option ℕ) → (fits_at index o.sharing.poly share ≡ true) ↔ (option_map (λ n. value_at o.sharing.poly (n + 1)) index ≡ Some share)
 held o signer share None = (λ e. absurd cc, λ e. absurd cc)
-held o signer share (Some place) = (λ e. ap (λ (n : ℕ). Some n) (sym (eqb-true share (value_at o.sharing.poly (place + 1)) e)), λ e. eq-eqb share (value_at o.sharing.poly (place + 1)) (let same : value_at o.sharing.poly (place + 1) ≡ share = cc in sym same))
+held o signer share (Some index) = (λ e. ap (λ (n : ℕ). Some n) (sym (eqb-true share (value_at o.sharing.poly (index + 1)) e)), λ e. eq-eqb share (value_at o.sharing.poly (index + 1)) (let same : value_at o.sharing.poly (index + 1) ≡ share = cc in sym same))
 
 abbrev pub HasShare : Option Output → (signer : ℕ) → Option ℕ → Type 0
 HasShare previous signer share = IfSome previous (λ o. IsSomeAnd share (λ s. partial_public_of o signer ≡ Some (share_public_of s)))
@@ -162,7 +162,7 @@ has_share : (previous : Option Output) (signer : ℕ) (share : Option ℕ) → (
 unfolding partial_public_of
 has_share None signer share = (λ e. tt, λ h. refl)
 has_share (Some o) signer None = (λ e. absurd cc, λ h. absurd h)
-has_share (Some o) signer (Some share) = held o signer share (place_of signer o.players)
+has_share (Some o) signer (Some share) = held o signer share (index_of signer o.players)
 
 not_refused : (b : Bool) (dealt : Deal) → (cond (not b) (Err ShareRefused) (Ok dealt) ≡ Err ShareRefused → ⊥) ↔ (b ≡ true)
 not_refused true dealt = (λ h. refl, λ e is. cc)

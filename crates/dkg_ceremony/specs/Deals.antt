@@ -3,7 +3,7 @@ use Rattle.std.specs.Prelude.{◌≡◌, ℕ, ◌+◌, ◌%◌, ◌==◌, not, B
 use Rattle.std.specs.Int.{w16, w32, w64, to_be_bytes, from_be_bytes}
 use Rattle.std.specs.List.{range_with_len}
 use Rattle.sha2.specs.Sha256.{sha256}
-use Rattle.dkg_values.specs.Rising.{place_of}
+use Rattle.dkg_values.specs.Rising.{index_of}
 use Rattle.dkg_ceremony.specs.declared.round.RoundParts.{RoundParts as Round}
 use Rattle.dkg_ceremony.specs.declared.output.Output.{Output}
 use Rattle.dkg_ceremony.specs.declared.deal.DealError.{DealError}
@@ -28,16 +28,16 @@ dealt_at (Some share) seed index = if index == 0 then share else coefficient_of 
 abbrev pub dealt_poly : Option ℕ → List ℕ → ℕ → List ℕ
 dealt_poly share seed count = map (dealt_at share seed) (range_with_len 0 count)
 
--- the private half of each player, the first of whom stands at the place
-abbrev pub halves_from : List ℕ → (place : ℕ) → List ℕ → List (ℕ × ℕ)
-halves_from poly place [] = []
-halves_from poly place (player ∷ players) = (player, value_at poly (place + 1)) ∷ halves_from poly (place + 1) players
+-- the private half of each player, the first of whom stands at the index
+abbrev pub halves_from : List ℕ → (index : ℕ) → List ℕ → List (ℕ × ℕ)
+halves_from poly index [] = []
+halves_from poly index (player ∷ players) = (player, value_at poly (index + 1)) ∷ halves_from poly (index + 1) players
 
 -- Whether the share is the dealer's of the previous output. A new key needs none.
 abbrev pub is_share_of : Option Output → (dealer : ℕ) → Option ℕ → Bool
 is_share_of None dealer share = true
 is_share_of (Some o) dealer None = false
-is_share_of (Some o) dealer (Some share) = fits_at (place_of dealer o.players) o.sharing.poly share
+is_share_of (Some o) dealer (Some share) = fits_at (index_of dealer o.players) o.sharing.poly share
 
 -- what is dealt again
 abbrev pub again_of : Option Output → Option ℕ → Option ℕ

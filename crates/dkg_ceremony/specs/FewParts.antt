@@ -3,17 +3,17 @@ use Rattle.std.proofs.Common.{ℕ, ◌≤◌, List, [], ◌∷◌, length, inl, 
 use Rattle.std.specs.Prelude.{IsTrue, Contains, is_some}
 use Rattle.std.proofs.lemmas.Bool.{and_parts}
 use Rattle.dkg_values.specs.Among.{first_or_later, few_among}
-use Rattle.dkg_values.specs.Places.{Contains-place_of}
-use Rattle.dkg_values.specs.Rising.{IsSet, place_of}
+use Rattle.dkg_values.specs.IndexLaws.{Contains-index_of}
+use Rattle.dkg_values.specs.Rising.{IsSet, index_of}
 use Rattle.dkg_ceremony.specs.Agreement.{all_in, PartsAgree}
 
 -- those that are all in others are each contained
 contained : (xs ys : List ℕ) → IsTrue (all_in xs ys) → (x : ℕ) → Contains xs x → Contains ys x
 contained [] ys h x (k, lt, is) = absurd (omega arith)
 contained (z ∷ zs) ys h x c =
-    let p = and_parts (is_some (place_of z ys)) (all_in zs ys) h in
+    let p = and_parts (is_some (index_of z ys)) (all_in zs ys) h in
     elim (first_or_later z zs x c) [
-      | inl e ↦ subst (λ (w : ℕ). Contains ys w) (sym e) (Contains-place_of z ys p.0)
+      | inl e ↦ subst (λ (w : ℕ). Contains ys w) (sym e) (Contains-index_of z ys p.0)
       | inr later ↦ contained zs ys p.1 x later
     ]
 

@@ -49,10 +49,10 @@ pub use Rattle.dkg_values.specs.Bytes
 pub use Rattle.dkg_values.specs.Codec
 pub use Rattle.dkg_values.specs.Fits
 pub use Rattle.dkg_values.specs.Grammar
+pub use Rattle.dkg_values.specs.IndexLaws
 pub use Rattle.dkg_values.specs.Joined
 pub use Rattle.dkg_values.specs.ListGrammar
 pub use Rattle.dkg_values.specs.Lists
-pub use Rattle.dkg_values.specs.Places
 pub use Rattle.dkg_values.specs.Rising
 pub use Rattle.dkg_values.specs.RisingLaws
 pub use Rattle.dkg_values.specs.Sizes

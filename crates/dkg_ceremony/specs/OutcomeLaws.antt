@@ -25,15 +25,15 @@ under : (b : Bool) (p : ℕ) (xs ys : List ℕ) → cond b (p ∷ xs) xs ++ ys �
 under true p xs ys = refl
 under false p xs ys = refl
 
-revealed_turn : (logs : LogMap) (selected : List ℕ) (place : ℕ) (players : List ℕ) (i d : ℕ) → i < length players
-    → revealed_from logs selected place (take (suc i) players) ≡ revealed_from logs selected place (take i players) ++ kept_if (list_any (reveals_at logs (place + i)) selected) (get_or players i d)
-revealed_turn logs selected place [] i d lt = absurd (omega arith)
-revealed_turn logs selected place (p ∷ ps) zero d lt =
-    ap (λ (n : ℕ). cond (list_any (reveals_at logs n) selected) (p ∷ []) []) (omega arith) ∙ one (list_any (reveals_at logs (place + 0)) selected) p
-revealed_turn logs selected place (p ∷ ps) (suc i) d lt =
-    let next : place + 1 + i ≡ place + suc i = omega arith in
-    let h = revealed_turn logs selected (place + 1) ps i d (omega arith) ∙ ap (λ (n : ℕ). revealed_from logs selected (place + 1) (take i ps) ++ kept_if (list_any (reveals_at logs n) selected) (get_or ps i d)) next in
-    ap (λ (xs : List ℕ). cond (list_any (reveals_at logs place) selected) (p ∷ xs) xs) h ∙ sym (under (list_any (reveals_at logs place) selected) p (revealed_from logs selected (place + 1) (take i ps)) (kept_if (list_any (reveals_at logs (place + suc i)) selected) (get_or ps i d)))
+revealed_turn : (logs : LogMap) (selected : List ℕ) (index : ℕ) (players : List ℕ) (i d : ℕ) → i < length players
+    → revealed_from logs selected index (take (suc i) players) ≡ revealed_from logs selected index (take i players) ++ kept_if (list_any (reveals_at logs (index + i)) selected) (get_or players i d)
+revealed_turn logs selected index [] i d lt = absurd (omega arith)
+revealed_turn logs selected index (p ∷ ps) zero d lt =
+    ap (λ (n : ℕ). cond (list_any (reveals_at logs n) selected) (p ∷ []) []) (omega arith) ∙ one (list_any (reveals_at logs (index + 0)) selected) p
+revealed_turn logs selected index (p ∷ ps) (suc i) d lt =
+    let next : index + 1 + i ≡ index + suc i = omega arith in
+    let h = revealed_turn logs selected (index + 1) ps i d (omega arith) ∙ ap (λ (n : ℕ). revealed_from logs selected (index + 1) (take i ps) ++ kept_if (list_any (reveals_at logs n) selected) (get_or ps i d)) next in
+    ap (λ (xs : List ℕ). cond (list_any (reveals_at logs index) selected) (p ∷ xs) xs) h ∙ sym (under (list_any (reveals_at logs index) selected) p (revealed_from logs selected (index + 1) (take i ps)) (kept_if (list_any (reveals_at logs (index + suc i)) selected) (get_or ps i d)))
 
 revealed_more : (logs : LogMap) (selected players : List ℕ) (i d : ℕ) → i < length players
     → revealed_from logs selected 0 (take (i + 1) players) ≡ revealed_from logs selected 0 (take i players) ++ kept_if (list_any (reveals_at logs i) selected) (get_or players i d)
@@ -50,11 +50,11 @@ pub revealed_no : (logs : LogMap) (selected players : List ℕ) (i : ℕ) → i 
 revealed_no logs selected players i lt e =
     revealed_more logs selected players i 0 lt ∙ ap (λ (b : Bool). revealed_from logs selected 0 (take i players) ++ kept_if b (get_or players i 0)) e ∙ append-nil (revealed_from logs selected 0 (take i players))
 
-pub revealed_few : (logs : LogMap) (selected : List ℕ) (place : ℕ) (players : List ℕ) → length (revealed_from logs selected place players) ≤ length players
-revealed_few logs selected place [] = omega arith
-revealed_few logs selected place (p ∷ ps) =
-    let h = revealed_few logs selected (place + 1) ps in
-    elim (list_any (reveals_at logs place) selected) as (λ b. length (cond b (p ∷ revealed_from logs selected (place + 1) ps) (revealed_from logs selected (place + 1) ps)) ≤ suc (length ps)) [ true ↦ omega arith | false ↦ omega arith ]
+pub revealed_few : (logs : LogMap) (selected : List ℕ) (index : ℕ) (players : List ℕ) → length (revealed_from logs selected index players) ≤ length players
+revealed_few logs selected index [] = omega arith
+revealed_few logs selected index (p ∷ ps) =
+    let h = revealed_few logs selected (index + 1) ps in
+    elim (list_any (reveals_at logs index) selected) as (λ b. length (cond b (p ∷ revealed_from logs selected (index + 1) ps) (revealed_from logs selected (index + 1) ps)) ≤ suc (length ps)) [ true ↦ omega arith | false ↦ omega arith ]
 
 -- ---- the output of parts
 

@@ -42,13 +42,13 @@ public_in logs dealer = option_map_or (λ log. log.public) (lookup dealer logs) 
 unfoldable pub sum_of : Round → LogMap → List ℕ → List ℕ
 sum_of round logs selected = weighted_sum (quorum_of (length round.players)) (zip (weights_of round.previous selected) (map (public_in logs) selected))
 
-abbrev pub reveals_at : LogMap → (place dealer : ℕ) → Bool
-reveals_at logs place dealer = option_map_or (λ log. option_map_or is_reveal (slice_get log.entries place) false) (lookup dealer logs) false
+abbrev pub reveals_at : LogMap → (index dealer : ℕ) → Bool
+reveals_at logs index dealer = option_map_or (λ log. option_map_or is_reveal (slice_get log.entries index) false) (lookup dealer logs) false
 
--- the players that a selected log reveals, of those the first of whom stands at the place
-abbrev pub revealed_from : LogMap → List ℕ → (place : ℕ) → List ℕ → List ℕ
-revealed_from logs selected place [] = []
-revealed_from logs selected place (player ∷ players) = if list_any (reveals_at logs place) selected then player ∷ revealed_from logs selected (place + 1) players else revealed_from logs selected (place + 1) players
+-- the players that a selected log reveals, of those the first of whom stands at the index
+abbrev pub revealed_from : LogMap → List ℕ → (index : ℕ) → List ℕ → List ℕ
+revealed_from logs selected index [] = []
+revealed_from logs selected index (player ∷ players) = if list_any (reveals_at logs index) selected then player ∷ revealed_from logs selected (index + 1) players else revealed_from logs selected (index + 1) players
 
 unfoldable pub revealed_of : Round → LogMap → List ℕ → List ℕ
 revealed_of round logs selected = set_of (revealed_from logs selected 0 round.players)

@@ -3,7 +3,7 @@ use Rattle.std.specs.Prelude.{ℕ, ◌+◌, ◌==◌, ◌&&◌, ◌||◌, nat_le
 use Rattle.std.specs.List.{slice_get, count_by}
 use Rattle.std.specs.Option.{option_map_or}
 use Rattle.std.specs.Str.{bytes_eq}
-use Rattle.dkg_values.specs.Rising.{lookup, place_of}
+use Rattle.dkg_values.specs.Rising.{lookup, index_of}
 use Rattle.dkg_ceremony.specs.declared.sign.Domain.TheVariants as domains
 use Rattle.dkg_ceremony.specs.declared.round.RoundParts.{RoundParts as Round}
 use Rattle.dkg_ceremony.specs.declared.log_entry.LogEntry.{LogEntry}
@@ -25,16 +25,16 @@ is_reveal (Ack ack) = false
 is_reveal (Reveal private) = true
 
 -- whether an entry is its player's acknowledgement of the content, or the player's private half
-abbrev pub entry_passes : (content : List ℕ) → List ℕ → (place player : ℕ) → LogEntry → Bool
-entry_passes content public place player (Ack ack) = bytes_eq (mark_of player domains.Ack content) ack
-entry_passes content public place player (Reveal private) = private == value_at public (place + 1)
+abbrev pub entry_passes : (content : List ℕ) → List ℕ → (index player : ℕ) → LogEntry → Bool
+entry_passes content public index player (Ack ack) = bytes_eq (mark_of player domains.Ack content) ack
+entry_passes content public index player (Reveal private) = private == value_at public (index + 1)
 
--- whether each entry passes, one for each player, the first of whom stands at the place
-abbrev pub entries_pass : (content : List ℕ) → List ℕ → (place : ℕ) → List ℕ → List LogEntry → Bool
-entries_pass content public place [] [] = true
-entries_pass content public place [] (entry ∷ entries) = false
-entries_pass content public place (player ∷ players) [] = false
-entries_pass content public place (player ∷ players) (entry ∷ entries) = entry_passes content public place player entry && entries_pass content public (place + 1) players entries
+-- whether each entry passes, one for each player, the first of whom stands at the index
+abbrev pub entries_pass : (content : List ℕ) → List ℕ → (index : ℕ) → List ℕ → List LogEntry → Bool
+entries_pass content public index [] [] = true
+entries_pass content public index [] (entry ∷ entries) = false
+entries_pass content public index (player ∷ players) [] = false
+entries_pass content public index (player ∷ players) (entry ∷ entries) = entry_passes content public index player entry && entries_pass content public (index + 1) players entries
 
 -- Whether a dealer's log may be a part of the outcome.
 unfoldable pub is_valid : Round → (dealer : ℕ) → DealerLog → Bool
@@ -48,11 +48,11 @@ abbrev pub ack_in : LogEntry → Option (List ℕ)
 ack_in (Ack ack) = Some ack
 ack_in (Reveal private) = None
 
--- what stands at a player's place
+-- what stands at a player's index
 abbrev pub entry_of : List ℕ → ℕ → DealerLog → Option LogEntry
-entry_of players player log = option_and_then (slice_get log.entries) (place_of player players)
+entry_of players player log = option_and_then (slice_get log.entries) (index_of player players)
 
--- what stands at a player's place, where it is an acknowledgement
+-- what stands at a player's index, where it is an acknowledgement
 abbrev pub ack_at : List ℕ → ℕ → DealerLog → Option (List ℕ)
 ack_at players player log = option_and_then ack_in (entry_of players player log)
 
@@ -67,7 +67,7 @@ unfoldable pub log_content : Round → DealerLog → List ℕ
 log_content round log = round_bytes round ++ log_spelling log
 
 unfoldable pub check_log_of : Round → SignedDealerLog → Bool
-check_log_of round signed = is_some (place_of signed.dealer round.dealers) && bytes_eq (mark_of signed.dealer domains.Log (log_content round signed.log)) signed.mark
+check_log_of round signed = is_some (index_of signed.dealer round.dealers) && bytes_eq (mark_of signed.dealer domains.Log (log_content round signed.log)) signed.mark
 
 -- whether there is something to write for a player
 abbrev pub has_entry : List (ℕ × ℕ) → List (ℕ × List ℕ) → ℕ → Bool

@@ -2,7 +2,7 @@
 use Rattle.std.specs.Prelude.{ℕ, ◌+◌, ◌-◌, ◌*◌, ◌%◌, ◌^◌, ◌==◌, List, map, Option, Some, None, if◌then◌else◌}
 use Rattle.std.specs.List.{fold}
 use Rattle.std.specs.Option.{option_map_or}
-use Rattle.dkg_values.specs.Rising.{place_of}
+use Rattle.dkg_values.specs.Rising.{index_of}
 use Rattle.dkg_ceremony.specs.declared.output.Output.{Output}
 use Rattle.dkg_ceremony.specs.Polynomials.{prime}
 
@@ -10,9 +10,9 @@ use Rattle.dkg_ceremony.specs.Polynomials.{prime}
 unfoldable pub inverse_of : ℕ → ℕ
 inverse_of x = x ^ 65519 % prime
 
--- the point of a key among keys: its place and one, and 0 where it is none of them
+-- the point of a key among keys: its index and one, and 0 where it is none of them
 abbrev pub point_in : List ℕ → ℕ → ℕ
-point_in keys key = option_map_or (λ place. place + 1) (place_of key keys) 0
+point_in keys key = option_map_or (λ index. index + 1) (index_of key keys) 0
 
 -- one number less another, modulo the prime
 abbrev pub less : ℕ → ℕ → ℕ

@@ -77,25 +77,25 @@ fn sum(
     Ok(Public::new(alloc, sum)?)
 }
 
-/// Whether a dealer's log reveals the player at a place.
-fn reveals(logs: &Map<DealerLog>, place: u32, dealer: Key) -> bool
-    ensures { result ≡ reveals_at logs.now place dealer }
+/// Whether a dealer's log reveals the player at an index.
+fn reveals(logs: &Map<DealerLog>, index: u32, dealer: Key) -> bool
+    ensures { result ≡ reveals_at logs.now index dealer }
 {
     match logs.get(dealer) {
         None => false,
-        Some(log) => match log.entries.as_slice().get(place as usize) {
+        Some(log) => match log.entries.as_slice().get(index as usize) {
             Some(LogEntry::Reveal(_)) => true,
             _ => false,
         },
     }
 }
 
-/// Whether a selected log reveals the player at a place.
-fn is_revealed(logs: &Map<DealerLog>, selected: &[Key], place: u32) -> bool
-    ensures { result ≡ list_any (reveals_at logs.now place) selected.now }
+/// Whether a selected log reveals the player at an index.
+fn is_revealed(logs: &Map<DealerLog>, selected: &[Key], index: u32) -> bool
+    ensures { result ≡ list_any (reveals_at logs.now index) selected.now }
 {
     for dealer in selected {
-        if reveals(logs, place, *dealer) {
+        if reveals(logs, index, *dealer) {
             return true;
         }
     }
@@ -114,9 +114,9 @@ fn revealed_players(
 {
     let mut revealed = Vec::new(alloc);
     let keys = players.as_slice();
-    for place in 0..players.len() {
-        if is_revealed(logs, selected, place) {
-            revealed.push(keys[place as usize])?;
+    for index in 0..players.len() {
+        if is_revealed(logs, selected, index) {
+            revealed.push(keys[index as usize])?;
         }
     }
     Ok(revealed)

@@ -116,9 +116,9 @@ fn halves(alloc: Global, poly: &Public, players: &Set) -> Mem<Map<Private>>
 {
     let mut pairs = Vec::new(alloc);
     let keys = players.as_slice();
-    for place in 0..players.len() {
-        let private = Private(element_of(value_of(poly, place)));
-        pairs.push((keys[place as usize], private))?;
+    for index in 0..players.len() {
+        let private = Private(element_of(value_of(poly, index)));
+        pairs.push((keys[index as usize], private))?;
     }
     match Map::from_sorted(pairs) {
         Ok(map) => Ok(map),

@@ -1,10 +1,10 @@
 //! Polynomials at the points of participants.
 //!
-//! The stand-in ceremony checks dealings with them, and a signing desk partials. A participant's point is its place, from 0, and one.
+//! The stand-in ceremony checks dealings with them, and a signing desk partials. A participant's point is its index, from 0, and one.
 ghost use Rattle.std.specs.Prelude.{◌≡◌, ℕ, ◌+◌, ◌<◌, ◌≤◌, ◌^◌, drop, length, slice_index};
 ghost use Rattle.dkg_ceremony.specs.Polynomials.{eight_powers, value_at};
 ghost use Rattle.dkg_ceremony.specs.Dealings.{fits_at, reshares};
-ghost use Rattle.dkg_values.specs.Rising.{place_of};
+ghost use Rattle.dkg_values.specs.Rising.{index_of};
 
 use crate::output::Output;
 use crate::public::Public;
@@ -60,14 +60,14 @@ fn eight_more(elements: &[Element], i: usize, powers: &[u64; 8], value: u64) -> 
     (front + powers[7] * value) % 65521
 }
 
-/// A polynomial's value, modulo 65,521, at the point of a place, from 0, among participants.
+/// A polynomial's value, modulo 65,521, at the point of an index, from 0, among participants.
 #[tactic(auto, using(crate::specs::PolynomialLaws::value_end))]
-pub fn value_of(poly: &Public, place: u32) -> u32
-    ensures value { result ≡ value_at poly.now (place + 1) }
+pub fn value_of(poly: &Public, index: u32) -> u32
+    ensures value { result ≡ value_at poly.now (index + 1) }
     ensures below { result < 65521 }
 {
     let elements = poly.as_slice();
-    let point = u64::from(place) + 1;
+    let point = u64::from(index) + 1;
     let mut value = 0u64;
     let mut i = elements.len();
     while i % 8 > 0 {
@@ -86,11 +86,11 @@ pub fn value_of(poly: &Public, place: u32) -> u32
 
 /// Whether a value is the polynomial's at the point of one of the keys.
 pub(crate) fn fits(keys: &Set, key: Key, poly: &Public, value: Element) -> bool
-    ensures { result ≡ fits_at (place_of key keys.now) poly.now value }
+    ensures { result ≡ fits_at (index_of key keys.now) poly.now value }
 {
     match keys.position(key) {
         None => false,
-        Some(place) => u32::from(value.get()) == value_of(poly, place),
+        Some(index) => u32::from(value.get()) == value_of(poly, index),
     }
 }
 

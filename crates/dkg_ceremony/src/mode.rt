@@ -9,7 +9,7 @@ use bytes::{BufMut, BytesMut};
 use dkg_values::{CodecError, EncodeSize, Mem, Read, Reader, Spelled, Write};
 use std::alloc::Global;
 
-/// How a participant's place becomes its point.
+/// How a participant's index becomes its point.
 #[derive(Clone, Copy, Debug, PartialEq, Eq)]
 pub enum Mode {
     NonZeroCounter,

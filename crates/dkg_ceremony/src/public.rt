@@ -78,13 +78,13 @@ fn zero() -> Element
     }
 }
 
-/// The element at a place, and zero behind the last.
+/// The element at an index, and zero behind the last.
 #[tactic(auto, using(std::proofs::lemmas::List::get_or_past))]
-fn coefficient(elements: &[Element], place: usize) -> Element
-    ensures { result ≡ slice_index elements.now place }
+fn coefficient(elements: &[Element], index: usize) -> Element
+    ensures { result ≡ slice_index elements.now index }
 {
-    if place < elements.len() {
-        elements[place]
+    if index < elements.len() {
+        elements[index]
     } else {
         zero()
     }

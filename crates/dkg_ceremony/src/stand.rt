@@ -281,7 +281,7 @@ impl Ceremony for StandCeremony {
 
     #[tactic(auto, unfolding(crate::specs::PartialPublics::partial_public_of))]
     fn partial_public(&self, output: &Output, player: Key) -> Option<Element> {
-        let place = output.players.position(player)?;
-        Some(element_of(value_of(&output.sharing.poly, place)))
+        let index = output.players.position(player)?;
+        Some(element_of(value_of(&output.sharing.poly, index)))
     }
 }

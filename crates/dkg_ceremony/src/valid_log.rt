@@ -32,12 +32,12 @@ fn content_of(alloc: Global, round: &Round, dealer: Key, public: &Public) -> Mem
 }
 
 /// Whether an entry is its player's acknowledgement of the content, or the polynomial's value at the player's point.
-fn is_entry(content: &[u8], public: &Public, place: u32, player: Key, entry: &LogEntry) -> bool
-    ensures { result ≡ entry_passes content.now public.now place player entry.now }
+fn is_entry(content: &[u8], public: &Public, index: u32, player: Key, entry: &LogEntry) -> bool
+    ensures { result ≡ entry_passes content.now public.now index player entry.now }
 {
     match entry {
         LogEntry::Ack(ack) => mark_of(player, Domain::Ack, content) == ack.0,
-        LogEntry::Reveal(private) => u32::from(private.0.get()) == value_of(public, place),
+        LogEntry::Reveal(private) => u32::from(private.0.get()) == value_of(public, index),
     }
 }
 
@@ -47,9 +47,9 @@ fn are_entries(content: &[u8], public: &Public, players: &Set, entries: &[LogEnt
     ensures { result ≡ entries_pass content.now public.now 0 players.now entries.now }
 {
     let keys = players.as_slice();
-    for place in 0..players.len() {
-        let i = place as usize;
-        if !is_entry(content, public, place, keys[i], &entries[i]) {
+    for index in 0..players.len() {
+        let i = index as usize;
+        if !is_entry(content, public, index, keys[i], &entries[i]) {
             return false;
         }
     }
@@ -91,8 +91,8 @@ pub(crate) fn is_valid_log(alloc: Global, round: &Round, dealer: Key, log: &Deal
 pub(crate) fn entry_of(players: &Set, player: Key, log: &DealerLog) -> Option<LogEntry>
     ensures { result ≡ entry_from_log players.now player log.now }
 {
-    let place = players.position(player)?;
-    log.entries.as_slice().get(place as usize).copied()
+    let index = players.position(player)?;
+    log.entries.as_slice().get(index as usize).copied()
 }
 
 /// The acknowledgement that a log has for a player.

@@ -28,13 +28,13 @@ fn inverse(number: u32) -> u32
     power as u32
 }
 
-/// The point of a key among keys: its place and one, or 0.
+/// The point of a key among keys: its index and one, or 0.
 fn point(keys: &Set, key: Key) -> u32
     ensures { result ≡ point_in keys.now key }
 {
     let _count = keys.len();
     match keys.position(key) {
-        Some(place) => place + 1,
+        Some(index) => index + 1,
         None => 0,
     }
 }

@@ -53,8 +53,8 @@ module _ {Dir : Type 0} (c : Fixed Dir) (block : Block Dir) (st : Live Dir) wher
   applied_where true e = absurd (let no : ◌≡◌ {A = Judged} (Refusal HeightRange) Applied = e in cc)
   applied_where false e = applied_over st.tip refl e
 
-  pub place_of : judged_block c block st ≡ Applied → (b.is_in_window c block st ≡ true) ⊎ (awaited_height st ≡ block.height)
-  place_of accepted = applied_where (s.is_past_range c block.height) accepted
+  pub window_or_next : judged_block c block st ≡ Applied → (b.is_in_window c block st ≡ true) ⊎ (awaited_height st ≡ block.height)
+  window_or_next accepted = applied_where (s.is_past_range c block.height) accepted
 
 -- HOW IT IS JUDGED
 
@@ -177,7 +177,7 @@ module _ {Dir : Type 0} (c : Fixed Dir) (block : Block Dir) (st : Live Dir) (sta
       by_round (Some round) at = sym is ∙ stands.in_round round at ∙ ap (λ (height : ℕ). stage_in (phase_of c height)) next
 
   pub deals_below : st.participation.stage ≡ Deals → here × (block.height < middle)
-  deals_below is = either (place_of c block st accepted)
+  deals_below is = either (window_or_next c block st accepted)
     where
       low : b.is_early (phase_of c block.height) ≡ true → block.height < middle
       low e = below block.height middle (sym (early_test middle block.height) ∙ e)
@@ -189,7 +189,7 @@ module _ {Dir : Type 0} (c : Fixed Dir) (block : Block Dir) (st : Live Dir) (sta
       either (inr next) = let its = next_here Deals is deals_apart next in (its.0, low (early_deals (phase_of c block.height) its.1))
 
   pub includes_above : st.participation.stage ≡ Includes → here × (middle ≤ block.height)
-  includes_above is = either (place_of c block st accepted)
+  includes_above is = either (window_or_next c block st accepted)
     where
       high : b.is_early (phase_of c block.height) ≡ false → middle ≤ block.height
       high e = not_below block.height middle (sym (early_test middle block.height) ∙ e)

@@ -680,8 +680,8 @@ module _ {Dir : Type 0} (c : Fixed Dir) (form : IsFormThrough c) (stored : OfSha
             (subst (λ (t : Bool). IsReadAnswer c (if t then s.begins_inclusion c (with_tip block (given_itself c st)) else with_tip block (given_itself c st)) line) (sym e) its))
 
     module _ (is : st.participation.stage ≡ Includes) (round : Round) (of_round : st.participation.round ≡ Some round) where
-      place : (st.participation.epoch ≡ epoch_of c.blocks_per_epoch block.height) × (midpoint c.blocks_per_epoch (epoch_of c.blocks_per_epoch block.height) ≤ block.height)
-      place = includes_above c block st live.stands accepted is
+      located : (st.participation.epoch ≡ epoch_of c.blocks_per_epoch block.height) × (midpoint c.blocks_per_epoch (epoch_of c.blocks_per_epoch block.height) ≤ block.height)
+      located = includes_above c block st live.stands accepted is
 
       log_says : (log : SignedDealerLog) (accepted kept : Bool)
           → SaysSo {Dir = Dir} P (if accepted then bind (if kept then Goes st else d.appends round.number (carried_log_event log.dealer block.height log.log) (Goes (b.with_log_at round.number log.dealer block.height log.log st)))
@@ -701,8 +701,8 @@ module _ {Dir : Type 0} (c : Fixed Dir) (form : IsFormThrough c) (stored : OfSha
           so_known P (including.Never c round block st) (λ end left. (end ≡ observed c round block st) × including.Few c round block st None left) (b.observes c round block st (option_and_then its_log block.payload)) next
           (observes_say (option_and_then its_log block.payload)) (including.observes_comes c round block st None (option_and_then its_log block.payload))
           (λ end its. subst (λ (x : Live Dir). SaysSo P (next x)) (sym its.0)
-          (reads_so c form.form stored reads at (including.informed c form.form stored block st live is place.0 place.1 below round of_round)
-          (including.asked c form.form stored block st live is place.0 place.1 below round of_round at.inclusion.served) P
+          (reads_so c form.form stored reads at (including.informed c form.form stored block st live is located.0 located.1 below round of_round)
+          (including.asked c form.form stored block st live is located.0 located.1 below round of_round at.inclusion.served) P
           (λ line read. at_stage Includes is line (read_is_answer at line read) (subst (λ (t : Bool). IsFinalAnswer c st t block line) (sym below) (round, of_round, read)))))
 
       last_says : is_last_height c block.height ≡ true → SaysSo P (b.final_block c round block st)

@@ -219,8 +219,8 @@ module _ {Dir : Type 0} (c : Fixed Dir) (form : IsFormThrough c) (stored : OfSha
     -- WHILE DEALING
 
     module _ (is : st.participation.stage ≡ Deals) where
-      place : (st.participation.epoch ≡ epoch_of c.blocks_per_epoch block.height) × (block.height < midpoint c.blocks_per_epoch (epoch_of c.blocks_per_epoch block.height))
-      place = deals_below c block st live.stands accepted is
+      located : (st.participation.epoch ≡ epoch_of c.blocks_per_epoch block.height) × (block.height < midpoint c.blocks_per_epoch (epoch_of c.blocks_per_epoch block.height))
+      located = deals_below c block st live.stands accepted is
 
       abbrev mid : Live Dir
       mid = given_itself c st
@@ -254,7 +254,7 @@ module _ {Dir : Type 0} (c : Fixed Dir) (form : IsFormThrough c) (stored : OfSha
 
       goes_on : (block.height + 1 == midpoint c.blocks_per_epoch mid.participation.epoch) ≡ false → IsLiveThrough c stored tip
       goes_on e = record {
-        stands = dealing.goes_on c form.form block (unasked mid) stands (same.stage ∙ is) (same.same.epoch ∙ place.0) place.1 e;
+        stands = dealing.goes_on c form.form block (unasked mid) stands (same.stage ∙ is) (same.same.epoch ∙ located.0) located.1 e;
         informed = informed;
         asked = record {
           has = early_has c stored tip early.0 early.1 early.2 (has.waits early.0) has.served has.none;
@@ -272,7 +272,7 @@ module _ {Dir : Type 0} (c : Fixed Dir) (form : IsFormThrough c) (stored : OfSha
           comes =
               over_as (IsAskStop c begun) (IsAskStop c begun) (λ end last. (last ≡ left) × IsReadOn c stored begun end) Begun (advanced c begun) left (λ fault stop. stop)
               (λ end last its. (
-                live_read c stored begun end (dealing.begins c form.form block (unasked mid) stands (same.stage ∙ is) (same.same.epoch ∙ place.0) place.1 e) informed its.1,
+                live_read c stored begun end (dealing.begins c form.form block (unasked mid) stands (same.stage ∙ is) (same.same.epoch ∙ located.0) located.1 e) informed its.1,
                 read_from c stored begun end its.1,
               ))
               (advances_lead c stored begun left form.form (λ r at. absurd (none_apart r (sym early.1 ∙ at))) informed
@@ -330,10 +330,10 @@ module _ {Dir : Type 0} (c : Fixed Dir) (form : IsFormThrough c) (stored : OfSha
 
           comes : ComesOver (IsAskStop c st) (To Includes) (b.includes c round block st) devices
           comes =
-              let place = includes_above c block st live.stands accepted is in
+              let located = includes_above c block st live.stands accepted is in
               over_as (IsAskStop c st) (IsAskStop c st) (λ end left. IsLiveThrough c stored end × InRound st (λ round. IsReadFrom c (included_at round) end)) (To Includes) (b.includes c round block st) devices (λ fault stop. stop)
               (λ end left its. (its.0, subst (λ (t : Bool). IsIncludedThrough c stored block st devices t end left) (sym below) its.1))
-              (includes_comes c form.form stored block st live is place.0 place.1 below round of_epoch devices reads)
+              (includes_comes c form.form stored block st live is located.0 located.1 below round of_epoch devices reads)
 
           by_queue : (queue : List (Request Dir)) → st.inclusion.queue ≡ queue → ComesOver (Stop Includes) (To Includes) (b.includes c round block st) devices
           by_queue [] none = over_never (Any c) (IsAskStop c st) (Stop Includes) (To Includes) (b.includes c round block st) devices (includes_stay c round block st none devices) comes

@@ -30,7 +30,7 @@ use Rattle.dkg_core.specs.Endings.{ComesTo, CameTo, stage_in, answer_in}
 use Rattle.dkg_core.specs.NodeEndings.{IsFaultBy}
 use Rattle.dkg_core.specs.Forms.{IsForm, IsLiveIn, IsActiveIn, Judged, Refusal, Passed, Applied, judged_over_tip, judged_block, IsTakenIn, ComesOver, FindsHeld}
 use Rattle.dkg_core.specs.Stepping.{with_taken, held_at_setup, given_itself, NoOwnDiffers, dealt_behind, IsDealingStop, IsFollowedEnd, IsAppliedStop, IsBlockStop, IsAppliedEnd, IsBlockEnd, IsStepStop, IsNextIn, IsHeardBy, LeavesTaken, StepsLead, StepsLeadOver, HalvesGoOn, NodeStepsLead, NodeStepsLeadOver, IsSameLife, NextLivesStay}
-use Rattle.dkg_core.proofs.Applied.{place_of, judged_comes}
+use Rattle.dkg_core.proofs.Applied.{window_or_next, judged_comes}
 use Rattle.dkg_core.proofs.Behind.{heard_aside, block_aside}
 use Rattle.dkg_core.proofs.Counting.{comes_if}
 use Rattle.dkg_core.proofs.Heights.{next_below, below_middle, below_tip}
@@ -205,17 +205,17 @@ module _ {Dir : Type 0} (c : Fixed Dir) (form : IsForm c) (st : Live Dir) (live 
 
     -- so none is applied while including
     pub not_included : judged_block c block st ≡ Applied → st.participation.stage ≡ Includes → ⊥
-    not_included accepted includes = either (place_of c block st accepted) (taken accepted)
+    not_included accepted includes = either (window_or_next c block st accepted) (taken accepted)
       where
         either : (b.is_in_window c block st ≡ true) ⊎ (awaited_height st ≡ block.height)
             → (st.participation.stage ≡ Follows) ⊎ (block.height < midpoint c.blocks_per_epoch (epoch_of c.blocks_per_epoch block.height)) → ⊥
-        either place (inl follows) = includes_apart (sym includes ∙ follows)
+        either located (inl follows) = includes_apart (sym includes ∙ follows)
         either (inl e) (inr low) = window_outside e includes low
         either (inr next) (inr low) = tip_outside next includes low
 
     -- by where it lies
     applied_at : judged_block c block st ≡ Applied → ComesOver Stop To (b.applies c block st) devices
-    applied_at accepted = either (place_of c block st accepted)
+    applied_at accepted = either (window_or_next c block st accepted)
       where
         either : (b.is_in_window c block st ≡ true) ⊎ (awaited_height st ≡ block.height) → ComesOver Stop To (b.applies c block st) devices
         either (inl e) = applied accepted (window_here e) (window_outside e) st.participation.stage refl

@@ -2,7 +2,7 @@
 -- in a life), and the source that the step is lent.
 use Rattle.std.specs.Prelude.{ℕ, Bool, List, Option, Result, is_some}
 use Rattle.dkg_values.specs.Codec.{Reading}
-use Rattle.dkg_values.specs.Rising.{place_of}
+use Rattle.dkg_values.specs.Rising.{index_of}
 use Rattle.dkg_ceremony.specs.declared.mode.Mode.{Mode}
 use Rattle.dkg_ceremony.specs.declared.mode.Reveal.{Reveal}
 use Rattle.dkg_ceremony.specs.declared.round.RoundParts.{RoundParts as Round}
@@ -138,4 +138,4 @@ start c = position c.source.anchor
 
 -- whether a key is in a set
 abbrev pub has : List ℕ → ℕ → Bool
-has set key = is_some (place_of key set)
+has set key = is_some (index_of key set)

@@ -1,8 +1,8 @@
 -- Each key deals with its share, and each player finds a private half.
 use Rattle.std.proofs.Common.{◌≡◌, ℕ, true, List, Option, Some, None, Ok, Err, Result, refl, sym, ap, subst, ◌∙◌, map}
 use Rattle.std.specs.Prelude.{Contains, IfOk, IsSome, IsSomeAnd, is_some, option_map}
-use Rattle.dkg_values.specs.Places.{place_of-Contains}
-use Rattle.dkg_values.specs.Rising.{lookup, map_of, place_of}
+use Rattle.dkg_values.specs.IndexLaws.{index_of-Contains}
+use Rattle.dkg_values.specs.Rising.{lookup, map_of, index_of}
 use Rattle.dkg_ceremony.specs.declared.deal.DealError.{DealError}
 use Rattle.dkg_ceremony.specs.declared.deal.DealError.TheVariants.{ShareRefused}
 use Rattle.dkg_ceremony.specs.declared.output.Output.{Output}
@@ -21,8 +21,8 @@ nothing_mapped f (Some x) some none = cc
 pub has_share : (output : Output) (key : ℕ) → output.players ≡ everybody → Contains everybody key → partial_public_of output key ≡ None → ⊥
 unfolding partial_public_of
 has_share output key holders holder none =
-    let there : is_some (place_of key output.players) ≡ true = subst (λ (players : List ℕ). is_some (place_of key players) ≡ true) (sym holders) (place_of-Contains key everybody holder) in
-    nothing_mapped _ (place_of key output.players) there none
+    let there : is_some (index_of key output.players) ≡ true = subst (λ (players : List ℕ). is_some (index_of key players) ≡ true) (sym holders) (index_of-Contains key everybody holder) in
+    nothing_mapped _ (index_of key output.players) there none
 
 pub not_refused : (shown : Shown) (key share : ℕ) (seed : List ℕ) → partial_public_of shown.output key ≡ Some share → deal_of (round_after shown) key (Some share) seed ≡ Err ShareRefused → ⊥
 not_refused shown key share seed is refused = (shares_are_dealt (round_after shown) key (Some share) seed).1 is refused

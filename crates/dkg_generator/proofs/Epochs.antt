@@ -26,8 +26,8 @@ plan_blocks number epoch plan is =
     let its = epoch_is number epoch in
     cc
 
-pub plan_events : (number epoch place count : ℕ) (plan : Plan) → IsPlan number (made_info_at number epoch) plan → events_with plan.dealings.items plan.acks.items epoch place count ≡ events_from number (made_info_at number epoch) place count
-plan_events number epoch place count plan is =
+pub plan_events : (number epoch index count : ℕ) (plan : Plan) → IsPlan number (made_info_at number epoch) plan → events_with plan.dealings.items plan.acks.items epoch index count ≡ events_from number (made_info_at number epoch) index count
+plan_events number epoch index count plan is =
     let dealings = is.dealings in
     let acks = is.acks in
     let its = epoch_is number epoch in

@@ -76,13 +76,13 @@ next_of number shown = info_bytes (info_made_after number shown)
 unfoldable pub log_payloads : (number : ℕ) → Shown → List (List ℕ)
 log_payloads number shown = map log_bytes (logs_made number shown)
 
--- What the block at a place of an epoch carries: the last one the next info, and from the midpoint on each a log, as long as there are any.
-abbrev pub carried_at : (first : Option (List ℕ)) (next : List ℕ) (logs : List (List ℕ)) (place : ℕ) → Option (List ℕ)
-carried_at first next logs place =
-    if place == 0 then first
-    else if place == 63 then Some next
-    else if nat_lt place 32 then None
-    else slice_get logs (place - 32)
+-- What the block at an index of an epoch carries: the last one the next info, and from the midpoint on each a log, as long as there are any.
+abbrev pub carried_at : (first : Option (List ℕ)) (next : List ℕ) (logs : List (List ℕ)) (index : ℕ) → Option (List ℕ)
+carried_at first next logs index =
+    if index == 0 then first
+    else if index == 63 then Some next
+    else if nat_lt index 32 then None
+    else slice_get logs (index - 32)
 
 -- the number of the block below
 abbrev pub parent_of : (height : ℕ) → Option ℕ
@@ -92,12 +92,12 @@ parent_of (suc below) = Some below
 abbrev pub block_with : (height : ℕ) → Option (List ℕ) → BlockLine
 block_with height payload = record { height = height; parent = parent_of height; view = 0; payload = payload }
 
-abbrev pub block_at_place : (first : Option (List ℕ)) (next : List ℕ) (logs : List (List ℕ)) (epoch place : ℕ) → BlockLine
-block_at_place first next logs epoch place = block_with (epoch * 64 + place) (carried_at first next logs place)
+abbrev pub block_at_index : (first : Option (List ℕ)) (next : List ℕ) (logs : List (List ℕ)) (epoch index : ℕ) → BlockLine
+block_at_index first next logs epoch index = block_with (epoch * 64 + index) (carried_at first next logs index)
 
 -- the blocks of an epoch
 unfoldable pub blocks_with : (first : Option (List ℕ)) (next : List ℕ) (logs : List (List ℕ)) (epoch : ℕ) → List BlockLine
-blocks_with first next logs epoch = map (block_at_place first next logs epoch) (range_with_len 0 64)
+blocks_with first next logs epoch = map (block_at_index first next logs epoch) (range_with_len 0 64)
 
 abbrev pub blocks_of : (number : ℕ) → Shown → List BlockLine
 blocks_of number shown = blocks_with (first_payload shown) (next_of number shown) (log_payloads number shown) shown.epoch
@@ -136,25 +136,25 @@ acks_to number shown = if holds_share number shown.epoch then map (ack_from numb
 abbrev pub info_request_events : (epoch : ℕ) → List Event
 info_request_events epoch = Info (2 * epoch + 1) ∷ Feed (2 * epoch + 1) (epoch * 64 + 62) ∷ Work ∷ []
 
--- what follows the delivery of the block at a place of an epoch
-abbrev pub after_block : (dealings acks : List Sent) (epoch place : ℕ) → List Event
-after_block dealings acks epoch place =
-    if place == 1 then map peer_of dealings
-    else if place == 2 then map peer_of acks
-    else if place == 16 then map peer_of (take 1 dealings)
-    else if place == 39 then Next (2 * epoch) (epoch * 64 + 40) ∷ []
-    else if place == 62 then info_request_events epoch
+-- what follows the delivery of the block at an index of an epoch
+abbrev pub after_block : (dealings acks : List Sent) (epoch index : ℕ) → List Event
+after_block dealings acks epoch index =
+    if index == 1 then map peer_of dealings
+    else if index == 2 then map peer_of acks
+    else if index == 16 then map peer_of (take 1 dealings)
+    else if index == 39 then Next (2 * epoch) (epoch * 64 + 40) ∷ []
+    else if index == 62 then info_request_events epoch
     else []
 
-abbrev pub events_at : (dealings acks : List Sent) (epoch place : ℕ) → List Event
-events_at dealings acks epoch place = Final (epoch * 64 + place) ∷ after_block dealings acks epoch place
+abbrev pub events_at : (dealings acks : List Sent) (epoch index : ℕ) → List Event
+events_at dealings acks epoch index = Final (epoch * 64 + index) ∷ after_block dealings acks epoch index
 
--- what is delivered at so many places of an epoch from one on
-unfoldable pub events_with : (dealings acks : List Sent) (epoch place count : ℕ) → List Event
-events_with dealings acks epoch place count = flat_map (events_at dealings acks epoch) (range_with_len place count)
+-- what is delivered at so many indexes of an epoch from one on
+unfoldable pub events_with : (dealings acks : List Sent) (epoch index count : ℕ) → List Event
+events_with dealings acks epoch index count = flat_map (events_at dealings acks epoch) (range_with_len index count)
 
-abbrev pub events_from : (number : ℕ) → Shown → (place count : ℕ) → List Event
-events_from number shown place count = events_with (dealings_of number shown) (acks_to number shown) shown.epoch place count
+abbrev pub events_from : (number : ℕ) → Shown → (index count : ℕ) → List Event
+events_from number shown index count = events_with (dealings_of number shown) (acks_to number shown) shown.epoch index count
 
 -- THE LIVES
 

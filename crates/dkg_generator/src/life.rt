@@ -34,13 +34,13 @@ fn put_request(events: &mut Events, epoch: u64) -> Mem<()>
     events.push(&Event::Work)
 }
 
-/// What follows the delivery of the block at a place of an epoch.
-fn put_after(events: &mut Events, plan: &Plan, epoch: u64, place: u64) -> Mem<()>
+/// What follows the delivery of the block at an index of an epoch.
+fn put_after(events: &mut Events, plan: &Plan, epoch: u64, index: u64) -> Mem<()>
     requires epoch { epoch < 5 }
     requires some { 0 < vec_len plan.now.dealings }
-    ensures { OnOk result (events.new ≡ events.old ++ after_block_of plan.now.dealings.items plan.now.acks.items epoch place) }
+    ensures { OnOk result (events.new ≡ events.old ++ after_block_of plan.now.dealings.items plan.now.acks.items epoch index) }
 {
-    match place {
+    match index {
         1 => put_peers(events, &plan.dealings),
         2 => put_peers(events, &plan.acks),
         16 => put_peers(events, &plan.dealings[..1]),
@@ -53,7 +53,7 @@ fn put_after(events: &mut Events, plan: &Plan, epoch: u64, place: u64) -> Mem<()
     }
 }
 
-/// Delivers the blocks at so many places of an epoch from one on, each with what follows it.
+/// Delivers the blocks at so many indexes of an epoch from one on, each with what follows it.
 pub(crate) fn put_events(
     events: &mut Events,
     plan: &Plan,
@@ -63,15 +63,15 @@ pub(crate) fn put_events(
 ) -> Mem<()>
     requires epoch { epoch < 5 }
     requires some { 0 < vec_len plan.now.dealings }
-    requires places { from ≤ to }
+    requires ordered { from ≤ to }
     requires within { to ≤ 64 }
     ensures { OnOk result (events.new ≡ events.old ++ events_with plan.now.dealings.items plan.now.acks.items epoch from (to - from)) }
 {
-    for place in from..to {
+    for index in from..to {
         events.push(&Event::Final {
-            block: (epoch * 64 + place) as u32,
+            block: (epoch * 64 + index) as u32,
         })?;
-        put_after(events, plan, epoch, place)?;
+        put_after(events, plan, epoch, index)?;
     }
     Ok(())
 }

@@ -27,25 +27,25 @@ fn copied(alloc: Global, bytes: Option<&Blob>) -> Mem<Option<Blob>>
     }
 }
 
-/// The bytes that the block at a place carries.
-fn bytes_at(alloc: Global, plan: &Plan, place: u64) -> Mem<Option<Blob>>
-    requires { place < 64 }
-    ensures { IfOk result (λ made. made ≡ carried_at_of plan.now.first plan.now.next plan.now.logs.items place) }
+/// The bytes that the block at an index carries.
+fn bytes_at(alloc: Global, plan: &Plan, index: u64) -> Mem<Option<Blob>>
+    requires { index < 64 }
+    ensures { IfOk result (λ made. made ≡ carried_at_of plan.now.first plan.now.next plan.now.logs.items index) }
 {
-    match place {
+    match index {
         0 => copied(alloc, plan.first.as_ref()),
         63 => Ok(Some(plan.next.copy(alloc)?)),
         1..=31 => Ok(None),
-        _ => copied(alloc, plan.logs.get(place as usize - 32)),
+        _ => copied(alloc, plan.logs.get(index as usize - 32)),
     }
 }
 
-/// What the block at a place carries.
-fn carried_at(alloc: Global, plan: &Plan, place: u64) -> Mem<Option<PayloadBytes>>
-    requires { place < 64 }
-    ensures { IfOk result (λ made. made ≡ carried_at_of plan.now.first plan.now.next plan.now.logs.items place) }
+/// What the block at an index carries.
+fn carried_at(alloc: Global, plan: &Plan, index: u64) -> Mem<Option<PayloadBytes>>
+    requires { index < 64 }
+    ensures { IfOk result (λ made. made ≡ carried_at_of plan.now.first plan.now.next plan.now.logs.items index) }
 {
-    match bytes_at(alloc, plan, place)? {
+    match bytes_at(alloc, plan, index)? {
         Some(bytes) => Ok(Some(PayloadBytes::new(alloc, bytes)?)),
         None => Ok(None),
     }
@@ -68,13 +68,13 @@ fn put_blocks(alloc: Global, blocks: &mut Vec<BlockLine>, plan: &Plan, epoch: u6
     requires { epoch < 5 }
     ensures { OnOk result (blocks.new.items ≡ blocks.old.items ++ blocks_with plan.now.first plan.now.next plan.now.logs.items epoch) }
 {
-    for place in 0..64 {
-        let height = epoch * 64 + place;
+    for index in 0..64 {
+        let height = epoch * 64 + index;
         blocks.push(BlockLine {
             height: Height(height),
             parent: parent_of(height),
             view: 0,
-            payload: carried_at(alloc, plan, place)?,
+            payload: carried_at(alloc, plan, index)?,
         })?;
     }
     Ok(())

@@ -5,12 +5,12 @@ use Rattle.dkg_ceremony.specs.declared.output.Output.{Output}
 use Rattle.dkg_infos.specs.declared.participants.Participants.{Participants}
 use Rattle.dkg_infos.specs.declared.participants.ParticipantsError.{ParticipantsError}
 use Rattle.dkg_infos.specs.declared.participants.ParticipantsError.TheVariants.{EmptyDealers, EmptyPlayers, TooManyParticipants, InitialReshareDealers, UnknownReshareDealer}
-use Rattle.dkg_values.specs.Rising.{place_of}
+use Rattle.dkg_values.specs.Rising.{index_of}
 
 -- whether each key of some is one of the others
 abbrev pub are_among : List ℕ → List ℕ → Bool
 are_among [] keys = true
-are_among (x ∷ xs) keys = is_some (place_of x keys) && are_among xs keys
+are_among (x ∷ xs) keys = is_some (index_of x keys) && are_among xs keys
 
 abbrev pub limited : ℕ → ℕ → Result (Unit {0}) ParticipantsError
 limited count max = if nat_lt max count then Err (TooManyParticipants count max) else Ok tt

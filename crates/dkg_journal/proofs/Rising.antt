@@ -40,7 +40,7 @@ module _ {K X : Type 0} (number : K → ℕ) where
   below_middle x [] k v fs below = (both_are (is_lt (by_number number x k)) (below_all (by_number number) x fs) below).0
   below_middle x (e ∷ es) k v fs below = below_middle x es k v fs (both_are (is_lt (by_number number x e.0)) (below_all (by_number number) x (es ++ (k, v) ∷ fs)) below).1
 
-  -- .. and none stands before its place
+  -- .. and none stands before it
   pub not_before : (es : List (K × X)) (k : K) (v : X) (fs : List (K × X)) → T (is_sorted (by_number number) (es ++ (k, v) ∷ fs)) → find (by_number number) k es ≡ None
   not_before [] k v fs sorted = refl
   not_before (e ∷ es) k v fs sorted =

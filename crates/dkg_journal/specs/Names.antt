@@ -7,7 +7,7 @@ use Rattle.std.specs.FinMap.{FinMap}
 use Rattle.dkg_values.specs.declared.name.Name.{Name}
 use Rattle.dkg_values.specs.declared.name.Name.TheVariants.{Plan, Flat, Segment}
 
--- the place of a name in the order: the plan, the flat file, the segments rising
+-- where a name stands in the order: the plan, the flat file, the segments rising
 abbrev pub name_number : Name → ℕ
 name_number Plan = 0
 name_number Flat = 1

@@ -8,7 +8,7 @@ use dkg_values::Name;
 use std::cmp::Ordering;
 use std::marker::Model;
 
-/// A name that is compared by its place in the order.
+/// A name that is compared by where it stands in the order.
 #[derive(Drop)]
 pub struct Ordered {
     pub name: Name,

@@ -4,7 +4,7 @@ use Rattle.std.specs.Prelude.{◌==◌, ◌&&◌, ◌||◌, IfErr, IfOk, IfSome,
 use Rattle.std.specs.List.{list_any}
 use Rattle.std.specs.Option.{option_map_or}
 use Rattle.std.proofs.lemmas.Bool.Decides.{nat_tests}
-use Rattle.dkg_values.specs.Places.{Contains-place_of}
+use Rattle.dkg_values.specs.IndexLaws.{Contains-index_of}
 use Rattle.dkg_values.specs.Rising.{lookup}
 use Rattle.dkg_ceremony.specs.declared.dealer_log.DealerLog.{DealerLog}
 use Rattle.dkg_ceremony.specs.declared.finish.FinishError.{FinishError}
@@ -72,7 +72,7 @@ fits : (round : Round) (me : ℕ) (dealings : DealingMap) (logs : LogMap) (outpu
     → partial_public_of output me ≡ Some (share_public_of share)
 fits round me dealings logs output share plays valid found =
     subst (λ (answer : Result (Option (Output × ℕ)) FinishError). IfOk answer (shares.FitsOutput me)) found
-    (shares.shares_fit round me dealings logs (Contains-place_of me round.players plays) valid)
+    (shares.shares_fit round me dealings logs (Contains-index_of me round.players plays) valid)
 
 -- .. of a life
 module _ {Dir : Type 0} (c : Fixed Dir) where

@@ -319,11 +319,11 @@ module _ {Dir : Type 0} (c : Fixed Dir) (form : IsFormThrough c) (stored : OfSha
   module _ (accepted : judged_block c block st ≡ Applied) where
     dealt : st.participation.stage ≡ Deals → (end : Live Dir) → IsReadFrom c (dealt_behind c block (given_itself c st)) end → IsBehind end
     dealt is end read =
-        let place = deals_below c block st live.stands accepted is in
+        let located = deals_below c block st live.stands accepted is in
         let frame = framed (block.height + 1 == midpoint c.blocks_per_epoch (given_itself c st).participation.epoch) in
         quiet end (ap (λ (x : Live Dir). x.orchestrator) read.same ∙ frame.0) (ap (λ (x : Live Dir). x.participation.epoch) read.same ∙ frame.1)
         (λ follows. frame.2 (sym (ap (λ (x : Live Dir). x.participation.stage) read.same) ∙ follows))
-        (subst (λ (e : ℕ). block.height < last c.blocks_per_epoch e) (sym place.0) (below_middle c.blocks_per_epoch (epoch_of c.blocks_per_epoch block.height) block.height form.form.counted place.1))
+        (subst (λ (e : ℕ). block.height < last c.blocks_per_epoch e) (sym located.0) (below_middle c.blocks_per_epoch (epoch_of c.blocks_per_epoch block.height) block.height form.form.counted located.1))
       where
         same : dealing.IsSameBut c st (given_itself c st)
         same = dealing.given_same c st
@@ -335,11 +335,11 @@ module _ {Dir : Type 0} (c : Fixed Dir) (form : IsFormThrough c) (stored : OfSha
 
     included_below : st.participation.stage ≡ Includes → is_last_height c block.height ≡ false → (end : Live Dir) (round : Round) → IsReadFrom c (included c round block st) end → IsBehind end
     included_below is below end round read =
-        let place = includes_above c block st live.stands accepted is in
+        let located = includes_above c block st live.stands accepted is in
         let same = is_observed c round block st in
         quiet end (ap (λ (x : Live Dir). x.orchestrator) read.same ∙ same.orchestrator) (ap (λ (x : Live Dir). x.participation.epoch) read.same ∙ same.epoch)
         (λ follows. includes_apart (sym is ∙ sym same.stage ∙ sym (ap (λ (x : Live Dir). x.participation.stage) read.same) ∙ follows))
-        (subst (λ (e : ℕ). block.height < last c.blocks_per_epoch e) (sym place.0)
+        (subst (λ (e : ℕ). block.height < last c.blocks_per_epoch e) (sym located.0)
         (under (epoch_of c.blocks_per_epoch block.height * c.blocks_per_epoch) c.blocks_per_epoch block.height (epoch_to c.blocks_per_epoch block.height form.form.counted)
         (other_number block.height (last c.blocks_per_epoch (epoch_of c.blocks_per_epoch block.height)) below)))
       where

@@ -2,7 +2,7 @@
 use Rattle.std.proofs.Common.{◌≡◌, ℕ, List, true, Option, Some, None, sym, ◌∙◌, ap, subst}
 use Rattle.std.specs.Prelude.{IfOk, IsSomeAnd, Contains, Result, Ok, Err}
 use Rattle.dkg_values.specs.Rising.{lookup}
-use Rattle.dkg_values.specs.Places.{Contains-place_of}
+use Rattle.dkg_values.specs.IndexLaws.{Contains-index_of}
 use Rattle.dkg_ceremony.specs.Dealings.{dealing_of}
 use Rattle.dkg_ceremony.specs.Deals.{deal_of}
 use Rattle.dkg_ceremony.specs.DealLaws as deals
@@ -35,8 +35,8 @@ passes : (round : Round) (me : ℕ) (share : Option ℕ) (seed public : List ℕ
     → deal_of round me share seed ≡ Ok (public, privates) → lookup me privates ≡ Some private → dealing_of round me me public private ≡ Ok tt
 passes round me share seed public privates private member plays dealt found =
     let all = of_answer (λ (d : List ℕ × List (ℕ × ℕ)). (who : ℕ) → Contains round.players who → IsSomeAnd (lookup who d.1) (λ half. dealing_of round who me d.0 half ≡ Ok tt))
-    (deal_of round me share seed) (public, privates) (deals.deals_pass round me share seed (Contains-place_of me round.dealers member)) dealt in
-    of_found (λ (half : ℕ). dealing_of round me me public half ≡ Ok tt) (lookup me privates) private (all me (Contains-place_of me round.players plays)) found
+    (deal_of round me share seed) (public, privates) (deals.deals_pass round me share seed (Contains-index_of me round.dealers member)) dealt in
+    of_found (λ (half : ℕ). dealing_of round me me public half ≡ Ok tt) (lookup me privates) private (all me (Contains-index_of me round.players plays)) found
 
 pub stand_ins_are_ceremonies : {Dir : Type 0} → StandInsAreCeremonies Dir
 stand_ins_are_ceremonies c is = record {

@@ -4,7 +4,7 @@ use Rattle.std.specs.Prelude.{filter, nat_lt, is_some, option_and_then, option_t
 use Rattle.std.specs.FinMap.{entries, get}
 use Rattle.std.proofs.lemmas.Bool.Decides.{nat_tests}
 use Rattle.std.proofs.lemmas.Bool.{cases_lt}
-use Rattle.dkg_values.specs.Rising.{Rises, keys_of, lookup, place_of}
+use Rattle.dkg_values.specs.Rising.{Rises, keys_of, lookup, index_of}
 use Rattle.dkg_values.specs.RisingLaws.{rises_from}
 use Rattle.dkg_ceremony.specs.Outcomes.{LogMap}
 use Rattle.dkg_ceremony.specs.Schedule.{last, midpoint}
@@ -146,7 +146,7 @@ module _ (s : Setting) (epoch : ℕ) (round : Round) where
       by_signed : (o : Option SignedDealerLog) → counted_at at o ≡ Some p → ⊥
       by_signed None is = none_some is
       by_signed (Some signed) is =
-          none_some (sym (ap (λ (t : Bool). if t && nat_lt at ends && is_some (place_of signed.dealer round.dealers) && check_log_of round signed then Some (signed.dealer, signed.log) else None) (under at low)) ∙ is)
+          none_some (sym (ap (λ (t : Bool). if t && nat_lt at ends && is_some (index_of signed.dealer round.dealers) && check_log_of round signed then Some (signed.dealer, signed.log) else None) (under at low)) ∙ is)
 
       by_block : (o : Option ScriptBlock) → option_and_then (λ b. counted_at at b.log) o ≡ Some p → ⊥
       by_block None is = none_some is

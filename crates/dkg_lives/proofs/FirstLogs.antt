@@ -185,11 +185,11 @@ module _ (brings : ℕ → Option (ℕ × DealerLog)) where
         is_le height low = grind (arith, nat_tests)
 
         nothing_found : NoneIn dealer low (low + count) → (height : ℕ) (log : DealerLog) → IsFirst dealer height log → height ≤ tip → ⊥
-        nothing_found nothing height log first under = by_place (cases_lt height low)
+        nothing_found nothing height log first under = by_order (cases_lt height low)
           where
-            by_place : (height < low) ⊎ (low ≤ height) → ⊥
-            by_place (inl below) = none height (dealer, log) below first.here
-            by_place (inr above) = nothing height log above (omega (arith, under, ends)) first.here
+            by_order : (height < low) ⊎ (low ≤ height) → ⊥
+            by_order (inl below) = none height (dealer, log) below first.here
+            by_order (inr above) = nothing height log above (omega (arith, under, ends)) first.here
 
         by_found : IsFoundIn dealer low count → (o : Option Noted) → recorded dealer ≡ o → reached_in log_of is_reached o ≡ lookup dealer (brought_from low count)
         by_found (inl (nothing, all)) None is = sym nothing
@@ -207,12 +207,12 @@ module _ (brings : ℕ → Option (ℕ × DealerLog)) where
             is_first : IsFirst dealer height log
             is_first = record {
               here = here;
-              first = λ at other up high there. by_place at other high there (cases_lt at low);
+              first = λ at other up high there. by_order at other high there (cases_lt at low);
             }
               where
-                by_place : (at : ℕ) (other : DealerLog) → at < height → brings at ≡ Some (dealer, other) → (at < low) ⊎ (low ≤ at) → ⊥
-                by_place at other high there (inl under) = none at (dealer, other) under there
-                by_place at other high there (inr over) = first at other over high there
+                by_order : (at : ℕ) (other : DealerLog) → at < height → brings at ≡ Some (dealer, other) → (at < low) ⊎ (low ≤ at) → ⊥
+                by_order at other high there (inl under) = none at (dealer, other) under there
+                by_order at other high there (inr over) = first at other over high there
 
             by_noted : (o : Option Noted) → recorded dealer ≡ o → reached_in log_of is_reached o ≡ lookup dealer (brought_from low count)
             by_noted None is = absurd (let no : false ≡ true = subst (λ (o : Option Noted). IsSome o) is (are.all dealer height log is_first (omega (arith, below, ends))) in cc)

@@ -5,7 +5,7 @@ use Rattle.std.specs.List.{AllByRecursion, range_with_len}
 use Rattle.std.proofs.lemmas.Bool.Decides.{nat_tests}
 use Rattle.std.proofs.lemmas.List.FromFn.{length-map-range_with_len}
 use Rattle.dkg_values.specs.Lists.{PublicFits}
-use Rattle.dkg_values.specs.Rising.{place_of}
+use Rattle.dkg_values.specs.Rising.{index_of}
 use Rattle.dkg_ceremony.specs.Deals.{again_of, both_halves, coefficient_of, deal_of, dealt_at, dealt_length, dealt_poly, is_share_of}
 use Rattle.dkg_ceremony.specs.Dealings.{fits_at}
 use Rattle.dkg_ceremony.specs.Polynomials.{value_at}
@@ -27,9 +27,9 @@ low_coefficient : (seed : List ℕ) (index : ℕ) → coefficient_of seed index 
 unfolding coefficient_of
 low_coefficient seed index = omega arith
 
-low_fit : (place : Option ℕ) (poly : List ℕ) (value : ℕ) → fits_at place poly value ≡ true → value < 65521
+low_fit : (index : Option ℕ) (poly : List ℕ) (value : ℕ) → fits_at index poly value ≡ true → value < 65521
 low_fit None poly value fits = absurd (let no : ◌≡◌ {A = Bool} false true = fits in cc)
-low_fit (Some place) poly value fits = let low : value_at poly (place + 1) < 65521 = low_value poly (place + 1) in let same : value ≡ value_at poly (place + 1) = is value (value_at poly (place + 1)) fits in omega (arith, low, same)
+low_fit (Some index) poly value fits = let low : value_at poly (index + 1) < 65521 = low_value poly (index + 1) in let same : value ≡ value_at poly (index + 1) = is value (value_at poly (index + 1)) fits in omega (arith, low, same)
   where
     is : (a b : ℕ) → (a == b) ≡ true → a ≡ b
     is a b e = grind (arith, nat_tests)
@@ -50,7 +50,7 @@ all_mapped f low (x ∷ xs) = (low x, all_mapped f low xs)
 low_again : (previous : Option Output) (dealer : ℕ) (share : Option ℕ) → is_share_of previous dealer share ≡ true → (its : ℕ) → again_of previous share ≡ Some its → its < 65521
 low_again None dealer share is its again = absurd (let no : ◌≡◌ {A = Option ℕ} None (Some its) = again in cc)
 low_again (Some o) dealer None is its again = absurd (let no : ◌≡◌ {A = Option ℕ} None (Some its) = again in cc)
-low_again (Some o) dealer (Some share) is its again = let same : share ≡ its = cc in subst (λ (n : ℕ). n < 65521) same (low_fit (place_of dealer o.players) o.sharing.poly share is)
+low_again (Some o) dealer (Some share) is its again = let same : share ≡ its = cc in subst (λ (n : ℕ). n < 65521) same (low_fit (index_of dealer o.players) o.sharing.poly share is)
 
 -- ITS LENGTH
 

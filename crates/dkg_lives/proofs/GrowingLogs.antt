@@ -73,11 +73,11 @@ module _ (brings : ℕ → Option (ℕ × DealerLog)) (Early : ℕ → Type 0) w
     those_here dealer log first = subst (λ (o : Option RecordedLog). IsSome o) (sym (looked.brought dealer log first.here)) refl
 
     pub below_next : HasBelow recorded height → HasBelow now (height + 1)
-    below_next has at low = by_place (cases_lt at height)
+    below_next has at low = by_order (cases_lt at height)
       where
-        by_place : (at < height) ⊎ (height ≤ at) → HasThose now at
-        by_place (inl below) = those_stay at (has at below)
-        by_place (inr above) = let here : height ≡ at = omega (arith, low, above) in subst (HasThose now) here those_here
+        by_order : (at < height) ⊎ (height ≤ at) → HasThose now at
+        by_order (inl below) = those_stay at (has at below)
+        by_order (inr above) = let here : height ≡ at = omega (arith, low, above) in subst (HasThose now) here those_here
 
     -- a log that is new is the first of its dealer, where all below are there
     pub sound_next : HasBelow recorded height → AreSound recorded → AreSound now

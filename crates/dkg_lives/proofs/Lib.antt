@@ -24,6 +24,7 @@ pub mod LivesStand
 pub mod Living
 pub mod LogsBehind
 pub mod LogsFit
+pub mod Moving
 pub mod NextLives
 pub mod NoOthers
 pub mod OpeningsLeave
@@ -31,7 +32,6 @@ pub mod OpeningsStore
 pub mod OwnSteps
 pub mod PathLogs
 pub mod PeerForms
-pub mod Places
 pub mod PlanlessReads
 pub mod Recorded
 pub mod Refusing

@@ -338,8 +338,8 @@ module _ {Dir : Type 0} (c : Fixed Dir) (stored : OfShares) (st : Live Dir) (mes
       -- a life that deals takes no last block
       deals_none : judged_block c b st ≡ Applied → st.participation.stage ≡ Deals → is_last_height c b.height ≡ true → ⊥
       deals_none applied deals last =
-          let place = deals_below c b st live.stands applied deals in
-          below_it b.height (below_middle c.blocks_per_epoch (epoch_of c.blocks_per_epoch b.height) b.height form.counted place.1) (same_number b.height (last_of b.height) last)
+          let located = deals_below c b st live.stands applied deals in
+          below_it b.height (below_middle c.blocks_per_epoch (epoch_of c.blocks_per_epoch b.height) b.height form.counted located.1) (same_number b.height (last_of b.height) last)
         where
           last_of : ℕ → ℕ
           last_of height = last_height c.blocks_per_epoch (epoch_of c.blocks_per_epoch height)

@@ -109,7 +109,7 @@ abbrev pub Each : Setting → (Progress → Entry → Type 0) → Progress → L
 Each s E p [] = Unit {0}
 Each s E p (entry ∷ entries) = E p entry × Each s E (read s p entry) entries
 
--- The entries that are added, none of which is a fault, lead from each place P to a place Q, and have E on the way.
+-- The entries that are added, none of which is a fault, lead from where P holds to where Q does, and have E on the way.
 pub record Moves (E : Setting → Progress → Entry → Type 0) (P Q : Setting → Progress → Type 0) (old new : List Entry) : Type 0 where
   pub added : List Entry
   pub parts : new ≡ old ++ added

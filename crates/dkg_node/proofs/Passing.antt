@@ -78,8 +78,8 @@ module _ (c : Fixed directory.Unit) (stored : OfShares) (b : Block directory.Uni
   module _ (accepted : judged_block c b st ≡ Applied) where
     of_deals : st.participation.stage ≡ Deals → ⊥
     of_deals is =
-        let place = deals_below c b st live.stands accepted is in
-        never (subst (λ (e : ℕ). b.height < last c.blocks_per_epoch e) (sym place.0) (below_middle c.blocks_per_epoch (epoch_of c.blocks_per_epoch b.height) b.height form.form.counted place.1))
+        let located = deals_below c b st live.stands accepted is in
+        never (subst (λ (e : ℕ). b.height < last c.blocks_per_epoch e) (sym located.0) (below_middle c.blocks_per_epoch (epoch_of c.blocks_per_epoch b.height) b.height form.form.counted located.1))
 
     module _ (is : st.participation.stage ≡ Includes) where
       here : epoch ≡ epoch_of c.blocks_per_epoch b.height

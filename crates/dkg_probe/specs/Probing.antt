@@ -1,7 +1,7 @@
 -- The probe's half of a step: the floor that dealers' replies select, the block that begins its epoch, and serving both to others.
 use Rattle.std.specs.Prelude.{ℕ, Bool, true, false, not, List, [], ◌∷◌, ◌++◌, ◌+◌, ◌-◌, ◌==◌, ◌&&◌, ◌||◌, nat_lt, length, map, Option, Some, None, is_some, is_none, option_map, option_and_then, Result, Ok, Err, if◌then◌else◌}
 use Rattle.dkg_values.specs.Codec.{Reading, whole}
-use Rattle.dkg_values.specs.Rising.{place_of, set_of}
+use Rattle.dkg_values.specs.Rising.{index_of, set_of}
 use Rattle.dkg_values.specs.Uint.{uint}
 use Rattle.dkg_values.specs.declared.codec.CodecError.{CodecError}
 use Rattle.dkg_values.specs.declared.memory.NoMemory.{NoMemory as Want}
@@ -154,7 +154,7 @@ abbrev pub samples : {Dir : Type 0} → ProbeFixed Dir → (peer : ℕ) → Fina
 samples c peer f st = if st.subscribers == 0 then Goes (with_sample (sample_forgotten st.sample) st) else chooses c (sample_recorded st.sample peer f) st
 
 abbrev pub is_dealer : {Dir : Type 0} → ProbeFixed Dir → (peer : ℕ) → Bool
-is_dealer c peer = is_some (place_of peer c.bootstrap.participants.dealers)
+is_dealer c peer = is_some (index_of peer c.bootstrap.participants.dealers)
 
 -- A latest reply, by the first test that fails.
 abbrev pub hears_latest : {Dir : Type 0} → ProbeFixed Dir → (peer : ℕ) → Finalization → State Dir → Probes Dir

@@ -6,7 +6,7 @@ use Rattle.std.specs.List.{AllByRecursion, cons_option}
 use Rattle.std.proofs.lemmas.Bool.Decides.{nat_tests}
 use Rattle.std.proofs.lemmas.Bool.{cases_lt}
 use Rattle.std.proofs.lemmas.List.{reverse-append}
-use Rattle.dkg_values.specs.Rising.{map_of, place_of}
+use Rattle.dkg_values.specs.Rising.{map_of, index_of}
 use Rattle.dkg_ceremony.specs.Outcomes.{LogMap}
 use Rattle.dkg_ceremony.specs.Schedule.{last, midpoint}
 use Rattle.dkg_ceremony.specs.ValidLogs.{check_log_of}
@@ -112,7 +112,7 @@ module _ (middle end : ℕ) (round : Round) where
 
       by_log : (o : Option SignedDealerLog) → IfSome (option_map (λ s. (b.height, s)) o) (λ p. log_counts check_log_of middle end round p ≡ false)
       by_log None = tt
-      by_log (Some signed) = ap (λ (t : Bool). t && nat_lt b.height end && is_some (place_of signed.dealer round.dealers) && check_log_of round signed) (under b.height low)
+      by_log (Some signed) = ap (λ (t : Bool). t && nat_lt b.height end && is_some (index_of signed.dealer round.dealers) && check_log_of round signed) (under b.height low)
 
   kept_pairs : (keep : made.Block U → Bool) → ((b : made.Block U) → keep b ≡ false → b.height < middle) → (path : List (made.Block U)) → pairs (filter_map log_of_block (filter keep path)) ≡ pairs (filter_map log_of_block path)
   kept_pairs keep low [] = refl
@@ -508,11 +508,11 @@ module _ (s : Setting) (ends : List (Option CutAt)) (consistent : IsConsistentSc
             by_test false test = over_tip test
 
       with_tip : IsByPath s life epoch request read round logs
-      with_tip = by_place (cases_lt t.height middle)
+      with_tip = by_order (cases_lt t.height middle)
         where
-          by_place : (t.height < middle) ⊎ (middle ≤ t.height) → IsByPath s life epoch request read round logs
-          by_place (inl low) = early_tip low
-          by_place (inr late) = late_tip late
+          by_order : (t.height < middle) ⊎ (middle ≤ t.height) → IsByPath s life epoch request read round logs
+          by_order (inl low) = early_tip low
+          by_order (inr late) = late_tip late
 
     -- without a tip nothing is recorded up to it
     without_tip : tip_in s.script life read ≡ None → IsByPath s life epoch request read round logs

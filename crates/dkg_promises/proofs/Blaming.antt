@@ -71,11 +71,11 @@ use Rattle.dkg_along.proofs.Causing.{block_cause, block_clear, info_cause, mail_
 use Rattle.dkg_promises.proofs.Committing.{CommitsInto, TellsInto, commit_over, opening_commits_first, opening_tells, step_commits, step_tells}
 use Rattle.dkg_along.proofs.Following.{EndsBy, RunEndsBy, all_move, item_at, rest_at}
 use Rattle.dkg_lives.proofs.Former.{Brings, BringsBlock, BringsMail, IsMessage, brings_so, event_in_form, form_at, lacks_nobody, live_at, message_in, step_taken, through_at}
-use Rattle.dkg_along.proofs.InPlace.{begins, cut_before, cut_within, moves_cut, moves_step}
+use Rattle.dkg_along.proofs.InOrder.{begins, cut_before, cut_within, moves_cut, moves_step}
 use Rattle.dkg_lives.proofs.LivesStand.{before_suc}
 use Rattle.dkg_lives.proofs.NextLives.{next_tip}
 use Rattle.dkg_along.proofs.Ordered.{lit_begins, lit_within, opened_in, opening_added, step_is_quiet, tells_fault, unlit, went_opened}
-use Rattle.dkg_lives.proofs.Places.{each_of_both, moves_none, moves_then, moves_within}
+use Rattle.dkg_lives.proofs.Moving.{each_of_both, moves_none, moves_then, moves_within}
 use Rattle.dkg_promises.proofs.Requested.{AreHeld, Knows, KnowsRead, none_held, sent_new, step_apart, step_held, untold}
 use Rattle.dkg_along.proofs.Runs.{each_after, starts}
 use Rattle.dkg_lives.proofs.Standing.{AddsOpening, AddsQuiet, Each, IsAtCut, IsBefore, IsBehind, IsBetween, IsBetweenOf, IsCutBefore, IsCutWithin, IsWithin, Moves, TellsFault}
@@ -380,12 +380,12 @@ all_written s (one ∷ added) p quiet =
     all_written s added (read s p one) quiet.1 ∙ ap (λ (xs : List Entry). xs ++ added) (quiet_written s p one quiet.0) ∙ append_assoc p.written (one ∷ []) added
 
 -- it leaves the life and the step in hand
-pub same_place : (s : Setting) (p : Progress) (one : Entry) → IsQuiet one → ((read s p one).cuts ≡ p.cuts) × ((read s p one).step ≡ p.step)
-same_place s p (entry.Opened life restored) quiet = absurd quiet
-same_place s p (entry.Cut step call) quiet = absurd quiet
-same_place s p (entry.Step step) quiet = absurd quiet
-same_place s p (entry.Fault its) quiet = absurd quiet
-same_place s p one quiet = (refl, refl)
+pub same_position : (s : Setting) (p : Progress) (one : Entry) → IsQuiet one → ((read s p one).cuts ≡ p.cuts) × ((read s p one).step ≡ p.step)
+same_position s p (entry.Opened life restored) quiet = absurd quiet
+same_position s p (entry.Cut step call) quiet = absurd quiet
+same_position s p (entry.Step step) quiet = absurd quiet
+same_position s p (entry.Fault its) quiet = absurd quiet
+same_position s p one quiet = (refl, refl)
 
 -- where a fault is told
 abbrev pub TellsWhy : Script → Fault → Setting → Progress → Type 0
@@ -425,7 +425,7 @@ module _ (script : Script) (life : Life) (l : ℕ) (life_is : slice_get script.l
       → Each s (Says script s) p added
   all_quiet j s p [] quiet said into lives step = tt
   all_quiet j s p (one ∷ added) quiet said into lives step =
-      let same = same_place s p one quiet.0 in (
+      let same = same_position s p one quiet.0 in (
         (one_quiet script p one quiet.0, (said_now j p one lives step said.0, commit_now j p one lives step quiet.0 into.0)),
         all_quiet j s (read s p one) added quiet.1 said.1 into.1 (ap length same.0 ∙ lives) (same.1 ∙ step),
       )

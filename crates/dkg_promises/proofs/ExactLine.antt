@@ -6,8 +6,8 @@ use Rattle.std.specs.FinMap.{entries as pairs_in, get}
 use Rattle.std.specs.List.{AllByRecursion, list_any}
 use Rattle.std.specs.Option.{option_map_or}
 use Rattle.std.proofs.lemmas.Bool.{and_parts}
-use Rattle.dkg_values.specs.Places.{Contains-place_of}
-use Rattle.dkg_values.specs.Rising.{lookup, place_of}
+use Rattle.dkg_values.specs.IndexLaws.{Contains-index_of}
+use Rattle.dkg_values.specs.Rising.{lookup, index_of}
 use Rattle.dkg_values.specs.RisingLaws.{has_key-from}
 use Rattle.dkg_ceremony.specs.Finishes.{has_public}
 use Rattle.dkg_ceremony.specs.Outcomes.{LogMap, outcome_of}
@@ -107,14 +107,14 @@ all_so (x ∷ xs) = (tt, all_so xs)
 pub placed : (s : Setting) (height : ℕ) (b : ScriptBlock) → chain s height ≡ Some b → b.height ≡ height
 placed s height b is = (in_chain s (λ x. Unit {0}) height b (all_so (used s)) is).1
 
--- one that has a place
+-- one that has an index
 player_of : (output : Output) (player x : ℕ) → partial_public_of output player ≡ Some x → has output.players player ≡ true
 unfolding partial_public_of
-player_of output player x is = by_place (place_of player output.players) is
+player_of output player x is = by_index (index_of player output.players) is
   where
-    by_place : (o : Option ℕ) → option_map (λ place. value_at output.sharing.poly (place + 1)) o ≡ Some x → is_some o ≡ true
-    by_place None none = absurd (none_some none)
-    by_place (Some place) got = refl
+    by_index : (o : Option ℕ) → option_map (λ index. value_at output.sharing.poly (index + 1)) o ≡ Some x → is_some o ≡ true
+    by_index None none = absurd (none_some none)
+    by_index (Some index) got = refl
 
 neither : (a b : Bool) → (a || b) ≡ false → (a ≡ false) × (b ≡ false)
 neither false b e = (refl, e)
@@ -367,7 +367,7 @@ module _ (s : Setting) (ends : List (Option CutAt)) (form : IsFormOfInclusion s.
         plays_of : marks → can_finish C round (canonical C st) st ≡ true → st.participation.seat ≡ Plays
         plays_of known can =
             going.plays known round there
-            (has_key-from round.players (me s) (Contains-place_of (me s) round.players
+            (has_key-from round.players (me s) (Contains-index_of (me s) round.players
             (subst (λ (k : ℕ). has round.players k ≡ true) me_is (and_parts (has round.players C.me) (not (is_lost C round (records_of_epoch round.number st.records.dealings) (canonical C st))) can).0)))
 
         can_of : marks → st.participation.seat ≡ Plays → can_finish C round (canonical C st) st ≡ true

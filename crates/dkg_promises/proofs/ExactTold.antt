@@ -54,7 +54,7 @@ use Rattle.dkg_lives.specs.Given.{AreBytes, Lived, at_step, lived, provided_by, 
 use Rattle.dkg_promises.specs.SharesStand.{EndsEpoch, EndsHonestly, HeldShare, IsWholePast, StandsBy, StandsSo, WasCutInto}
 use Rattle.dkg_lives.specs.Ways.{by_worlds}
 use Rattle.dkg_lives.proofs.Awaiting.{IsReached}
-use Rattle.dkg_promises.proofs.Blaming.{same_place}
+use Rattle.dkg_promises.proofs.Blaming.{same_position}
 use Rattle.dkg_along.proofs.CommitsOver.{IsTakenShare, Tells}
 use Rattle.dkg_along.proofs.Drawn.{all_join}
 use Rattle.dkg_promises.proofs.ExactLine.{line_stands}
@@ -111,7 +111,7 @@ module _ (s : Setting) (ends : List (Option CutAt)) where
   quiet_opening [] marks before first quiet = tt
   quiet_opening (line ∷ lines) marks before first quiet = (
     line_opening marks before line first,
-    quiet_opening lines (marks × IsKnownAt s (come s before) line) (before ++ line ∷ []) (ap (λ (p : Progress). p.step) (come_more s before line) ∙ (same_place s (come s before) line quiet.0).1 ∙ first) quiet.1,
+    quiet_opening lines (marks × IsKnownAt s (come s before) line) (before ++ line ∷ []) (ap (λ (p : Progress). p.step) (come_more s before line) ∙ (same_position s (come s before) line quiet.0).1 ∙ first) quiet.1,
   )
 
   opening_told : (number : ℕ) (ended : Ended NodeStop (Live U)) (lines : List Entry) (marks : Type 0) (before : List Entry) → (come s before).step ≡ 0 → BeginsOpened number lines ended → EachTold s ExactEntry marks before lines
@@ -231,7 +231,7 @@ module _ (s : Setting) (ends : List (Option CutAt)) (reshares : is_oneshot s ≡
         abbrev Honest : Type 0
         Honest = Carries (seen_block unit_spelling block)
 
-        -- what is known of a line's place
+        -- what is known of where a line stands
         pub record IsPlaced (b : List Entry) (ended_epoch : ℕ) (so : EndsEpoch s (come s b) ended_epoch) : Type 0 where
           pub epoch : ended_epoch ≡ e
           pub delivers : block.height ≡ last n e
@@ -341,7 +341,7 @@ module _ (s : Setting) (ends : List (Option CutAt)) (reshares : is_oneshot s ≡
             read_more = ap (come s) (sym longer) ∙ come_more s (before ++ passed) line
 
             kept : ((read s (come s (before ++ passed)) line).cuts ≡ (come s (before ++ passed)).cuts) × ((read s (come s (before ++ passed)) line).step ≡ (come s (before ++ passed)).step)
-            kept = same_place s (come s (before ++ passed)) line silent.0
+            kept = same_position s (come s (before ++ passed)) line silent.0
 
             cuts_now : (come s (before ++ (passed ++ line ∷ []))).cuts ≡ (come s (before ++ passed)).cuts
             cuts_now = ap (λ (p : Progress). p.cuts) read_more ∙ kept.0

@@ -2,7 +2,7 @@
 use Rattle.std.proofs.Common.{◌≡◌, ◌⊎◌, inl, inr, true, ℕ, zero, suc, ◌<◌, ◌≤◌, List, [], ◌∷◌, Option, Some, None, Ok, refl, sym, ◌∙◌, ap, subst, length, arith}
 use Rattle.std.specs.Prelude.{Contains, slice_get}
 use Rattle.std.specs.FinMap.{get}
-use Rattle.dkg_values.specs.Places.{place_of-Contains}
+use Rattle.dkg_values.specs.IndexLaws.{index_of-Contains}
 use Rattle.dkg_ceremony.specs.Dealings.{dealing_of}
 use Rattle.dkg_ceremony.specs.declared.round.RoundParts.{RoundParts as Round}
 use Rattle.dkg_journal.specs.Names.{Files}
@@ -203,7 +203,7 @@ module _ (s : Setting) (cuts : List (Option CutAt)) (form : IsFormOfInclusion s.
           same = some_is (sym mine.1 ∙ own.of_epoch)
 
           plays : has (mine.0).players c.me ≡ true
-          plays = place_of-Contains c.me (mine.0).players (among_has c.me (mine.0).players (subst (λ (r : Round). IsAmong c.me r.players) (sym same) own.plays))
+          plays = index_of-Contains c.me (mine.0).players (among_has c.me (mine.0).players (subst (λ (r : Round). IsAmong c.me r.players) (sym same) own.plays))
 
       block_passes : PassHeld s new.held
       block_passes = (

@@ -3,7 +3,7 @@ use Rattle.std.proofs.Common.{◌≡◌, ◌⊎◌, inl, inr, ◌<◌, ◌≤◌
 use Rattle.std.specs.Prelude.{is_some, nat_lt, option_and_then, IsSome, if◌then◌else◌}
 use Rattle.std.specs.FinMap.{get}
 use Rattle.std.proofs.lemmas.Bool.Decides.{nat_tests}
-use Rattle.dkg_values.specs.Rising.{place_of}
+use Rattle.dkg_values.specs.Rising.{index_of}
 use Rattle.dkg_ceremony.specs.Schedule.{last, midpoint}
 use Rattle.dkg_ceremony.specs.ValidLogs.{check_log_of}
 use Rattle.dkg_ceremony.specs.declared.dealer_log.DealerLog.{DealerLog}
@@ -73,7 +73,7 @@ module _ (s : Setting) (epoch : ℕ) (round : Round) where
   pub counts_within : (height dealer : ℕ) (log : DealerLog) → brings_of s epoch round height ≡ Some (dealer, log) → (middle ≤ height) × (height < ends)
   counts_within height dealer log is =
       let its = counts_there height dealer log is in
-      let both = two_first (nat_le middle height) (nat_lt height ends) (is_some (place_of (its.signed).dealer round.dealers)) (check_log_of round its.signed) its.counted in
+      let both = two_first (nat_le middle height) (nat_lt height ends) (is_some (index_of (its.signed).dealer round.dealers)) (check_log_of round its.signed) its.counted in
       (is_low middle height both.0, is_below height ends both.1)
     where
       two_first : (a b p q : Bool) → (a && b && p && q) ≡ true → (a ≡ true) × (b ≡ true)

@@ -170,7 +170,7 @@ module _ (s : Setting) (ends : List (Option CutAt)) (history : IsWholeHistory s 
 
       -- .. and up to a block that is applied
       up_to_block : (number : ℕ) (b : made.Block U) → its ≡ event.Final number → slice_get (blocks_in s.script) number ≡ Some b → judged_block c b st ≡ Applied → (height : ℕ) → midpoint n (epoch_by g i) ≤ height → height ≤ b.height → HasBlockAt s height
-      up_to_block number b of there applied height late low = by_place (cases_lt height b.height)
+      up_to_block number b of there applied height late low = by_order (cases_lt height b.height)
         where
           by_tip : (o : Option Tip) → tip_in s.script life i ≡ o → height < b.height → HasBlockAt s height
           by_tip (Some t) at under = up_to_tip t at height late (below height t.height b.height ((applied_so c b st applied).over t (tip ∙ at)) under)
@@ -211,9 +211,9 @@ module _ (s : Setting) (ends : List (Option CutAt)) (history : IsWholeHistory s 
               low_one : (b h m : ℕ) → nat_lt b m ≡ true → m ≤ h → h < b → ⊥
               low_one b h m test late low = let less : b < m = grind (arith, nat_tests) in omega (arith, less, late, low)
 
-          by_place : (height < b.height) ⊎ (b.height ≤ height) → HasBlockAt s height
-          by_place (inl under) = by_tip (tip_in s.script life i) refl under
-          by_place (inr above) = let same : b.height ≡ height = omega (arith, low, above) in subst (HasBlockAt s) same (block_here number b of there)
+          by_order : (height < b.height) ⊎ (b.height ≤ height) → HasBlockAt s height
+          by_order (inl under) = by_tip (tip_in s.script life i) refl under
+          by_order (inr above) = let same : b.height ≡ height = omega (arith, low, above) in subst (HasBlockAt s) same (block_here number b of there)
 
       -- a life in which requests are read
       has_read : (x : Live U) → IsReadFor c st m.message x → x.tip ≡ tip_in s.script life (suc i) → (t : Tip) → tip_in s.script life (suc i) ≡ Some t → (height : ℕ) → midpoint n (epoch_by g i) ≤ height → height ≤ t.height → HasBlockAt s height

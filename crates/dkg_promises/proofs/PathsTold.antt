@@ -38,7 +38,7 @@ use Rattle.dkg_promises.specs.SharesStand.{IsWholePast}
 use Rattle.dkg_lives.specs.Ways.{by_worlds}
 use Rattle.dkg_along.proofs.Alone.{epoch_alike}
 use Rattle.dkg_lives.proofs.Awaiting.{IsReached}
-use Rattle.dkg_promises.proofs.Blaming.{same_place}
+use Rattle.dkg_promises.proofs.Blaming.{same_position}
 use Rattle.dkg_lives.proofs.Former.{BringsBlock, BringsMail, IsMessage, brings_so, event_in_form, form_at, lacks_nobody, life_in, live_at, message_in, step_taken, through_at}
 use Rattle.dkg_along.proofs.KeptSteps.{IsAtStep}
 use Rattle.dkg_along.proofs.LifeSteps.{IsGoing, IsLifeOfSetting}
@@ -78,8 +78,8 @@ module _ (s : Setting) (ends : List (Option CutAt)) where
   quiet_told l j first P so (line ∷ lines) marks before earlier lives step quiet said = (
     λ front. so (come s before) line lives step (said (earlier (front_of s ends before (line ∷ []) front))).0,
     quiet_told l j first P so lines (marks × IsKnownAt s (come s before) line) (before ++ line ∷ []) (λ front. earlier (front_of s ends before (line ∷ []) front))
-        (ap (λ (p : Progress). length p.cuts) (come_more s before line) ∙ ap length (same_place s (come s before) line quiet.0).0 ∙ lives)
-        (ap (λ (p : Progress). p.step) (come_more s before line) ∙ (same_place s (come s before) line quiet.0).1 ∙ step) quiet.1 (λ front. (said front).1),
+        (ap (λ (p : Progress). length p.cuts) (come_more s before line) ∙ ap length (same_position s (come s before) line quiet.0).0 ∙ lives)
+        (ap (λ (p : Progress). p.step) (come_more s before line) ∙ (same_position s (come s before) line quiet.0).1 ∙ step) quiet.1 (λ front. (said front).1),
   )
 
 -- a whole history is such a past

@@ -45,7 +45,7 @@ use Rattle.dkg_along.proofs.EachLife.{lives_over}
 use Rattle.dkg_promises.proofs.FoundRun.{run_found}
 use Rattle.dkg_promises.proofs.Leaving.{run_leaves}
 use Rattle.dkg_along.proofs.Ordered.{run_all_lives, run_in_order}
-use Rattle.dkg_lives.proofs.Places.{all_of_both}
+use Rattle.dkg_lives.proofs.Moving.{all_of_both}
 use Rattle.dkg_promises.proofs.Skipping.{run_skips}
 use Rattle.dkg_promises.proofs.Telling.{run_ends}
 use Rattle.dkg_promises.proofs.Unbegun.{ToldNone, Unmoved, none_answered, none_answers, none_commits, none_committed, none_completes, none_ends, none_keeps, none_left, none_offers, none_paths, none_plans, none_shows, none_skips, none_tells, none_valid, none_whole}

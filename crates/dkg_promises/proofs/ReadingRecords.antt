@@ -251,11 +251,11 @@ module _ (s : Setting) (ends : List (Option CutAt)) (whole : IsWholePast s ends)
               (subst (λ (k : ℕ). midpoint n k ≤ block.height) (sym number_is) late) (subst (λ (k : ℕ). block.height < last n k) (sym number_is) under) st (included C round block st) seen_it refl (IsEarly s round.number)))
 
           has_below : HasBelow Brings (IsEarly s e) (λ d. get m (e, d)) block.height
-          has_below height low = by_place (cases_lt height h)
+          has_below height low = by_order (cases_lt height h)
             where
-              by_place : (height < h) ⊎ (h ≤ height) → HasThoseIn s e round m height
-              by_place (inl before) = below height before
-              by_place (inr at_least) = has_none s e round m height (inl (gap height at_least low))
+              by_order : (height < h) ⊎ (h ≤ height) → HasThoseIn s e round m height
+              by_order (inl before) = below height before
+              by_order (inr at_least) = has_none s e round m height (inl (gap height at_least low))
 
       block_read : (x : Live U) → IsReadFor C st (Finalized block) x → IsRecordedTo s e round x
       block_read x (judged, inl (stage, of)) = dealt_read stage x of

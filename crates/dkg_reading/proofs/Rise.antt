@@ -54,8 +54,8 @@ no_set keys rising =
 -- the last one is that of the others
 above_more : (x z : ℕ) (zs : List ℕ) (y : ℕ) → is_above (x ∷ z ∷ zs) y ≡ is_above (z ∷ zs) y
 above_more x z zs y =
-    let place : length (x ∷ z ∷ zs) - 1 ≡ suc (length (z ∷ zs) - 1) = omega arith in
-    ap (λ (k : ℕ). option_map_or (λ (last : ℕ). nat_lt last y) (slice_get (x ∷ z ∷ zs) k) true) place
+    let last_index : length (x ∷ z ∷ zs) - 1 ≡ suc (length (z ∷ zs) - 1) = omega arith in
+    ap (λ (k : ℕ). option_map_or (λ (last : ℕ). nat_lt last y) (slice_get (x ∷ z ∷ zs) k) true) last_index
 
 -- a key above the last one
 push_rises : (least x : ℕ) (xs : List ℕ) (y : ℕ) → Rises least (x ∷ xs) → is_above (x ∷ xs) y ≡ true → Rises least (x ∷ (xs ++ y ∷ []))

@@ -53,7 +53,7 @@ module _ {X : Type 0} where
   find_lookup [] q = refl
   find_lookup (e ∷ es) q = ap (cond (same q e.0) (Some e.1)) (find_lookup es q)
 
-  -- ---- at a place
+  -- ---- at an index
 
   pub find_at : (es : List (ℕ × X)) (k n : ℕ) (item : ℕ × X) → k < length es → get_or (keys_of es) k 0 ≡ n → ((j : ℕ) → j < k → get_or (keys_of es) j 0 ≢ n) → item ≡ get_or es k item
       → find nat_cmp n es ≡ Some item.1

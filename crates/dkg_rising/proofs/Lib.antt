@@ -1,3 +1,3 @@
 pub mod Finding
-pub mod Places
+pub mod Indexes
 pub mod Views

@@ -6,9 +6,9 @@ use Rattle.std.specs.List.Sorted.{IsStrictlyIncreasing}
 use Rattle.std.specs.Map.{keys_of, lookup}
 use Rattle.std.specs.Option.{option_or}
 use Rattle.std.proofs.lemmas.Cmp.{nat_cmp_total}
-use Rattle.dkg_rising.specs.Places.{IsAt, IsGap}
+use Rattle.dkg_rising.specs.Indexes.{IsAt, IsGap}
 use Rattle.dkg_rising.proofs.Finding.{Puts, same, find_at, find_joined, find_lookup, puts_at, puts_behind, puts_first, puts_second, puts_tree}
-use Rattle.dkg_rising.proofs.Places.{find_gap, none_before}
+use Rattle.dkg_rising.proofs.Indexes.{find_gap, none_before}
 
 module _ {X : Type 0} where
   view_puts : (es fs : List (ℕ × X)) (n : ℕ) (v : X) → Puts es fs n v → from_entries {R = nat_cmp} fs ≡ insert (from_entries {R = nat_cmp} es) n v

@@ -8,7 +8,7 @@ ghost use Rattle.std.specs.Map.{keys_of};
 ghost use Rattle.std.specs.Option.{option_copied};
 ghost use Rattle.std.specs.Ordering.{nat_cmp};
 ghost use Rattle.std.specs.FinMap as map;
-ghost use Rattle.dkg_rising.specs.Places.{IsAt, IsGap};
+ghost use Rattle.dkg_rising.specs.Indexes.{IsAt, IsGap};
 
 use dkg_values::Mem;
 use std::alloc::Global;
@@ -55,7 +55,7 @@ fn search<V>(rising: &[(u64, V)], number: u64) -> Result<usize, usize>
 
 /// Where a number stands, or would go. The last entry is looked at first.
 #[inline]
-fn place<V>(rising: &[(u64, V)], number: u64) -> Result<usize, usize>
+fn index_of<V>(rising: &[(u64, V)], number: u64) -> Result<usize, usize>
     requires { IsStrictlyIncreasing (keys_of rising.now) }
     ensures there { IfOk result (IsAt number rising.now) }
     ensures absent { IfErr result (IsGap number rising.now) }
@@ -102,7 +102,7 @@ impl<V: Drop> RisingMap<V> {
     pub fn get(&self, number: u64) -> Option<&V>
         ensures { option_copied result ≡ map.get self.now number }
     {
-        match place(&self.rising, number) {
+        match index_of(&self.rising, number) {
             Ok(at) => Some(&self.rising[at].1),
             Err(_) if self.others.is_empty() => None,
             Err(_) => late(&self.others, number),
@@ -123,7 +123,7 @@ impl<V: Drop> RisingMap<V> {
         ensures done { OnOk result (self.new ≡ map.insert self.old number value) }
         ensures kept { OnErr result (self.new ≡ self.old) }
     {
-        match place(&self.rising, number) {
+        match index_of(&self.rising, number) {
             Ok(at) => {
                 self.rising[at] = (number, value);
                 Ok(())

@@ -25,9 +25,9 @@ use Rattle.dkg_outside.specs.declared.status.Status.TheVariants as status
 use Rattle.dkg_lives.proofs.Checked.{refused_so}
 use Rattle.dkg_promises.proofs.Completing.{valid_as_cut}
 
--- the entries from a place on, where it is the end of what was there
-pub from_place : (old new added : List Entry) (place : ℕ) → place ≡ length old → new ≡ old ++ added → drop place new ≡ added
-from_place old new added place at is = rw (at, is) (drop-append_seam old added)
+-- the entries from an index on, where it is the end of what was there
+pub from_index : (old new added : List Entry) (index : ℕ) → index ≡ length old → new ≡ old ++ added → drop index new ≡ added
+from_index old new added index at is = rw (at, is) (drop-append_seam old added)
 
 -- what was read, by the source before it was given back the bytes
 pub reads : (Tells : Type 0) (old mid new bytes : List ℕ) (HasBack : List ℕ → Type 0) → new ≡ mid → (Tells → TookAll bytes old mid) → length bytes ≤ 16777216 → HasBack bytes → WasRead Tells old new HasBack bytes

@@ -311,11 +311,11 @@ fn sum_up<K: Sink>(
     }
 }
 
-/// The entries of a transcript from a place on.
-fn entries_from(out: &Transcript, place: usize) -> &[Entry]
-    ensures { result.now ≡ drop place out.now.entries }
+/// The entries of a transcript from an index on.
+fn entries_from(out: &Transcript, index: usize) -> &[Entry]
+    ensures { result.now ≡ drop index out.now.entries }
 {
-    out.entries().get(place..).unwrap_or(&[])
+    out.entries().get(index..).unwrap_or(&[])
 }
 
 /// Does what the words say. `run` reads a script from the source, runs its lives over the devices, and writes the lines of the new

@@ -12,7 +12,7 @@ use Rattle.dkg_script.specs.Setting.{Setting, CutAt, blocks_per_epoch, found}
 use Rattle.dkg_script.proofs.AsCut.{all_within}
 use Rattle.dkg_script.proofs.ConsistentAsCut.{before_it, step_of_life}
 use Rattle.dkg_script.proofs.FollowsAsCut.{epoch_as_cut, follows_as_cut}
-use Rattle.dkg_script.proofs.InclusionAsCut.{at_its_place}
+use Rattle.dkg_script.proofs.InclusionAsCut.{at_its_index}
 
 module _ (s : Setting) (ends : List (Option CutAt)) (l : ℕ) (life : Life) (no_sync : life.sync ≡ None) (none : found s l ≡ None) (end : Option CutAt) where
   abbrev t : Setting
@@ -47,5 +47,5 @@ epochs_as_cut ends script form = record {
   short = form.short;
   blocks = form.blocks;
   placed = form.placed;
-  lives = λ l. at_its_place ends script.lives l (IsEpochsLife (as_cut ends script) l) (λ life is. life_cut ends script l (cut_of ends l) life (form.lives l life is));
+  lives = λ l. at_its_index ends script.lives l (IsEpochsLife (as_cut ends script) l) (λ life is. life_cut ends script l (cut_of ends l) life (form.lives l life is));
 }

@@ -29,8 +29,8 @@ anew_within (Some at) events anew = by_call (at.call == 0)
 
 -- what holds of each life as it was cut holds of each that is there then
 module _ (ends : List (Option CutAt)) (lives : List Life) (l : ℕ) (P : Life → Type 0) (each : (life : Life) → slice_get lives l ≡ Some life → P (life_as_cut (cut_of ends l) life)) where
-  pub at_its_place : (life : Life) → slice_get (lives_as_cut ends lives) l ≡ Some life → P life
-  at_its_place life is = by_life (slice_get lives l) refl (sym (its_life ends lives l) ∙ is)
+  pub at_its_index : (life : Life) → slice_get (lives_as_cut ends lives) l ≡ Some life → P life
+  at_its_index life is = by_life (slice_get lives l) refl (sym (its_life ends lives l) ∙ is)
     where
       by_life : (o : Option Life) → slice_get lives l ≡ o → option_map (life_as_cut (cut_of ends l)) o ≡ Some life → P life
       by_life None there is = absurd cc
@@ -54,5 +54,5 @@ inclusion_as_cut ends script form = record {
   rising = form.rising;
   blocks = form.blocks;
   placed = form.placed;
-  lives = λ l. at_its_place ends script.lives l (IsLifeIn (as_cut ends script)) (λ life is. life_cut ends script (cut_of ends l) life (form.lives l life is));
+  lives = λ l. at_its_index ends script.lives l (IsLifeIn (as_cut ends script)) (λ life is. life_cut ends script (cut_of ends l) life (form.lives l life is));
 }

@@ -12,6 +12,7 @@ pub mod EpochsAsCut
 pub mod EpochsWithin
 pub mod FollowsAsCut
 pub mod Formed
+pub mod FromIndex
 pub mod Histories
 pub mod Honest
 pub mod InclusionAsCut
@@ -24,7 +25,6 @@ pub mod OneAck
 pub mod OneAckAgain
 pub mod OneDealing
 pub mod Openings
-pub mod Placed
 pub mod Plain
 pub mod Rounds
 pub mod RunsPastACut

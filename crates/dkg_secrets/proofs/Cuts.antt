@@ -15,8 +15,8 @@ use Rattle.dkg_secrets.proofs.Map.{gone_at, keys_total, exact_keys}
 same_bit : (pick n : ℕ) → is_clear pick (n % 64) ≡ is_clear pick n
 same_bit pick n = ap (λ (k : ℕ). (pick / 2 ^ k) % 2 == 0) (omega arith)
 
-bit_at : (pick place : ℕ) → place < 64 → is_clear pick place ≡ ((pick / 2 ^ place) % 2 == 0)
-bit_at pick place below = ap (λ (k : ℕ). (pick / 2 ^ k) % 2 == 0) (omega arith)
+bit_at : (pick index : ℕ) → index < 64 → is_clear pick index ≡ ((pick / 2 ^ index) % 2 == 0)
+bit_at pick index below = ap (λ (k : ℕ). (pick / 2 ^ k) % 2 == 0) (omega arith)
 
 is_zero : (n : ℕ) → n ≡ 0 → (n == 0) ≡ true
 is_zero n is = grind (arith, nat_tests)
@@ -24,14 +24,14 @@ is_zero n is = grind (arith, nat_tests)
 is_not : (n : ℕ) → (n ≡ 0 → ⊥) → (n == 0) ≡ false
 is_not n is = grind (arith, nat_tests)
 
-clear_at : (pick place : ℕ) → place < 64 → (pick / 2 ^ place) % 2 ≡ 0 → is_clear pick place ≡ true
-clear_at pick place below is = bit_at pick place below ∙ is_zero _ is
+clear_at : (pick index : ℕ) → index < 64 → (pick / 2 ^ index) % 2 ≡ 0 → is_clear pick index ≡ true
+clear_at pick index below is = bit_at pick index below ∙ is_zero _ is
 
-set_at : (pick place : ℕ) → place < 64 → ((pick / 2 ^ place) % 2 ≡ 0 → ⊥) → is_clear pick place ≡ false
-set_at pick place below is = bit_at pick place below ∙ is_not _ is
+set_at : (pick index : ℕ) → index < 64 → ((pick / 2 ^ index) % 2 ≡ 0 → ⊥) → is_clear pick index ≡ false
+set_at pick index below is = bit_at pick index below ∙ is_not _ is
 
 module _ {K X : Type 0} {R : K → K → Ordering} where
-  -- places turn at 64
+  -- indexes turn at 64
   cleared_turn : (pick n : ℕ) (ks : List K) (m : FinMap R X) → cleared pick (n % 64) ks m ≡ cleared pick n ks m
   cleared_turn pick n [] m = refl
   cleared_turn pick n (k ∷ ks) m =
@@ -41,25 +41,25 @@ module _ {K X : Type 0} {R : K → K → Ordering} where
       ∙ cleared_turn pick (n + 1) ks (cond (is_clear pick n) (remove m k) m)
 
   -- the key at an index, and then those behind it
-  cleared_more : (pick place i : ℕ) (ks : List K) (d : K) (m n : FinMap R X) → i < length ks → n ≡ cond (is_clear pick place) (remove m (get_or ks i d)) m → cleared pick ((place + 1) % 64) (drop (i + 1) ks) n ≡ cleared pick place (drop i ks) m
-  cleared_more pick place i ks d m n below next =
-      ap (cleared pick ((place + 1) % 64) (drop (i + 1) ks)) next
-      ∙ cleared_turn pick (place + 1) (drop (i + 1) ks) (cond (is_clear pick place) (remove m (get_or ks i d)) m)
-      ∙ ap (λ (l : List K). cleared pick place l m) (sym (drop_more ks i d below))
+  cleared_more : (pick index i : ℕ) (ks : List K) (d : K) (m n : FinMap R X) → i < length ks → n ≡ cond (is_clear pick index) (remove m (get_or ks i d)) m → cleared pick ((index + 1) % 64) (drop (i + 1) ks) n ≡ cleared pick index (drop i ks) m
+  cleared_more pick index i ks d m n below next =
+      ap (cleared pick ((index + 1) % 64) (drop (i + 1) ks)) next
+      ∙ cleared_turn pick (index + 1) (drop (i + 1) ks) (cond (is_clear pick index) (remove m (get_or ks i d)) m)
+      ∙ ap (λ (l : List K). cleared pick index l m) (sym (drop_more ks i d below))
 
-  pub cleared_gone : (pick place i : ℕ) (ks : List K) (d : K) (m n : FinMap R X) → i < length ks → place < 64 → (pick / 2 ^ place) % 2 ≡ 0 → n ≡ remove m (get_or ks i d) → cleared pick ((place + 1) % 64) (drop (i + 1) ks) n ≡ cleared pick place (drop i ks) m
-  cleared_gone pick place i ks d m n below turns clear next =
-      cleared_more pick place i ks d m n below (next ∙ sym (ap (λ (b : Bool). cond b (remove m (get_or ks i d)) m) (clear_at pick place turns clear)))
+  pub cleared_gone : (pick index i : ℕ) (ks : List K) (d : K) (m n : FinMap R X) → i < length ks → index < 64 → (pick / 2 ^ index) % 2 ≡ 0 → n ≡ remove m (get_or ks i d) → cleared pick ((index + 1) % 64) (drop (i + 1) ks) n ≡ cleared pick index (drop i ks) m
+  cleared_gone pick index i ks d m n below turns clear next =
+      cleared_more pick index i ks d m n below (next ∙ sym (ap (λ (b : Bool). cond b (remove m (get_or ks i d)) m) (clear_at pick index turns clear)))
 
-  pub cleared_kept : (pick place i : ℕ) (ks : List K) (d : K) (m n : FinMap R X) → i < length ks → place < 64 → ((pick / 2 ^ place) % 2 ≡ 0 → ⊥) → n ≡ m → cleared pick ((place + 1) % 64) (drop (i + 1) ks) n ≡ cleared pick place (drop i ks) m
-  cleared_kept pick place i ks d m n below turns is_set next =
-      cleared_more pick place i ks d m n below (next ∙ sym (ap (λ (b : Bool). cond b (remove m (get_or ks i d)) m) (set_at pick place turns is_set)))
+  pub cleared_kept : (pick index i : ℕ) (ks : List K) (d : K) (m n : FinMap R X) → i < length ks → index < 64 → ((pick / 2 ^ index) % 2 ≡ 0 → ⊥) → n ≡ m → cleared pick ((index + 1) % 64) (drop (i + 1) ks) n ≡ cleared pick index (drop i ks) m
+  cleared_kept pick index i ks d m n below turns is_set next =
+      cleared_more pick index i ks d m n below (next ∙ sym (ap (λ (b : Bool). cond b (remove m (get_or ks i d)) m) (set_at pick index turns is_set)))
 
   module _ (total : IsTotalOrder R) (exact : IsAntisymmetric R) (epoch_of : K → ℕ) (min : ℕ) where
-    stays_or_goes : (pick place : ℕ) (ks : List K) (old m : FinMap R X) → AllByRecursion (λ k. epoch_of k < min) ks → ((q : K) → StaysOrGoes min (epoch_of q) (get old q) (get m q)) → (q : K) → StaysOrGoes min (epoch_of q) (get old q) (get (cleared pick place ks m) q)
-    stays_or_goes pick place [] old m below stays q = stays q
-    stays_or_goes pick place (k ∷ ks) old m below stays q = stays_or_goes pick (place + 1) ks old (cond (is_clear pick place) (remove m k) m) below.1
-        (λ p. elim (is_clear pick place) as (λ b. StaysOrGoes min (epoch_of p) (get old p) (get (cond b (remove m k) m) p)) [
+    stays_or_goes : (pick index : ℕ) (ks : List K) (old m : FinMap R X) → AllByRecursion (λ k. epoch_of k < min) ks → ((q : K) → StaysOrGoes min (epoch_of q) (get old q) (get m q)) → (q : K) → StaysOrGoes min (epoch_of q) (get old q) (get (cleared pick index ks m) q)
+    stays_or_goes pick index [] old m below stays q = stays q
+    stays_or_goes pick index (k ∷ ks) old m below stays q = stays_or_goes pick (index + 1) ks old (cond (is_clear pick index) (remove m k) m) below.1
+        (λ p. elim (is_clear pick index) as (λ b. StaysOrGoes min (epoch_of p) (get old p) (get (cond b (remove m k) m) p)) [
           | true ↦ gone_at total exact epoch_of min old m k below.0 stays p
           | false ↦ stays p
         ]) q
@@ -74,8 +74,8 @@ module _ {K X : Type 0} {R : K → K → Ordering} where
         under : (n : ℕ) → nat_lt n min ≡ true → n < min
         under n t = grind (arith, nat_tests)
 
-    cleared_torn : (pick place : ℕ) (m : FinMap R X) (q : K) → StaysOrGoes min (epoch_of q) (get m q) (get (cleared pick place (keys_below epoch_of min m) m) q)
-    cleared_torn pick place m q = stays_or_goes pick place (keys_below epoch_of min m) m m (all_below (entries m)) (λ p. inl refl) q
+    cleared_torn : (pick index : ℕ) (m : FinMap R X) (q : K) → StaysOrGoes min (epoch_of q) (get m q) (get (cleared pick index (keys_below epoch_of min m) m) q)
+    cleared_torn pick index m q = stays_or_goes pick index (keys_below epoch_of min m) m m (all_below (entries m)) (λ p. inl refl) q
 
 -- what goes was below the minimum
 pub pruned_torn : (min pick : ℕ) (s t : Secrets) → t ≡ pruned_by min pick s → IsTornPrune min s t
@@ -91,11 +91,11 @@ pub pruned_is : (min pick : ℕ) (s : Secrets) (shares seeds : List ℕ) (privat
     → of_shares ≡ cleared pick 0 shares s.shares → second ≡ (0 + length shares) % 64 → of_seeds ≡ cleared pick second seeds s.seeds → third ≡ (second + length seeds) % 64 → of_privates ≡ cleared pick third privates s.privates
     → record { shares = of_shares; seeds = of_seeds; privates = of_privates } ≡ pruned_by min pick s
 pruned_is min pick s shares seeds privates of_shares of_seeds of_privates second third one two three is_shares at_second is_seeds at_third is_privates =
-    let first_place : of_shares ≡ cleared pick 0 (keys_below (λ (k : ℕ). k) min s.shares) s.shares = is_shares ∙ ap (λ (l : List ℕ). cleared pick 0 l s.shares) one in
+    let first_row : of_shares ≡ cleared pick 0 (keys_below (λ (k : ℕ). k) min s.shares) s.shares = is_shares ∙ ap (λ (l : List ℕ). cleared pick 0 l s.shares) one in
     let from_second : second ≡ length shares % 64 = omega (arith, at_second) in
     let from_third : third ≡ (length shares + length seeds) % 64 = omega (arith, at_second, at_third) in
-    let second_place : of_seeds ≡ cleared pick (length (keys_below (λ (k : ℕ). k) min s.shares)) (keys_below (λ (k : ℕ). k) min s.seeds) s.seeds =
+    let second_row : of_seeds ≡ cleared pick (length (keys_below (λ (k : ℕ). k) min s.shares)) (keys_below (λ (k : ℕ). k) min s.seeds) s.seeds =
     is_seeds ∙ ap (λ (n : ℕ). cleared pick n seeds s.seeds) from_second ∙ cleared_turn pick (length shares) seeds s.seeds ∙ (λ i. cleared pick (length (one i)) (two i) s.seeds) in
-    let third_place : of_privates ≡ cleared pick (length (keys_below (λ (k : ℕ). k) min s.shares) + length (keys_below (λ (k : ℕ). k) min s.seeds)) (keys_below (λ (k : ℕ × ℕ). k.0) min s.privates) s.privates =
+    let third_row : of_privates ≡ cleared pick (length (keys_below (λ (k : ℕ). k) min s.shares) + length (keys_below (λ (k : ℕ). k) min s.seeds)) (keys_below (λ (k : ℕ × ℕ). k.0) min s.privates) s.privates =
     is_privates ∙ ap (λ (n : ℕ). cleared pick n privates s.privates) from_third ∙ cleared_turn pick (length shares + length seeds) privates s.privates ∙ (λ i. cleared pick (length (one i) + length (two i)) (three i) s.privates) in
-    λ i. record { shares = first_place i; seeds = second_place i; privates = third_place i }
+    λ i. record { shares = first_row i; seeds = second_row i; privates = third_row i }

@@ -38,7 +38,7 @@ module _ {V : Type 0} (bound : ℕ) where
 
   none_newer : (es : List (ℕ × V)) (newest : Option V) → ((j : ℕ) → j < bound → find nat_cmp j es ≡ None) → fold newer newest es ≡ newest
   none_newer [] newest none = refl
-  none_newer (e ∷ es) newest none = by_place (nat_lt e.0 bound) refl (none_newer es newest rest)
+  none_newer (e ∷ es) newest none = by_test (nat_lt e.0 bound) refl (none_newer es newest rest)
     where
       rest : (j : ℕ) → j < bound → find nat_cmp j es ≡ None
       rest j low = (not_first (eq_by_cmp nat_cmp j e.0) e.1 (find nat_cmp j es) (none j low)).1
@@ -49,14 +49,14 @@ module _ {V : Type 0} (bound : ℕ) where
           let yes : (e.0 == e.0) ≡ true = grind (arith, nat_tests) in
           let h : true ≡ false = sym yes ∙ sym (tie e.0 e.0) ∙ no in absurd cc
 
-      by_place : (b : Bool) → nat_lt e.0 bound ≡ b → fold newer newest es ≡ newest → fold newer (if nat_lt e.0 bound then Some e.1 else newest) es ≡ newest
-      by_place true is go = absurd (itself (grind (arith, nat_tests)))
-      by_place false is go = ap (λ (b : Bool). fold newer (if b then Some e.1 else newest) es) is ∙ go
+      by_test : (b : Bool) → nat_lt e.0 bound ≡ b → fold newer newest es ≡ newest → fold newer (if nat_lt e.0 bound then Some e.1 else newest) es ≡ newest
+      by_test true is go = absurd (itself (grind (arith, nat_tests)))
+      by_test false is go = ap (λ (b : Bool). fold newer (if b then Some e.1 else newest) es) is ∙ go
 
   one_newer : (es : List (ℕ × V)) (newest : Option V) → T (is_sorted nat_cmp es) → (k : ℕ) (v : V) → k < bound → find nat_cmp k es ≡ Some v
       → ((j : ℕ) → k < j → j < bound → find nat_cmp j es ≡ None) → fold newer newest es ≡ Some v
   one_newer [] newest rising k v low has none = absurd cc
-  one_newer (e ∷ es) newest rising k v low has none = by_place (eq_by_cmp nat_cmp k e.0) refl (λ n has_it. one_newer es n both.1 k v low has_it later)
+  one_newer (e ∷ es) newest rising k v low has none = by_test (eq_by_cmp nat_cmp k e.0) refl (λ n has_it. one_newer es n both.1 k v low has_it later)
     where
       both : T (below_all nat_cmp e.0 es) × T (is_sorted nat_cmp es)
       both = parts (below_all nat_cmp e.0 es) (is_sorted nat_cmp es) rising
@@ -64,8 +64,8 @@ module _ {V : Type 0} (bound : ℕ) where
       later : (j : ℕ) → k < j → j < bound → find nat_cmp j es ≡ None
       later j above below = (not_first (eq_by_cmp nat_cmp j e.0) e.1 (find nat_cmp j es) (none j above below)).1
 
-      by_place : (b : Bool) → eq_by_cmp nat_cmp k e.0 ≡ b → ((n : Option V) → find nat_cmp k es ≡ Some v → fold newer n es ≡ Some v) → fold newer (newer newest e) es ≡ Some v
-      by_place true is go =
+      by_test : (b : Bool) → eq_by_cmp nat_cmp k e.0 ≡ b → ((n : Option V) → find nat_cmp k es ≡ Some v → fold newer n es ≡ Some v) → fold newer (newer newest e) es ≡ Some v
+      by_test true is go =
           let same : e.0 ≡ k = let t : (e.0 == k) ≡ true = sym (tie k e.0) ∙ is in grind (arith, nat_tests) in
           let value : Some e.1 ≡ Some v = sym (ap (λ (b : Bool). cond b (Some e.1) (find nat_cmp k es)) is) ∙ has in
           let in_it : nat_lt e.0 bound ≡ true = grind (arith, nat_tests) in
@@ -75,7 +75,7 @@ module _ {V : Type 0} (bound : ℕ) where
           by_order : (j : ℕ) → j < bound → e.0 ≡ k → (b : Bool) → nat_lt k j ≡ b → find nat_cmp j es ≡ None
           by_order j below same true is = later j (grind (arith, nat_tests)) below
           by_order j below same false is = none_below e.0 es both.0 j (grind (arith, nat_tests))
-      by_place false is go = go (newer newest e) (sym (ap (λ (b : Bool). cond b (Some e.1) (find nat_cmp k es)) is) ∙ has)
+      by_test false is go = go (newer newest e) (sym (ap (λ (b : Bool). cond b (Some e.1) (find nat_cmp k es)) is) ∙ has)
 
 -- OF A MAP
 
@@ -94,14 +94,14 @@ newest_none m bound none = none_newer bound (entries m) None (λ j below. sym (g
 newest_filtered : {V : Type 0} (bound : ℕ) (es : List (ℕ × V)) (newest : Option V)
     → fold (λ newest p. if nat_lt p.0 bound then Some p.1 else newest) newest es ≡ fold (λ _ p. Some p.1) newest (filter (λ e. nat_lt e.0 bound) es)
 newest_filtered bound [] newest = refl
-newest_filtered {V} bound (e ∷ es) newest = by_place (nat_lt e.0 bound) (newest_filtered bound es (Some e.1)) (newest_filtered bound es newest)
+newest_filtered {V} bound (e ∷ es) newest = by_test (nat_lt e.0 bound) (newest_filtered bound es (Some e.1)) (newest_filtered bound es newest)
   where
-    by_place : (b : Bool) → fold (λ newest p. if nat_lt p.0 bound then Some p.1 else newest) (Some e.1) es ≡ fold (λ _ p. Some p.1) (Some e.1) (filter (λ e. nat_lt e.0 bound) es)
+    by_test : (b : Bool) → fold (λ newest p. if nat_lt p.0 bound then Some p.1 else newest) (Some e.1) es ≡ fold (λ _ p. Some p.1) (Some e.1) (filter (λ e. nat_lt e.0 bound) es)
         → fold (λ newest p. if nat_lt p.0 bound then Some p.1 else newest) newest es ≡ fold (λ _ p. Some p.1) newest (filter (λ e. nat_lt e.0 bound) es)
         → fold (λ newest p. if nat_lt p.0 bound then Some p.1 else newest) (if b then Some e.1 else newest) es
         ≡ fold (λ _ p. Some p.1) newest (cond b (e ∷ filter (λ e. nat_lt e.0 bound) es) (filter (λ e. nat_lt e.0 bound) es))
-    by_place true first rest = first
-    by_place false first rest = rest
+    by_test true first rest = first
+    by_test false first rest = rest
 
 last_of : {V : Type 0} (ys : List (ℕ × V)) (y : ℕ × V) (newest : Option V) → fold (λ _ p. Some p.1) newest (ys ++ y ∷ []) ≡ Some y.1
 last_of [] y newest = refl
@@ -116,8 +116,8 @@ newest_of_none {V} bound es is = newest_filtered bound es None ∙ ap (λ (l : L
 -- none from one number on, and none at the one below
 pub none_from : {V : Type 0} (m : FinMap nat_cmp V) (from bound : ℕ) → 0 < from → ((k : ℕ) → from ≤ k → k < bound → get m k ≡ None) → get m (from - 1) ≡ None
     → (k : ℕ) → from - 1 ≤ k → k < bound → get m k ≡ None
-none_from {V} m from bound some above here k low high = by_place (nat_lt k from) refl
+none_from {V} m from bound some above here k low high = by_test (nat_lt k from) refl
   where
-    by_place : (b : Bool) → nat_lt k from ≡ b → get m k ≡ None
-    by_place true is = subst (λ (j : ℕ). get m j ≡ None) (let same : from - 1 ≡ k = grind (arith, nat_tests) in same) here
-    by_place false is = above k (grind (arith, nat_tests)) high
+    by_test : (b : Bool) → nat_lt k from ≡ b → get m k ≡ None
+    by_test true is = subst (λ (j : ℕ). get m j ≡ None) (let same : from - 1 ≡ k = grind (arith, nat_tests) in same) here
+    by_test false is = above k (grind (arith, nat_tests)) high

@@ -6,20 +6,20 @@ use Rattle.dkg_secrets.specs.Secrets.{Secrets, after}
 use Rattle.dkg_secrets.specs.declared.secrets.SecretOp.{SecretOp}
 use Rattle.dkg_secrets.specs.declared.secrets.SecretOp.TheVariants.{PutShare, PutSeed, PutDealing, Prune}
 
--- the bit of a pick at a place, one of 64 by turns, is 0
+-- the bit of a pick at an index, one of 64 by turns, is 0
 abbrev pub is_clear : ℕ → ℕ → Bool
-is_clear pick place = (pick / 2 ^ (place % 64)) % 2 == 0
+is_clear pick index = (pick / 2 ^ (index % 64)) % 2 == 0
 
--- Without those of these keys at whose places the bits are 0. The first of them has this place.
+-- Without those of these keys at whose indexes the bits are 0. The first of them has this index.
 abbrev pub cleared : {K X : Type 0} {R : K → K → Ordering} → ℕ → ℕ → List K → FinMap R X → FinMap R X
-cleared pick place [] m = m
-cleared pick place (k ∷ ks) m = cleared pick (place + 1) ks (if is_clear pick place then remove m k else m)
+cleared pick index [] m = m
+cleared pick index (k ∷ ks) m = cleared pick (index + 1) ks (if is_clear pick index then remove m k else m)
 
 -- the keys of epochs below a minimum, rising
 abbrev pub keys_below : {K X : Type 0} {R : K → K → Ordering} → (K → ℕ) → ℕ → FinMap R X → List K
 keys_below epoch_of min m = map (λ e. e.0) (filter (λ e. nat_lt (epoch_of e.0) min) (entries m))
 
--- The keys below the minimum have their places in one row: shares, seeds, private halves.
+-- The keys below the minimum have their indexes in one row: shares, seeds, private halves.
 abbrev pub pruned_by : ℕ → ℕ → Secrets → Secrets
 pruned_by min pick s =
     let shares = keys_below (λ (epoch : ℕ). epoch) min s.shares in

@@ -96,7 +96,7 @@ impl SecretMaps {
     }
 
     /// Takes some of what is below the minimum away. Of the keys below it (of shares, of seeds, of private halves, each rising) the
-    /// one at place i goes where bit i mod 64 of the pick is 0.
+    /// one at index i goes where bit i mod 64 of the pick is 0.
     fn prune_some(&mut self, alloc: Global, min: Epoch, pick: u64) -> Mem<()>
         ensures done { OnOk result (self.new ≡ pruned_by min pick self.old) }
         ensures torn { OnOk result (IsTornPrune min self.old self.new) }
@@ -105,9 +105,9 @@ impl SecretMaps {
         let shares = self.shares.keys_below(alloc, min.0)?;
         let seeds = self.seeds.keys_below(alloc, min.0)?;
         let privates = self.privates.keys_below(alloc, min.0)?;
-        let place = self.shares.remove_some(&shares, pick, 0);
-        let place = self.seeds.remove_some(&seeds, pick, place);
-        let _place = self.privates.remove_some(&privates, pick, place);
+        let index = self.shares.remove_some(&shares, pick, 0);
+        let index = self.seeds.remove_some(&seeds, pick, index);
+        let _index = self.privates.remove_some(&privates, pick, index);
         Ok(())
     }
 

@@ -109,20 +109,20 @@ impl<V: Drop> NumberMap<V> {
         Ok(keys)
     }
 
-    /// Takes of these keys those away at whose places the pick's bits are 0. The first key has the first place; what is given is the
-    /// place behind the last. Places turn at 64.
+    /// Takes of these keys those away at whose indexes the pick's bits are 0. The first key has the first index; what is given is the
+    /// index behind the last. Indexes turn at 64.
     pub fn remove_some(&mut self, keys: &[u64], pick: u64, first: u32) -> u32
         requires { first < 64 }
         ensures cleared { self.new ≡ cleared pick first keys.now self.old }
         ensures behind { result ≡ (first + length keys.now) % 64 }
     {
-        let mut place = first;
+        let mut index = first;
         for key in keys {
-            if (pick >> place) % 2 == 0 {
+            if (pick >> index) % 2 == 0 {
                 self.remove(*key);
             }
-            place = (place + 1) % 64;
+            index = (index + 1) % 64;
         }
-        place
+        index
     }
 }

@@ -120,7 +120,7 @@ impl SecretStore for SureSecrets {
         ensures later { self.old.wants ≤ self.new.wants }
         ensures wanted { OnErr result (Rose self.old.wants self.new.wants) }
         ensures calls { MadeSecrets (CutIn op.now pick ∷ []) self.old.held self.new.held }
-        // A put is done where the pick is even; of the keys that a prune is to take, those go at whose places the bits are 0.
+        // A put is done where the pick is even; of the keys that a prune is to take, those go at whose indexes the bits are 0.
         ensures picked { OnOk result (self.new.held ≡ after_cut op.now pick self.old.held) }
     {
         if self.held.cut(alloc, op, pick).is_err() {

@@ -3,7 +3,7 @@ use Rattle.std.proofs.Common.{◌≡◌, ℕ, suc, ◌==◌, nat_lt, Bool, true,
 use Rattle.std.specs.Prelude.{Contains, if◌then◌else◌}
 use Rattle.std.specs.Str.{bytes_eq}
 use Rattle.std.proofs.lemmas.Slice.Eq.{bytes_eq-Decides}
-use Rattle.dkg_values.specs.Places.{place_of-Contains}
+use Rattle.dkg_values.specs.IndexLaws.{index_of-Contains}
 use Rattle.dkg_infos.specs.declared.info.EpochInfo.{EpochInfo}
 use Rattle.dkg_infos.specs.Validation.{are_among, reshare_validation, validation}
 use Rattle.dkg_infos.specs.declared.participants.ParticipantsError.{ParticipantsError}
@@ -12,7 +12,7 @@ use Rattle.dkg_core.specs.Setup as setup
 
 among_them : (xs keys : List ℕ) → ((x : ℕ) → Contains xs x → Contains keys x) → are_among xs keys ≡ true
 among_them [] keys all = refl
-among_them (x ∷ xs) keys all = rw (place_of-Contains x keys (all x (0, omega arith, refl))) (among_them xs keys (λ y c. all y (suc c.0, omega (arith, c.1), c.2)))
+among_them (x ∷ xs) keys all = rw (index_of-Contains x keys (all x (0, omega arith, refl))) (among_them xs keys (λ y c. all y (suc c.0, omega (arith, c.1), c.2)))
 
 -- what is asked of dealers that are the players before, in round zero and later
 abbrev asked : List ℕ → Bool → Result (Unit {0}) ParticipantsError

@@ -99,7 +99,7 @@ module _ {Dir : Type 0} (c : Fixed Dir) (n : ℕ) (same : c.blocks_per_epoch ≡
             ∙ (λ i. setup.from_boundary c (c.source.block (boundary (same i) (epoch_as i).participation.epoch)) (epoch_as i))
             ∙ ap (λ (e : ℕ). setup.from_boundary c (c.source.block (boundary n e)) (live_of beside fence life)) its_epoch
 
-        module _ (source : Source Dir) (lent : c.source ≡ source) (place : ℕ) (there : place ≡ boundary n bounds.epoch) (block : Option (Block Dir)) (answered : block ≡ source.block place) where
+        module _ (source : Source Dir) (lent : c.source ≡ source) (asked : ℕ) (there : asked ≡ boundary n bounds.epoch) (block : Option (Block Dir)) (answered : block ≡ source.block asked) where
           its_block : c.source.block (boundary n bounds.epoch) ≡ block
           its_block = (λ i. (lent i).block (sym there i)) ∙ sym answered
 

@@ -6,32 +6,32 @@ use Rattle.std.specs.Bool.{OnTrue}
 use Rattle.std.proofs.lemmas.Bool.{cases_Bool, cases_eq, eq-eqb, eqb-true, ne_eqb}
 use Rattle.std.proofs.lemmas.List.{get_or-set_same, get_or-set_other}
 use Rattle.std.specs.List.{position_from}
-use Rattle.dkg_values.specs.Rising.{place_of, has_key}
+use Rattle.dkg_values.specs.Rising.{index_of, has_key}
 use Rattle.dkg_types.specs.declared.scheme.SchemeInfo.{SchemeInfo}
 use Rattle.dkg_sign.specs.Materials.{scheme_participants}
 use Rattle.dkg_sign.specs.Signs.{AreMet, fault_from, is_valid_partial}
 use Rattle.dkg_sign.specs.declared.error.CombineError.TheVariants.{Invalid, Doubled}
 use Rattle.dkg_sign.specs.declared.partial.Partial.{Partial}
 
--- ---- a key's place
+-- ---- a key's index
 
--- a key stands at its place
-placed_from : (key i : ℕ) (keys : List ℕ) (place : ℕ) → position_from (λ x. eqb x key) i keys ≡ Some place → (k : ℕ) × (place ≡ i + k) × ((d : ℕ) → get_or keys k d ≡ key)
-placed_from key i [] place is = absurd cc
-placed_from key i (x ∷ xs) place is = elim (cases_Bool (eqb x key)) [
-  | inl e ↦ let here : Some i ≡ Some place = rw e at is in let at : i ≡ place = cc in (0, omega arith, λ d. eqb-true x key e)
-  | inr e ↦ let r = placed_from key (i + 1) xs place (rw e at is) in (suc r.0, omega (arith, r.1), r.2)
+-- a key stands at its index
+placed_from : (key i : ℕ) (keys : List ℕ) (index : ℕ) → position_from (λ x. eqb x key) i keys ≡ Some index → (k : ℕ) × (index ≡ i + k) × ((d : ℕ) → get_or keys k d ≡ key)
+placed_from key i [] index is = absurd cc
+placed_from key i (x ∷ xs) index is = elim (cases_Bool (eqb x key)) [
+  | inl e ↦ let here : Some i ≡ Some index = rw e at is in let at : i ≡ index = cc in (0, omega arith, λ d. eqb-true x key e)
+  | inr e ↦ let r = placed_from key (i + 1) xs index (rw e at is) in (suc r.0, omega (arith, r.1), r.2)
 ]
 
-placed : (key : ℕ) (keys : List ℕ) (place d : ℕ) → place_of key keys ≡ Some place → get_or keys place d ≡ key
-placed key keys place d is =
-    let r = placed_from key 0 keys place is in
-    let at : place ≡ r.0 = omega (arith, r.1) in
+placed : (key : ℕ) (keys : List ℕ) (index d : ℕ) → index_of key keys ≡ Some index → get_or keys index d ≡ key
+placed key keys index d is =
+    let r = placed_from key 0 keys index is in
+    let at : index ≡ r.0 = omega (arith, r.1) in
     ap (λ (k : ℕ). get_or keys k d) at ∙ r.2 d
 
--- two keys at one place are one
-one_key : (a b : ℕ) (keys : List ℕ) (place : ℕ) → place_of a keys ≡ Some place → place_of b keys ≡ Some place → a ≡ b
-one_key a b keys place at_a at_b = sym (placed a keys place 0 at_a) ∙ placed b keys place 0 at_b
+-- two keys at one index are one
+one_key : (a b : ℕ) (keys : List ℕ) (index : ℕ) → index_of a keys ≡ Some index → index_of b keys ≡ Some index → a ≡ b
+one_key a b keys index at_a at_b = sym (placed a keys index 0 at_a) ∙ placed b keys index 0 at_b
 
 some_is : (a b : ℕ) → Some a ≡ Some b → a ≡ b
 some_is a b e = cc
@@ -44,29 +44,29 @@ none_at (suc n) zero = refl
 none_at (suc n) (suc i) = none_at n i
 
 pub none_met : (participants : List ℕ) (n : ℕ) → AreMet participants [] (replicate n false)
-none_met participants n = record { each = λ key place is. none_at n place }
+none_met participants n = record { each = λ key index is. none_at n index }
 
-met_more : (participants met : List ℕ) (flags : List Bool) (key place : ℕ) → place_of key participants ≡ Some place → place < length flags → AreMet participants met flags → AreMet participants (key ∷ met) (set flags place true)
-met_more participants met flags key place is lt are = record { each = λ k p at. here k p at (cases_eq p place) }
+met_more : (participants met : List ℕ) (flags : List Bool) (key index : ℕ) → index_of key participants ≡ Some index → index < length flags → AreMet participants met flags → AreMet participants (key ∷ met) (set flags index true)
+met_more participants met flags key index is lt are = record { each = λ k p at. here k p at (cases_eq p index) }
   where
-    here : (k p : ℕ) → place_of k participants ≡ Some p → (p ≡ place) ⊎ (p ≡ place → ⊥) → get_or (set flags place true) p false ≡ has_key k (key ∷ met)
+    here : (k p : ℕ) → index_of k participants ≡ Some p → (p ≡ index) ⊎ (p ≡ index → ⊥) → get_or (set flags index true) p false ≡ has_key k (key ∷ met)
     here k p at (inl same) =
-        let one : k ≡ key = one_key k key participants place (at ∙ ap (λ (n : ℕ). Some n) same) is in
-        ap (λ (n : ℕ). get_or (set flags place true) n false) same ∙ get_or-set_same flags place true false lt ∙ sym (ap (λ (b : Bool). b || has_key k met) (eq-eqb k key one))
+        let one : k ≡ key = one_key k key participants index (at ∙ ap (λ (n : ℕ). Some n) same) is in
+        ap (λ (n : ℕ). get_or (set flags index true) n false) same ∙ get_or-set_same flags index true false lt ∙ sym (ap (λ (b : Bool). b || has_key k met) (eq-eqb k key one))
     here k p at (inr other) =
-        let two : eqb k key ≡ false = ne_eqb k key (λ e. other (some_is p place (sym at ∙ ap (λ (n : ℕ). place_of n participants) e ∙ is))) in
-        get_or-set_other flags place p true false other ∙ are.each k p at ∙ sym (ap (λ (b : Bool). b || has_key k met) two)
+        let two : eqb k key ≡ false = ne_eqb k key (λ e. other (some_is p index (sym at ∙ ap (λ (n : ℕ). index_of n participants) e ∙ is))) in
+        get_or-set_other flags index p true false other ∙ are.each k p at ∙ sym (ap (λ (b : Bool). b || has_key k met) two)
 
 on_true : (b : Bool) (P : Type 0) → P → OnTrue b P
 on_true true P p = p
 on_true false P p = tt
 
 -- a participant is met: whether it was before, and the flags then
-pub meets : (participants met : List ℕ) (flags : List Bool) (key place : ℕ) → place_of key participants ≡ Some place → place < length flags → AreMet participants met flags
-    → (not (get_or flags place false) ≡ not (has_key key met)) × OnTrue (not (get_or flags place false)) (AreMet participants (key ∷ met) (set flags place true))
-meets participants met flags key place is lt are = (
-  ap not (are.each key place is),
-  on_true (not (get_or flags place false)) (AreMet participants (key ∷ met) (set flags place true)) (met_more participants met flags key place is lt are),
+pub meets : (participants met : List ℕ) (flags : List Bool) (key index : ℕ) → index_of key participants ≡ Some index → index < length flags → AreMet participants met flags
+    → (not (get_or flags index false) ≡ not (has_key key met)) × OnTrue (not (get_or flags index false)) (AreMet participants (key ∷ met) (set flags index true))
+meets participants met flags key index is lt are = (
+  ap not (are.each key index is),
+  on_true (not (get_or flags index false)) (AreMet participants (key ∷ met) (set flags index true)) (met_more participants met flags key index is lt are),
 )
 
 -- ---- the partials so far

@@ -1,6 +1,6 @@
 -- The material of an epoch: who takes part, the shared key in public, and a node's share.
 use Rattle.std.specs.Prelude.{ℕ, ◌+◌, ◌==◌, ◌&&◌, Bool, true, false, List, [], ◌∷◌, length, Option, Some, None, option_map}
-use Rattle.dkg_values.specs.Rising.{place_of}
+use Rattle.dkg_values.specs.Rising.{index_of}
 use Rattle.dkg_ceremony.specs.PartialPublics.{share_public_of}
 use Rattle.dkg_ceremony.specs.Polynomials.{value_at}
 use Rattle.dkg_ceremony.specs.Thresholds.{quorum_of}
@@ -23,9 +23,9 @@ scheme_share (Verifier participants sharing) = None
 scheme_share (Member participants sharing key) = None
 scheme_share (Signer participants sharing share) = Some share
 
--- the sharing's value at the point of a participant: its place, from 0, and one
+-- the sharing's value at the point of a participant: its index, from 0, and one
 abbrev pub value_of : SchemeInfo → (key : ℕ) → Option ℕ
-value_of info key = option_map (λ place. value_at (sharing_of info).poly (place + 1)) (place_of key (scheme_participants info))
+value_of info key = option_map (λ index. value_at (sharing_of info).poly (index + 1)) (index_of key (scheme_participants info))
 
 -- whether a share is a participant's, of whom this is the sharing's value; who is no participant has none
 abbrev pub is_share_at : Option ℕ → Option ℕ → Bool

@@ -1,6 +1,6 @@
 -- What a desk answers who asks it to sign, or to combine partials.
 use Rattle.std.specs.Prelude.{◌≡◌, ℕ, ◌+◌, ◌==◌, nat_lt, ◌&&◌, not, Bool, false, List, [], ◌∷◌, length, slice_index_or as get_or, Option, Some, None, Result, Ok, Err, if◌then◌else◌}
-use Rattle.dkg_values.specs.Rising.{has_key, place_of}
+use Rattle.dkg_values.specs.Rising.{has_key, index_of}
 use Rattle.dkg_ceremony.specs.Thresholds.{quorum_of}
 use Rattle.dkg_types.specs.declared.scheme.SchemeInfo.{SchemeInfo}
 use Rattle.dkg_sign.specs.Desks.{Desk, replaced_by, material_of}
@@ -58,9 +58,9 @@ fault_from info epoch hash seen index (p ∷ ps) =
     else if has_key p.signer seen then Some (combine.Doubled index)
     else fault_from info epoch hash (p.signer ∷ seen) (index + 1) ps
 
--- the participants at flagged places are those that were met
+-- the participants at flagged indexes are those that were met
 pub record AreMet (participants met : List ℕ) (flags : List Bool) : Type 0 where
-  pub each : (key place : ℕ) → place_of key participants ≡ Some place → get_or flags place false ≡ has_key key met
+  pub each : (key index : ℕ) → index_of key participants ≡ Some index → get_or flags index false ≡ has_key key met
 
 -- What a check answered is the fault, unless memory ran out.
 abbrev pub AnswersFault : Option CombineError → Result (Unit {0}) CombineError → Type 0

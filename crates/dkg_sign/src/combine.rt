@@ -2,7 +2,7 @@
 ghost use Rattle.std.specs.Prelude.{◌≡◌, ◌<◌, ◌^◌, ℕ, true, not, List, [], ◌∷◌, length, is_some};
 ghost use Rattle.std.specs.Bool.{OnTrue};
 ghost use Rattle.dkg_sign.specs.Signs.{AreMet, AnswersFault, AnswersSignature, combine_of, fault_from, is_valid_partial};
-ghost use Rattle.dkg_values.specs.Rising.{has_key, place_of};
+ghost use Rattle.dkg_values.specs.Rising.{has_key, index_of};
 
 use crate::desk::{SigningDesk, times_of};
 use crate::error::CombineError;
@@ -31,14 +31,14 @@ fn is_partial(info: &SchemeInfo, epoch: Epoch, hash: u32, partial: &Partial) -> 
 /// Whether a participant is met for the first time, and then it was met.
 fn is_first(participants: &Set, key: Key, seen: &mut [bool]) -> bool
     requires flags { length seen.old ≡ length participants.now }
-    requires member { is_some (place_of key participants.now) ≡ true }
+    requires member { is_some (index_of key participants.now) ≡ true }
     ensures { (met : List ℕ) → AreMet participants.now met seen.old
         → (result ≡ not (has_key key met)) × OnTrue result (AreMet participants.now (key ∷ met) seen.new) }
 {
     match participants.position(key) {
-        Some(place) => {
-            let first = !seen[place as usize];
-            seen[place as usize] = true;
+        Some(index) => {
+            let first = !seen[index as usize];
+            seen[index as usize] = true;
             first
         }
         None => true,

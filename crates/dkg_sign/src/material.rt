@@ -2,7 +2,7 @@
 ghost use Rattle.std.specs.Prelude.{◌≡◌, ◌<◌, IsTrue, IfSome, option_map, is_some};
 ghost use Rattle.dkg_ceremony.specs.Polynomials.{value_at};
 ghost use Rattle.dkg_sign.specs.Materials.{scheme_participants, sharing_of, scheme_share, is_own, value_of as value_from};
-ghost use Rattle.dkg_values.specs.Rising.{place_of};
+ghost use Rattle.dkg_values.specs.Rising.{index_of};
 
 use dkg_ceremony::{Ceremony, Key, Set, Share, Sharing, StandCeremony, quorum, value_of};
 use dkg_types::SchemeInfo;
@@ -44,8 +44,8 @@ pub(crate) fn value(info: &SchemeInfo, key: Key) -> Option<u32>
     ensures value { result ≡ value_from info.now key }
     ensures below { IfSome result (λ v. v < 65521) }
 {
-    let place = participants(info).position(key)?;
-    Some(value_of(&sharing(info).poly, place))
+    let index = participants(info).position(key)?;
+    Some(value_of(&sharing(info).poly, index))
 }
 
 /// Whether the material is of one output, and this node's: it is a participant, and its share, where it has one, is the sharing's value at

@@ -111,16 +111,16 @@ module _ {F S T : Type 0} {acts : Acts F S} {files : Files} {image : Files → T
 
 -- NOTHING, OR A LINE
 
-same_place : (files : Files) (image : Files → Type 0) (m : Moment) → Stands files image → (c : Files) → image c → at m c ≡ at m files
-same_place files image m stands c here = ap (at m) (stands.lands.only c here)
+same_at : (files : Files) (image : Files → Type 0) (m : Moment) → Stands files image → (c : Files) → image c → at m c ≡ at m files
+same_at files image m stands c here = ap (at m) (stands.lands.only c here)
 
 module _ {F S : Type 0} (files : Files) (image : Files → Type 0) where
   pub made_nothing : {end its : S} (m : Moment) → end ≡ its → MadeAt {F = F} (Goes its) (went end) files image files image m m
-  made_nothing m is = record { made = λ stands c here. (same_place files image m stands c here, is); stands = λ stands. stands }
+  made_nothing m is = record { made = λ stands c here. (same_at files image m stands c here, is); stands = λ stands. stands }
 
   pub made_none : (acts : Acts F S) {how : Ended F S} (m : Moment) (cause : Cause) → IsBetween cause → how ≡ broken cause → MadeAt acts how files image files image m m
   made_none acts m cause between is = subst (λ (x : Ended F S). MadeAt acts x files image files image m m) (sym is) (record {
-    made = λ stands c here. subst (λ (w : World). Breaks cause acts (at m files) w) (sym (same_place files image m stands c here)) (breaks_none cause between acts (at m files));
+    made = λ stands c here. subst (λ (w : World). Breaks cause acts (at m files) w) (sym (same_at files image m stands c here)) (breaks_none cause between acts (at m files));
     stands = tt;
   })
 
@@ -133,14 +133,14 @@ module _ {F S : Type 0} (files : Files) (image : Files → Type 0) where
   -- the devices were read
   pub made_read : (view : Held → S) {end : S} {out : List Entry} {s now : Secrets} {f : Burn} → now ≡ s → end ≡ view (held_in files s) → MadeAt {F = F} (Ask (λ h. Goes (view h))) (went end) files image files image (moment out s f) (moment out now f)
   made_read view {end} {out} {s} {now} {f} same is = subst (λ (t : Secrets). MadeAt {F = F} (Ask (λ h. Goes (view h))) (went end) files image files image (moment out s f) (moment out t f)) (sym same) (record {
-    made = λ stands c here. (same_place files image (moment out s f) stands c here, is);
+    made = λ stands c here. (same_at files image (moment out s f) stands c here, is);
     stands = λ stands. stands;
   })
 
   -- acts on secrets alone
   pub made_of_secrets : {acts : Acts F S} {how : Ended F S} {out : List Entry} {s now : Secrets} {f g : Burn} → ((j : Journaled) → Runs acts how (world out j s f) (world out j now g)) → MadeAt acts how files image files image (moment out s f) (moment out now g)
   made_of_secrets {acts} {how} {out} {s} {now} {f} {g} runs = record {
-    made = λ stands c here. subst (λ (w : World). Runs acts how (at (moment out s f) files) w) (sym (same_place files image (moment out now g) stands c here)) (runs (journaled files));
+    made = λ stands c here. subst (λ (w : World). Runs acts how (at (moment out s f) files) w) (sym (same_at files image (moment out now g) stands c here)) (runs (journaled files));
     stands = stood how;
   }
     where
@@ -151,7 +151,7 @@ module _ {F S : Type 0} (files : Files) (image : Files → Type 0) where
 
   pub made_say : (line : Entry) (end : S) (out now : List Entry) (s : Secrets) (f : Burn) → now ≡ out ++ line ∷ [] → MadeAt {F = F} (Say line (Goes end)) (went end) files image files image (moment out s f) (moment now s f)
   made_say line end out now s f is = record {
-    made = λ stands c here. (same_place files image (moment now s f) stands c here ∙ ap (λ (l : List Entry). record { out = l; held = held_in files s; fuse = f }) is, refl);
+    made = λ stands c here. (same_at files image (moment now s f) stands c here ∙ ap (λ (l : List Entry). record { out = l; held = held_in files s; fuse = f }) is, refl);
     stands = λ stands. stands;
   }
 

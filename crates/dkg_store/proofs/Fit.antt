@@ -16,11 +16,11 @@ use Rattle.dkg_store.proofs.Events.{read_again}
 module _ (limit : ℕ) where
   placed_events : (es : List SectionEntry) (e : SectionEntry) → is_event_body limit e.1 ≡ true → AreEvents limit es → AreEvents limit (placed es e)
   placed_events [] e is all = (is, tt)
-  placed_events (x ∷ xs) e is all = by_place (nat_lt e.0 x.0) (placed_events xs e is all.1)
+  placed_events (x ∷ xs) e is all = by_order (nat_lt e.0 x.0) (placed_events xs e is all.1)
     where
-      by_place : (b : Bool) → AreEvents limit (placed xs e) → AreEvents limit (cond b (e ∷ x ∷ xs) (x ∷ placed xs e))
-      by_place true later = (is, all)
-      by_place false later = (all.0, later)
+      by_order : (b : Bool) → AreEvents limit (placed xs e) → AreEvents limit (cond b (e ∷ x ∷ xs) (x ∷ placed xs e))
+      by_order true later = (is, all)
+      by_order false later = (all.0, later)
 
   from_events : (min : ℕ) (es : List SectionEntry) → AreEvents limit es → AreEvents limit (from_section min es)
   from_events min [] all = tt

@@ -8,7 +8,7 @@ use Rattle.dkg_values.specs.declared.name.Name.{Name}
 use Rattle.dkg_values.specs.declared.name.Name.TheVariants.{Segment}
 use Rattle.dkg_store.specs.Events.{is_event_body, no_event_at}
 
--- from a place on
+-- from an index on
 pub more_events : (limit : ℕ) (es : List JournalEntry) (i : ℕ) (e : JournalEntry) → i < length es → e ≡ get_or es i e → no_event_at limit (drop i es) ≡ cond (is_event_body limit e.body) (no_event_at limit (drop (i + 1) es)) (Some (Segment e.section, e.place))
 more_events limit es i e below is =
     ap (no_event_at limit) (drop_more es i e below ∙ ap (λ (x : JournalEntry). x ∷ drop (i + 1) es) (sym is))

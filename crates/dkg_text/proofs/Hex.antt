@@ -28,7 +28,7 @@ stand-at (suc n) k h lt =
           rw e (eqb-true (slice_index lower_digits n) (digit_text n) parts.0)
     ]
 
--- the value of a lower-case digit, and its place in the table
+-- the value of a lower-case digit, and its index in the table
 digit_back : (c v : ℕ) → IsLowerDigit c → hex_digit_value c ≡ Some v → (v < 16) × (digit_text v ≡ c)
 digit_back c v lower is = grind arith
 

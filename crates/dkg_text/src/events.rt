@@ -205,12 +205,12 @@ impl Events {
         self.slots.len()
     }
 
-    /// The event at a place, which it lends.
-    pub fn at(&self, place: usize) -> Event<'_>
-        requires { place < length self.now }
-        ensures { slice_get self.now place ≡ Some result }
+    /// The event at an index, which it lends.
+    pub fn at(&self, index: usize) -> Event<'_>
+        requires { index < length self.now }
+        ensures { slice_get self.now index ≡ Some result }
     {
-        lent(&self.bytes, &self.numbers, self.slots[place])
+        lent(&self.bytes, &self.numbers, self.slots[index])
     }
 
     /// Adds an event behind the others. Where memory runs out, they stay.

@@ -26,7 +26,7 @@ pub(crate) type Slot<T> = Option<Node<T, <T as Turn>::Call, <T as Turn>::Reply>>
 
 pub(crate) type Knows<T> = View<T, <T as Turn>::Call, <T as Turn>::Reply>;
 
-pub(crate) type Place<T> = Seat<Slot<T>, Knows<T>>;
+pub(crate) type LockSeat<T> = Seat<Slot<T>, Knows<T>>;
 
 // The word that counts the tickets drawn.
 const TICKETS: usize = 0;
@@ -84,7 +84,7 @@ impl<T: Turn> TurnLock<T> {
     }
 
     // Draws a ticket. There is none after 2^64 - 1.
-    pub(crate) fn draw<R: Wait>(&self, rt: &R, seat: &mut Place<T>) -> Option<u64>
+    pub(crate) fn draw<R: Wait>(&self, rt: &R, seat: &mut LockSeat<T>) -> Option<u64>
         requires own { seat.old.table_id ≡ self.now.id }
         requires idle { (seat.old.me.0.stage ≡ Idle) × (0 < seat.old.me.0.parts) }
         ensures own { (seat.new.table_id ≡ seat.old.table_id) × (seat.new.id ≡ seat.old.id) }
@@ -114,7 +114,7 @@ impl<T: Turn> TurnLock<T> {
     pub(crate) fn come<R: Wait>(
         &self,
         rt: &R,
-        seat: &mut Place<T>,
+        seat: &mut LockSeat<T>,
         ticket: u64,
     ) -> Node<T, T::Call, T::Reply>
         requires own { seat.old.table_id ≡ self.now.id }
@@ -147,7 +147,7 @@ impl<T: Turn> TurnLock<T> {
     }
 
     // Puts the node back, and passes the turn on.
-    pub(crate) fn give(&self, seat: &mut Place<T>, node: Node<T, T::Call, T::Reply>)
+    pub(crate) fn give(&self, seat: &mut LockSeat<T>, node: Node<T, T::Call, T::Reply>)
         requires own { seat.old.table_id ≡ self.now.id }
         requires taken { seat.old.me.1 ≡ (0, None) ∷ [] }
         requires fit { MayGive T.turns seat.old.me.0 node }
@@ -161,7 +161,7 @@ impl<T: Turn> TurnLock<T> {
     }
 
     // The same, and the pass has one more number, which is its ticket plus 1.
-    pub(crate) fn give_named(&self, seat: &mut Place<T>, node: Node<T, T::Call, T::Reply>)
+    pub(crate) fn give_named(&self, seat: &mut LockSeat<T>, node: Node<T, T::Call, T::Reply>)
         requires own { seat.old.table_id ≡ self.now.id }
         requires taken { seat.old.me.1 ≡ (0, None) ∷ [] }
         requires fit { MayGive T.turns seat.old.me.0 node }
@@ -181,7 +181,7 @@ impl<T: Turn> TurnLock<T> {
     }
 
     // Cuts the view of a pass that was newly named in two.
-    pub(crate) fn cut(&self, seat: &mut Place<T>) -> Place<T>
+    pub(crate) fn cut(&self, seat: &mut LockSeat<T>) -> LockSeat<T>
         requires own { seat.old.table_id ≡ self.now.id }
         requires idle { seat.old.me.0.stage ≡ Idle }
         requires named { IsNewlyNamed seat.old.me.0 }
@@ -194,7 +194,7 @@ impl<T: Turn> TurnLock<T> {
     }
 
     // Joins the view of another pass to this one, and then looks that both pasts lie in one history.
-    pub(crate) fn merge(&self, seat: &mut Place<T>, other: Place<T>)
+    pub(crate) fn merge(&self, seat: &mut LockSeat<T>, other: LockSeat<T>)
         requires own { (seat.old.table_id ≡ self.now.id) × (other.table_id ≡ self.now.id) }
         requires idle { (seat.old.me.0.stage ≡ Idle) × (other.me.0.stage ≡ Idle) }
         requires some_part { 0 < seat.old.me.0.parts }

@@ -6,7 +6,7 @@ ghost use Rattle.dkg_turn.specs.Passes.{IsPassOf, Called, LooksAt, SplitOff, End
 ghost use Rattle.dkg_turn.specs.Refusals.{CallRefused, TakeRefused, SplitRefused};
 ghost use Rattle.dkg_turn.specs.Rules.{known_of, first_view};
 
-use crate::lock::{Place, TurnLock};
+use crate::lock::{LockSeat, TurnLock};
 use crate::turn::{HistoryEntry, Turn, Turned};
 use std::alloc::Global;
 use std::marker::Model;
@@ -34,7 +34,7 @@ pub enum TurnError {
 /// drew are all that were drawn, and the calls that it keeps are all that the history has.
 #[derive(Drop)]
 pub struct Pass<T: Turn> {
-    seat: Place<T>,
+    seat: LockSeat<T>,
     number: u64,
 }
 
@@ -55,7 +55,7 @@ impl<T: Turn> Model for Pass<T> {
 
 impl<T: Turn> Pass<T> {
     // The first pass of a lock.
-    pub(crate) fn first(seat: Place<T>, start: &Snapshot<T>) -> Pass<T>
+    pub(crate) fn first(seat: LockSeat<T>, start: &Snapshot<T>) -> Pass<T>
         requires { seat.me ≡ (first_view start.now.value, []) }
         ensures { result ≡ known_of seat.table_id 0 (first_view start.now.value) }
     {

@@ -1,4 +1,4 @@
--- The keys of pairs, by places.
+-- The keys of pairs, by index.
 use Rattle.std.proofs.Common.{◌≡◌, ℕ, ◌<◌, List, [], ◌∷◌, length, get_or, zero, suc, refl, arith, ◌-◌, ◌+◌, ◌≤◌, true, is_ge, nat_cmp, subst}
 use Rattle.std.specs.List.Sorted.{IsStrictlyIncreasing}
 use Rattle.std.proofs.lemmas.List.{length-map}

@@ -3,10 +3,10 @@ pub mod Bytes
 pub mod Codec
 pub mod Fits
 pub mod Grammar
+pub mod IndexLaws
 pub mod Joined
 pub mod ListGrammar
 pub mod Lists
-pub mod Places
 pub mod Rising
 pub mod RisingLaws
 pub mod Sizes

@@ -7,7 +7,7 @@ use Rattle.std.proofs.lemmas.Bool.{eqb-true, eq-eqb, lt-ltb, le-ltb, cases_lt}
 use Rattle.std.proofs.lemmas.Bool.Decides.{nat_tests}
 use Rattle.std.proofs.lemmas.Cmp.{nat_eq_equiv}
 use Rattle.std.proofs.lemmas.Map.Views.{list_any-from_Contains, Contains-from_any}
-use Rattle.dkg_values.specs.Rising.{Rises, has_key, with_key, set_of, with_pair, map_of, lookup, keys_of, place_of, IsSetOf}
+use Rattle.dkg_values.specs.Rising.{Rises, has_key, with_key, set_of, with_pair, map_of, lookup, keys_of, index_of, IsSetOf}
 
 -- ---- two ways to say that keys rise
 
@@ -49,7 +49,7 @@ rises_far-at least (x ∷ xs) zero (suc j) r le lt = omega (arith, rises_above (
 rises_far-at least (x ∷ xs) (suc i) zero r le lt = absurd (omega arith)
 rises_far-at least (x ∷ xs) (suc i) (suc j) r le lt = rises_far-at (x + 1) xs i j r.1 (omega arith) (omega arith)
 
--- a later place has no lower key
+-- a later index has no lower key
 pub rises_far : (xs : List ℕ) (i j : ℕ) → IsStrictlyIncreasing xs → i ≤ j → j < length xs → get_or xs i 0 ≤ get_or xs j 0
 rises_far xs i j up le lt = rises_far-at 0 xs i j (rises_from xs up) le lt
 
@@ -158,7 +158,7 @@ pub set_of-has : (z : ℕ) (xs : List ℕ) → has_key z (set_of xs) ≡ has_key
 set_of-has z [] = refl
 set_of-has z (x ∷ xs) = with_key-has z x (set_of xs) ∙ ap (λ (b : Bool). eqb z x || b) (set_of-has z xs)
 
--- ---- members by place
+-- ---- members by index
 
 pub has_key-from : (xs : List ℕ) (x : ℕ) → Contains xs x → has_key x xs ≡ true
 has_key-from xs x c = list_any-from_Contains {eq = eqb} nat_eq_equiv x xs c
@@ -189,29 +189,29 @@ set_of-is xs = record {
 pub set_of-set : (xs : List ℕ) → IsStrictlyIncreasing xs → set_of xs ≡ xs
 set_of-set xs up = same_members 0 0 (set_of xs) xs (set_of-rises xs) (rises_from xs up) (λ z. set_of-has z xs)
 
--- ---- places
+-- ---- indexes
 
-place_from-at : (least j : ℕ) (xs : List ℕ) (i x : ℕ) → Rises least xs → i < length xs → get_or xs i 0 ≡ x → position_from (λ y. eqb y x) j xs ≡ Some (j + i)
-place_from-at least j [] i x r lt e = absurd (omega arith)
-place_from-at least j (y ∷ ys) zero x r lt e = rw (eq-eqb y x e) (ap (λ (k : ℕ). Some k) (omega arith))
-place_from-at least j (y ∷ ys) (suc i) x r lt e =
+index_from-at : (least j : ℕ) (xs : List ℕ) (i x : ℕ) → Rises least xs → i < length xs → get_or xs i 0 ≡ x → position_from (λ y. eqb y x) j xs ≡ Some (j + i)
+index_from-at least j [] i x r lt e = absurd (omega arith)
+index_from-at least j (y ∷ ys) zero x r lt e = rw (eq-eqb y x e) (ap (λ (k : ℕ). Some k) (omega arith))
+index_from-at least j (y ∷ ys) (suc i) x r lt e =
     let above = rises_above (y + 1) ys i r.1 (omega arith) in
     let other : eqb y x ≡ false = grind (arith, nat_tests, above, e) in
-    rw other (place_from-at (y + 1) (j + 1) ys i x r.1 (omega arith) e ∙ ap (λ (k : ℕ). Some k) (omega arith))
+    rw other (index_from-at (y + 1) (j + 1) ys i x r.1 (omega arith) e ∙ ap (λ (k : ℕ). Some k) (omega arith))
 
--- the key at a place is found there
-pub place_of_key_at : (xs : List ℕ) (i x : ℕ) → IsStrictlyIncreasing xs → i < length xs → get_or xs i 0 ≡ x → place_of x xs ≡ Some i
-place_of_key_at xs i x up lt e = place_from-at 0 0 xs i x (rises_from xs up) lt e ∙ ap (λ (k : ℕ). Some k) (omega arith)
+-- the key at an index is found there
+pub index_of_key_at : (xs : List ℕ) (i x : ℕ) → IsStrictlyIncreasing xs → i < length xs → get_or xs i 0 ≡ x → index_of x xs ≡ Some i
+index_of_key_at xs i x up lt e = index_from-at 0 0 xs i x (rises_from xs up) lt e ∙ ap (λ (k : ℕ). Some k) (omega arith)
 
-no_place-at : (j : ℕ) (xs : List ℕ) (x : ℕ) → ((k : ℕ) → k < length xs → get_or xs k 0 ≡ x → ⊥) → position_from (λ y. eqb y x) j xs ≡ None
-no_place-at j [] x h = refl
-no_place-at j (y ∷ ys) x h =
+no_index-at : (j : ℕ) (xs : List ℕ) (x : ℕ) → ((k : ℕ) → k < length xs → get_or xs k 0 ≡ x → ⊥) → position_from (λ y. eqb y x) j xs ≡ None
+no_index-at j [] x h = refl
+no_index-at j (y ∷ ys) x h =
     let other : eqb y x ≡ false = apart y x (h 0 (omega arith)) in
-    rw other (no_place-at (j + 1) ys x (λ k lt. h (suc k) (omega arith)))
+    rw other (no_index-at (j + 1) ys x (λ k lt. h (suc k) (omega arith)))
 
 -- a key that stands nowhere is not found
-pub no_place : (xs : List ℕ) (x : ℕ) → ((k : ℕ) → k < length xs → get_or xs k 0 ≡ x → ⊥) → place_of x xs ≡ None
-no_place xs x h = no_place-at 0 xs x h
+pub no_index : (xs : List ℕ) (x : ℕ) → ((k : ℕ) → k < length xs → get_or xs k 0 ≡ x → ⊥) → index_of x xs ≡ None
+no_index xs x h = no_index-at 0 xs x h
 
 -- ---- the map of a list
 

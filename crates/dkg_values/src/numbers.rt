@@ -51,7 +51,7 @@ impl Model for Epoch {
     ghost inverse = { λ n. record { 0 = n } };
 }
 
-/// The place of a block in the chain, counted from 0.
+/// Where a block stands in the chain, counted from 0.
 #[derive(Clone, Copy, Debug, PartialEq, Eq, PartialOrd, Ord, Hash)]
 pub struct Height(pub u64);
 

@@ -3,7 +3,7 @@ ghost use Rattle.std.specs.Prelude.{◌≡◌, ℕ, ◌+◌, ◌*◌, ◌<◌, �
 ghost use Rattle.std.specs.Iterator.{YieldsFirst, item_count};
 ghost use Rattle.std.specs.List.Sorted.{IsStrictlyIncreasing};
 ghost use Rattle.dkg_values.specs.Lists.{set_spelling, SetFits};
-ghost use Rattle.dkg_values.specs.Rising.{IsSetOf, IsSet, place_of, set_of};
+ghost use Rattle.dkg_values.specs.Rising.{IsSetOf, IsSet, index_of, set_of};
 
 use crate::codec::{CodecError, EncodeSize, Read, Reader, Spelled, Write};
 use crate::counted::{read_count, read_keys};
@@ -109,9 +109,9 @@ impl Set {
         Ok(in_order(keys))
     }
 
-    /// The place of a key, from 0, by binary search.
+    /// The index of a key, from 0, by binary search.
     pub fn position(&self, key: Key) -> Option<u32>
-        ensures index { result ≡ place_of key self.now }
+        ensures index { result ≡ index_of key self.now }
         ensures within { IfSome result (λ i. i < length self.now) }
     {
         match self.keys.binary_search(&key) {
@@ -121,9 +121,9 @@ impl Set {
     }
 
     /// Whether the key is there.
-    #[tactic(auto, using(crate::specs::Places::has_place))]
+    #[tactic(auto, using(crate::specs::IndexLaws::has_index))]
     pub fn has(&self, key: Key) -> bool
-        ensures index { result ≡ is_some (place_of key self.now) }
+        ensures index { result ≡ is_some (index_of key self.now) }
         ensures member { IsTrue result ↔ Contains self.now key }
     {
         self.position(key).is_some()

@@ -182,7 +182,7 @@ module _ {C Dir Signer Cfg : Type 0} (check_log_of : CheckLogOf) (dealing_of : D
       stands = stands_then old.round new.round round old.tip new.tip tip hand is.stands;
     }
 
-    -- where nothing of its place changed
+    -- where nothing changed of where it stands
     pub stays_settled : new.stage ≡ old.stage → new.round ≡ old.round → new.tip ≡ old.tip → (IsSome old.store.current → IsSome new.store.current) → IsSettled old its → IsSettled new its
     stays_settled stage round tip current settled = record {
       ready = record {

@@ -12,7 +12,7 @@ loop-next-init g c = record {
 pub loop-next-preserved : goal.loop-next-preserved
 loop-next-preserved g c = record {
   left = ap (changed_from c.next_of-next.result (ended_for c.args.number)) c.end_at.ensures.entries
-      ∙ stepped c.args.numbers.now c.args.number (ended_for c.args.number) (ended_alone c.args.number) c.loop-next.waiting.entries c.in-Some.place c.next_of-next.result
+      ∙ stepped c.args.numbers.now c.args.number (ended_for c.args.number) (ended_alone c.args.number) c.loop-next.waiting.entries c.in-Some.rank c.next_of-next.result
       (all_known c.args.numbers.now c.loop-next.waiting c.loop-next.invariant.known) c.next_of-next.ensures.next
       ∙ ap (λ (o : Option ℕ). changed_from o (ended_for c.args.number) c.loop-next.waiting.entries) (sym c.in-Some.is)
       ∙ c.loop-next.invariant.left;
@@ -20,7 +20,7 @@ loop-next-preserved g c = record {
 }
 
 pub loop-next-smaller : goal.loop-next-smaller
-loop-next-smaller g c = goes_on c.args.numbers.now c.args.number c.in-Some.place c.next_of-next.result c.loop-next.next c.next_of-next.ensures.fits c.next_of-next.ensures.next c.in-Some.is
+loop-next-smaller g c = goes_on c.args.numbers.now c.args.number c.in-Some.rank c.next_of-next.result c.loop-next.next c.next_of-next.ensures.fits c.next_of-next.ensures.next c.in-Some.is
 
 pub returns-clause-values : goal.returns-clause-values
 returns-clause-values g c = ap (λ (o : Option ℕ). changed_from o (ended_for c.args.number) c.loop-next.waiting.entries) (sym c.in_default.is) ∙ c.loop-next.invariant.left

@@ -1,7 +1,7 @@
 use Rattle.std.proofs.Common.{◌≡◌, map}
 use Rattle.std.specs.BTreeMap.{values}
 use Rattle.dkg_artifact.specs.Requested.{ended_for}
-use Rattle.dkg_artifact.specs.Places.{AreKnown}
+use Rattle.dkg_artifact.specs.Ranks.{AreKnown}
 use Rattle.dkg_artifact.proofs.Waiting.{changed_from, to_go}
 use Rattle.dkg_artifact.proofs.requests.end_each.Given as goal
 

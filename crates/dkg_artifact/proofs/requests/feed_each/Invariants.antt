@@ -1,7 +1,7 @@
 use Rattle.std.proofs.Common.{◌≡◌, map}
 use Rattle.std.specs.BTreeMap.{values}
 use Rattle.dkg_artifact.specs.Requested.{fed_for}
-use Rattle.dkg_artifact.specs.Places.{AreKnown}
+use Rattle.dkg_artifact.specs.Ranks.{AreKnown}
 use Rattle.dkg_artifact.proofs.Waiting.{changed_from, to_go}
 use Rattle.dkg_artifact.proofs.requests.feed_each.Given as goal
 

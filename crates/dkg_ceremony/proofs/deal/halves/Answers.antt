@@ -4,17 +4,17 @@ use Rattle.dkg_ceremony.proofs.deal.halves.Goals as goal
 
 pub from_sorted-requires : goal.from_sorted-requires
 from_sorted-requires c =
-    let h = are_halves c.args.poly.now c.as_slice-keys.result.now c.loop-place.pairs.items c.loop-place.place (rw (← c.as_slice-keys.ensures.items) at c.as_slice-keys.ensures.kept) (omega (arith, c.loop-place-test.false, c.len-place-end.ensures, ap length c.as_slice-keys.ensures.items)) c.loop-place.invariant in
-    omega (arith, h.in_bound, c.loop-place.pairs.ok)
+    let h = are_halves c.args.poly.now c.as_slice-keys.result.now c.loop-index.pairs.items c.loop-index.index (rw (← c.as_slice-keys.ensures.items) at c.as_slice-keys.ensures.kept) (omega (arith, c.loop-index-test.false, c.len-index-end.ensures, ap length c.as_slice-keys.ensures.items)) c.loop-index.invariant in
+    omega (arith, h.in_bound, c.loop-index.pairs.ok)
 
 pub unreachable-requires : goal.unreachable-requires
 unreachable-requires c =
-    let h = are_halves c.args.poly.now c.as_slice-keys.result.now c.loop-place.pairs.items c.loop-place.place (rw (← c.as_slice-keys.ensures.items) at c.as_slice-keys.ensures.kept) (omega (arith, c.loop-place-test.false, c.len-place-end.ensures, ap length c.as_slice-keys.ensures.items)) c.loop-place.invariant in
+    let h = are_halves c.args.poly.now c.as_slice-keys.result.now c.loop-index.pairs.items c.loop-index.index (rw (← c.as_slice-keys.ensures.items) at c.as_slice-keys.ensures.kept) (omega (arith, c.loop-index-test.false, c.len-index-end.ensures, ap length c.as_slice-keys.ensures.items)) c.loop-index.invariant in
     let e = c.in-Err.ensures.rising.1 h.rising in
     absurd cc
 
-pub loop-place-preserved : goal.loop-place-preserved
-loop-place-preserved c =
-    let few : c.loop-place.place < length c.as_slice-keys.result.now = omega (arith, c.loop-place-test.true, c.len-place-end.ensures, ap length c.as_slice-keys.ensures.items) in
-    let more = halves_more c.args.poly.now c.as_slice-keys.result.now c.loop-place.place c.index-keys-place.result c.element_of.result few c.index-keys-place.is (c.element_of.ensures ∙ c.value_of.ensures.value) in
-    cc (more, c.in_ok-push.ensures.items, c.loop-place.invariant)
+pub loop-index-preserved : goal.loop-index-preserved
+loop-index-preserved c =
+    let few : c.loop-index.index < length c.as_slice-keys.result.now = omega (arith, c.loop-index-test.true, c.len-index-end.ensures, ap length c.as_slice-keys.ensures.items) in
+    let more = halves_more c.args.poly.now c.as_slice-keys.result.now c.loop-index.index c.index-keys-index.result c.element_of.result few c.index-keys-index.is (c.element_of.ensures ∙ c.value_of.ensures.value) in
+    cc (more, c.in_ok-push.ensures.items, c.loop-index.invariant)

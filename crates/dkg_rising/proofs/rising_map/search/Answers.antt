@@ -1,6 +1,6 @@
 use Rattle.std.proofs.Common.{rules}
 use Rattle.std.proofs.lemmas.List.Sorted.{answers_always}
-use Rattle.dkg_rising.proofs.Places.{searched}
+use Rattle.dkg_rising.proofs.Indexes.{searched}
 use Rattle.dkg_rising.proofs.rising_map.search.Goals as goal
 
 pub returns : goal.returns

@@ -1,19 +1,19 @@
 use Rattle.std.proofs.Common.{◌∙◌, ap, false, inl, inr, length, refl, sym}
 use Rattle.dkg_reading.specs.Grammar.{script_of}
 use Rattle.dkg_run.proofs.Asked.{same_number, same_run}
-use Rattle.dkg_run.proofs.Reported.{blamed, device_rose, done_or_memory, from_place, is_silent, not_more, status_told}
+use Rattle.dkg_run.proofs.Reported.{blamed, device_rose, done_or_memory, from_index, is_silent, not_more, status_told}
 use Rattle.dkg_run.proofs.command.run_command.Goals as goal
 
 pub returns-clause-run : goal.returns-clause-run
 returns-clause-run g c is =
     let its = c.run-status.ensures.ends in
-    let new_ones = c.entries_from-2.ensures ∙ from_place _ _ its.0 _ (ap length c.entries-before.ensures) its.1 in
+    let new_ones = c.entries_from-2.ensures ∙ from_index _ _ its.0 _ (ap length c.entries-before.ensures) its.1 in
     record { entries = its.0; added = its.1; ended = c.run-status.result; runs = its.2; told = rw new_ones at c.report-2.ensures.told }
 
 pub returns-clause-silent : goal.returns-clause-silent
 returns-clause-silent g c is =
     let its = c.run-status.ensures.ends in
-    let new_ones = c.entries_from-2.ensures ∙ from_place _ _ its.0 _ (ap length c.entries-before.ensures) its.1 in
+    let new_ones = c.entries_from-2.ensures ∙ from_index _ _ its.0 _ (ap length c.entries-before.ensures) its.1 in
     c.report-2.ensures.none (rw new_ones (is_silent _ _ _ its.0 _ _ _ _ _ _ is c.report-2.ensures.told its.2))
 
 pub returns-in-Some-clause-make : goal.returns-in-Some-clause-make
@@ -28,7 +28,7 @@ pub returns-in-Some-run_number-clause-sums : goal.returns-in-Some-run_number-cla
 returns-in-Some-run_number-clause-sums g c n asked =
     let same = same_run _ n c.in-Some-run_number.number asked (rw c.in-Some-run_number.is at c.run_number.ensures.some) in
     let its = c.run_made-ended.ensures.ends in
-    let new_ones = c.entries_from.ensures ∙ from_place _ _ its.0 _ (ap length c.entries-before.ensures) its.1 in
+    let new_ones = c.entries_from.ensures ∙ from_index _ _ its.0 _ (ap length c.entries-before.ensures) its.1 in
     rw same (refl, record { entries = its.0; added = its.1; ended = c.run_made-ended.result; runs = its.2; told = rw new_ones at c.sum_up.ensures.told })
 
 pub returns-in-Some-run_number-clause-only_usage : goal.returns-in-Some-run_number-clause-only_usage

@@ -2,13 +2,13 @@ use Rattle.std.proofs.Common.{◌≡◌, ◌&&◌, ◌∙◌, ◌+◌, Bool, fal
 use Rattle.std.specs.Prelude.{slice_get}
 use Rattle.dkg_text.specs.declared.script.Event.{Event}
 use Rattle.dkg_script.specs.InForm.{are_events, is_event_in_form}
-use Rattle.dkg_script.proofs.Placed.{from_place}
+use Rattle.dkg_script.proofs.FromIndex.{from_index}
 use Rattle.dkg_script.proofs.in_form.are_events.Goals as goal
 
-judged_from : (blocks : ℕ) (events : List Event) (place : ℕ) (event : Event) → slice_get events place ≡ Some event
-    → are_events blocks (drop place events) ≡ (is_event_in_form blocks event && are_events blocks (drop (place + 1) events))
-judged_from blocks events place event is =
-    ap (are_events blocks) (from_place events place event is) ∙ ap (λ (n : ℕ). is_event_in_form blocks event && are_events blocks (drop n events)) (sym (add-one place))
+judged_from : (blocks : ℕ) (events : List Event) (index : ℕ) (event : Event) → slice_get events index ≡ Some event
+    → are_events blocks (drop index events) ≡ (is_event_in_form blocks event && are_events blocks (drop (index + 1) events))
+judged_from blocks events index event is =
+    ap (are_events blocks) (from_index events index event is) ∙ ap (λ (n : ℕ). is_event_in_form blocks event && are_events blocks (drop n events)) (sym (add-one index))
 
 pub returns-then-not-is_event : goal.returns-then-not-is_event
 returns-then-not-is_event c =

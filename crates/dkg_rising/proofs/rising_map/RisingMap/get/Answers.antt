@@ -7,8 +7,8 @@ use Rattle.std.proofs.lemmas.List.{nil_from_length}
 use Rattle.dkg_rising.proofs.Views.{got_there, got_elsewhere}
 use Rattle.dkg_rising.proofs.rising_map.RisingMap.get.Goals as goal
 
-pub place-requires : goal.place-requires
-place-requires g c = rw c.deref.ensures.value c.self.invariant
+pub index_of-requires : goal.index_of-requires
+index_of-requires g c = rw c.deref.ensures.value c.self.invariant
 
 pub returns-in-Ok : goal.returns-in-Ok
 returns-in-Ok g c =

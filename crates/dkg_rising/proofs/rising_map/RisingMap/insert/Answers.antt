@@ -1,12 +1,12 @@
 use Rattle.std.proofs.Common.{◌≡◌, length, ap, ◌∙◌, arith}
 use Rattle.std.specs.FinMap as map
 use Rattle.std.specs.Ordering.{nat_cmp}
-use Rattle.dkg_rising.proofs.Places.{rises-set, rises_push}
+use Rattle.dkg_rising.proofs.Indexes.{rises-set, rises_push}
 use Rattle.dkg_rising.proofs.Views.{put_there, put_behind, put_elsewhere}
 use Rattle.dkg_rising.proofs.rising_map.RisingMap.insert.Goals as goal
 
-pub place-requires : goal.place-requires
-place-requires g c = rw c.deref.ensures.value c.self.invariant
+pub index_of-requires : goal.index_of-requires
+index_of-requires g c = rw c.deref.ensures.value c.self.invariant
 
 -- the number stands in the list
 pub invariant_of-self : goal.invariant_of-self

@@ -1,13 +1,13 @@
 use Rattle.std.proofs.Common.{◌∙◌, arith}
 use Rattle.dkg_secrets.proofs.Cuts.{cleared_gone, cleared_kept}
 use Rattle.dkg_secrets.proofs.pair_map.PairMap.remove_some.Goals as goal
-use Rattle.dkg_secrets.proofs.pair_map.PairMap.remove_some.Goals.{then-pick-place-eq0, else-pick-place-eq0}
+use Rattle.dkg_secrets.proofs.pair_map.PairMap.remove_some.Goals.{then-pick-index-eq0, else-pick-index-eq0}
 
 pub loop-key-preserved : goal.loop-key-preserved
 loop-key-preserved g c = record {
-  rest = elim c.if-pick-place-eq0.branch [
-    | then-pick-place-eq0 w ↦ cleared_gone c.args.pick c.loop-key.place c.loop-key.key-index c.args.keys.now (0, 0) _ _ c.loop-key-test.true c.loop-key.invariant.below w.if-pick-place-eq0.true (w.self-is ∙ w.remove_at.ensures) ∙ c.loop-key.invariant.rest
-    | else-pick-place-eq0 w ↦ cleared_kept c.args.pick c.loop-key.place c.loop-key.key-index c.args.keys.now (0, 0) _ _ c.loop-key-test.true c.loop-key.invariant.below w.if-pick-place-eq0.false w.self-is ∙ c.loop-key.invariant.rest
+  rest = elim c.if-pick-index-eq0.branch [
+    | then-pick-index-eq0 w ↦ cleared_gone c.args.pick c.loop-key.index c.loop-key.key-index c.args.keys.now (0, 0) _ _ c.loop-key-test.true c.loop-key.invariant.below w.if-pick-index-eq0.true (w.self-is ∙ w.remove_at.ensures) ∙ c.loop-key.invariant.rest
+    | else-pick-index-eq0 w ↦ cleared_kept c.args.pick c.loop-key.index c.loop-key.key-index c.args.keys.now (0, 0) _ _ c.loop-key-test.true c.loop-key.invariant.below w.if-pick-index-eq0.false w.self-is ∙ c.loop-key.invariant.rest
   ];
   below = omega arith;
   turned = omega (arith, c.loop-key.invariant.turned);

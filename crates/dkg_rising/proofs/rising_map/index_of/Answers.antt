@@ -1,6 +1,6 @@
 use Rattle.std.proofs.Common.{sym}
-use Rattle.dkg_rising.proofs.Places.{gap_of_none, gap_behind, at_last}
-use Rattle.dkg_rising.proofs.rising_map.place.Goals as goal
+use Rattle.dkg_rising.proofs.Indexes.{gap_of_none, gap_behind, at_last}
+use Rattle.dkg_rising.proofs.rising_map.index_of.Goals as goal
 
 pub returns-in-None-clause-absent : goal.returns-in-None-clause-absent
 returns-in-None-clause-absent g c = gap_of_none c.args.rising.now c.args.number c.in-None.ensures.item.3

@@ -1,4 +1,4 @@
--- Each entry of a life stands in its place, and leads to the next.
+-- Each entry of a life stands in order, and leads to the next.
 use Rattle.std.proofs.Common.{ℕ, suc, ◌+◌, ◌<◌, ◌≤◌, Bool, true, false, Option, Some, None, List, [], ◌∷◌, ◌++◌, ◌≡◌, ◌≢◌, inr, refl, sym, ap, ◌∙◌, length, arith, length-append, add-one}
 use Rattle.std.specs.Prelude.{fold, IfSome, IsSomeAnd, ◌||◌, ◌==◌, slice_get}
 use Rattle.std.specs.List.{AllByRecursion, list_any}
@@ -16,7 +16,7 @@ use Rattle.dkg_life.specs.declared.stop.Stop.{Stop}
 use Rattle.dkg_life.specs.declared.stop.Stop.TheVariants.{Cut as AtCut, Failed, Fault as Faulted}
 use Rattle.dkg_core.specs.Laws.{IsQuiet}
 use Rattle.dkg_lives.proofs.Standing.{Each, Moves, AddsQuiet, AddsOpening, IsBetween, IsBefore, IsWithin, IsAtCut, IsStopped, IsBehind, IsCutBefore, IsCutWithin}
-use Rattle.dkg_lives.proofs.Places.{moves_one}
+use Rattle.dkg_lives.proofs.Moving.{moves_one}
 
 -- CUTS, over variables
 
@@ -101,12 +101,12 @@ module _ (life : Life) (l j : ℕ) (s : Setting) (p : Progress) where
     opened_is = ap (list_any is_opened) written ∙ one_more one p.written not ∙ is.opened_is;
   }
 
-  quiet_place : (opened : Bool) (one : Entry) → IsQuiet one → IsWithin life l j opened s p → IsInOrder s p one
-  quiet_place opened (entry.Opened n restored) quiet is = absurd quiet
-  quiet_place opened (entry.Cut step call) quiet is = absurd quiet
-  quiet_place opened (entry.Step step) quiet is = absurd quiet
-  quiet_place opened (entry.Fault fault) quiet is = absurd quiet
-  quiet_place opened _ quiet is = in_life (LetsBegin p) is.life_is is.lives (begun opened is)
+  quiet_in_order : (opened : Bool) (one : Entry) → IsQuiet one → IsWithin life l j opened s p → IsInOrder s p one
+  quiet_in_order opened (entry.Opened n restored) quiet is = absurd quiet
+  quiet_in_order opened (entry.Cut step call) quiet is = absurd quiet
+  quiet_in_order opened (entry.Step step) quiet is = absurd quiet
+  quiet_in_order opened (entry.Fault fault) quiet is = absurd quiet
+  quiet_in_order opened _ quiet is = in_life (LetsBegin p) is.life_is is.lives (begun opened is)
 
   quiet_still : (opened : Bool) (one : Entry) → IsQuiet one → IsWithin life l j opened s p → IsWithin life l j opened s (read s p one)
   quiet_still opened (entry.Opened n restored) quiet is = absurd quiet
@@ -135,8 +135,8 @@ module _ (life : Life) (l j : ℕ) (s : Setting) (p : Progress) where
 
   -- THE END OF A STEP
 
-  step_place : (opened : Bool) → (j ≡ 0 → opened ≡ true) → IsWithin life l j opened s p → IsInOrder s p (entry.Step j)
-  step_place opened has is = in_life _ is.life_is is.lives (record {
+  step_in_order : (opened : Bool) → (j ≡ 0 → opened ≡ true) → IsWithin life l j opened s p → IsInOrder s p (entry.Step j)
+  step_in_order opened has is = in_life _ is.life_is is.lives (record {
     in_hand = sym is.step;
     begins = begun opened is;
     has_opened = λ first. is.opened_is ∙ has first;
@@ -176,8 +176,8 @@ module _ (life : Life) (l j : ℕ) (s : Setting) (p : Progress) where
 
   -- CUTS
 
-  cut_place : (its : cut.Cut) → life.cut ≡ Some its → IsAtCut life l s p → IsInOrder s p (entry.Cut its.step its.call)
-  cut_place its its_is is = let same : is.its ≡ its = cc in
+  cut_in_order : (its : cut.Cut) → life.cut ≡ Some its → IsAtCut life l s p → IsInOrder s p (entry.Cut its.step its.call)
+  cut_in_order its its_is is = let same : is.its ≡ its = cc in
       in_life _ is.life_is is.lives (record {
         in_hand = sym (is.step ∙ ap (λ (c : cut.Cut). c.step) same);
         of_script = rw its_is (refl, refl);
@@ -206,7 +206,7 @@ quiet_each : (life : Life) (l j : ℕ) (opened : Bool) (s : Setting) (added : Li
 quiet_each life l j opened s [] p quiet is = (tt, is)
 quiet_each life l j opened s (one ∷ added) p quiet is =
     let more = quiet_each life l j opened s added (read s p one) quiet.1 (quiet_still life l j s p opened one quiet.0 is)
-    in ((quiet_place life l j s p opened one quiet.0 is, more.0), more.1)
+    in ((quiet_in_order life l j s p opened one quiet.0 is, more.0), more.1)
 
 quiet_no_fault : (one : Entry) → IsQuiet one → is_fault one ≡ false
 quiet_no_fault (entry.Fault fault) quiet = absurd quiet
@@ -244,13 +244,13 @@ pub moves_step : (life : Life) (l j : ℕ) (opened : Bool) (old new : List Entry
     → Moves IsInOrder (IsWithin life l j opened) (IsBehind life l j) old new
 moves_step life l j opened old new has is =
     moves_one IsInOrder (IsWithin life l j opened) (IsBehind life l j) old new (entry.Step j) is
-    (λ s p at. step_place life l j s p opened has at) (λ s p at. behind life l j s p opened at) refl
+    (λ s p at. step_in_order life l j s p opened has at) (λ s p at. behind life l j s p opened at) refl
 
 pub moves_cut : (life : Life) (l : ℕ) (its : cut.Cut) (old new : List Entry) → life.cut ≡ Some its → new ≡ old ++ entry.Cut its.step its.call ∷ []
     → Moves IsInOrder (IsAtCut life l) (IsBetween (l + 1)) old new
 moves_cut life l its old new its_is is =
     moves_one IsInOrder (IsAtCut life l) (IsBetween (l + 1)) old new (entry.Cut its.step its.call) is
-    (λ s p at. cut_place life l its.step s p its its_is at) (λ s p at. cut_ends life l its.step s p its.step its.call at) refl
+    (λ s p at. cut_in_order life l its.step s p its its_is at) (λ s p at. cut_ends life l its.step s p its.step its.call at) refl
 
 -- LIVES
 

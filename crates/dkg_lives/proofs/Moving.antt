@@ -1,4 +1,4 @@
--- How entries that are added in their places follow each other, from any entry predicate E.
+-- How entries that are added in order follow each other, from any entry predicate E.
 use Rattle.std.proofs.Common.{false, List, [], ◌∷◌, ◌++◌, ◌≡◌, refl, sym, ap, ◌∙◌, append_assoc, append-nil}
 use Rattle.std.specs.Prelude.{fold}
 use Rattle.std.specs.List.{AllByRecursion}
@@ -62,7 +62,7 @@ moves_then E P Q R old mid new a b = record {
   no_fault = none_of_both a.added b.added a.no_fault b.no_fault;
 }
 
--- from a stronger place, to a weaker one
+-- from a stronger condition, to a weaker one
 pub moves_within : (E : Setting → Progress → Entry → Type 0) (P P' Q Q' : Setting → Progress → Type 0) (old new : List Entry)
     → ((s : Setting) (p : Progress) → P' s p → P s p) → ((s : Setting) (p : Progress) → Q s p → Q' s p)
     → Moves E P Q old new → Moves E P' Q' old new

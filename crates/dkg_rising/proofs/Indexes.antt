@@ -1,4 +1,4 @@
--- What a search finds among entries whose numbers rise, and what a change at that place leaves.
+-- What a search finds among entries whose numbers rise, and what a change at that index leaves.
 use Rattle.std.proofs.Common.{◌≡◌, ◌≢◌, ℕ, ◌+◌, ◌-◌, ◌<◌, ◌≤◌, List, [], ◌∷◌, ◌++◌, length, get_or, set, slice_get, Some, None, Result, Ok, Err, IfOk, IfErr, nat_cmp, is_lt, Less, Equal, Greater, sym, ap, subst, ◌∙◌, inl, inr, arith}
 use Rattle.std.specs.FinMap.{find}
 use Rattle.std.specs.List.Sorted.{IsStrictlyIncreasing, IsSearchInRange, IsBinarySearchResult, IsNonDecreasingBy, IsSortedBy}
@@ -11,7 +11,7 @@ use Rattle.std.proofs.lemmas.List.{length-map, get_or-map, map-set, map_push, se
 use Rattle.std.proofs.lemmas.List.Sorted.{searchable_from_sorted}
 use Rattle.std.proofs.lemmas.Map.Keys.{below_from_sorted, sorted_from_strictly_increasing}
 use Rattle.std.proofs.lemmas.Option.{slice_get_within, get_or_from_slice_get}
-use Rattle.dkg_rising.specs.Places.{IsAt, IsGap}
+use Rattle.dkg_rising.specs.Indexes.{IsAt, IsGap}
 use Rattle.dkg_rising.proofs.Finding.{find_nowhere}
 
 -- a number above all, behind numbers that rise
@@ -37,7 +37,7 @@ module _ {X : Type 0} where
   length_numbers : (es : List (ℕ × X)) → length (keys_of es) ≡ length es
   length_numbers es = length-map es (λ (e : ℕ × X). e.0)
 
-  -- what holds of the number of an entry at a place, whatever is read past the end
+  -- what holds of the number of an entry at an index, whatever is read past the end
   by_number : (es : List (ℕ × X)) (P : ℕ → Type 0) (k : ℕ) → k < length es → ((d : ℕ × X) → P (get_or es k d).0) → P (get_or (keys_of es) k 0)
   by_number [] P k within all = absurd (omega arith)
   by_number (e ∷ es) P k within all = subst P (sym (number_at (e ∷ es) k e within)) (all e)
@@ -102,7 +102,7 @@ module _ {X : Type 0} where
   pub at_last : (es : List (ℕ × X)) (n : ℕ) (last : ℕ × X) → slice_get es (length es - 1) ≡ Some last → last.0 ≡ n → IsAt n es (length es - 1)
   at_last es n last is same = record { in_range = slice_get_within es (length es - 1) last is; has_number = last_number es last is ∙ same }
 
-  -- ---- what a place tells
+  -- ---- what an index tells
 
   pub none_before : (es : List (ℕ × X)) → IsStrictlyIncreasing (keys_of es) → (n k : ℕ) → IsAt n es k → (j : ℕ) → j < k → get_or (keys_of es) j 0 ≢ n
   none_before es rises n k there j less same = omega (arith, rises_far es j k rises less there.in_range, there.has_number)
