@@ -26,7 +26,7 @@ use Rattle.dkg_core.specs.Forms.{IsNodeBegun, IsSeated, IsSetUpIn, Judged, Refus
 use Rattle.dkg_core.specs.Including.{is_served_at, releases}
 use Rattle.dkg_core.specs.Laws.{IsAmong}
 use Rattle.dkg_core.specs.Live as core
-use Rattle.dkg_core.specs.Live.{Cancel, Deals, Dealer, Ends, EpochInfoOf, Feed, Finalized, Follows, Inclusion, Includes, Job, Live, Mail, Message, NextLog, Over, Peer, ReleaseLog, Request, Sent, Stage, Work, is_last_height, recorded_at, with_inclusion, with_participation, with_tip}
+use Rattle.dkg_core.specs.Live.{Cancel, Deals, Dealer, Ends, EpochInfoOf, Feed, Finalized, Follows, Inclusion, Includes, Job, Live, Mail, Message, NextLog, Over, Peer, ReleaseLog, Request, Mailed, Stage, Work, is_last_height, recorded_at, with_inclusion, with_participation, with_tip}
 use Rattle.dkg_core.specs.Logs.{is_accepted}
 use Rattle.dkg_laws.specs.NodeThrough.{IsNodeThrough}
 use Rattle.dkg_core.specs.Seen.{Seen}
@@ -417,7 +417,7 @@ module _ (g : Lived) (here : IsLifeInForm g) where
             the_block e = cc
 
             by_brought : BringsBlock g its m.message ⊎ BringsMail its m.message → IsSomeAnd mid.participation.current (λ info. IsInfoOf g.script g.life (suc i) mid.participation.epoch info)
-            by_brought (inr mail) = absurd (let wrong : ◌≡◌ {A = Message U} (Sent mail.0) (Finalized over.block) = sym mail.1 ∙ over.is in cc)
+            by_brought (inr mail) = absurd (let wrong : ◌≡◌ {A = Message U} (Mailed mail.0) (Finalized over.block) = sym mail.1 ∙ over.is in cc)
             by_brought (inl b) = subst (λ (o : Option (EpochInfo U)). IsSomeAnd o (λ info. IsInfoOf g.script g.life (suc i) mid.participation.epoch info)) (sym current)
                 (of_block b.0 ((b.1).is ∙ ap (λ (x : Block U). Some x) (the_block (sym b.3 ∙ over.is))) b.2)
 

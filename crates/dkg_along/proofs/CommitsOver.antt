@@ -40,7 +40,7 @@ use Rattle.dkg_core.specs.Forms.{IsForm, round_for, seed_read, share_read}
 use Rattle.dkg_laws.specs.Idle.{IsAskedLine}
 use Rattle.dkg_core.specs.Including as i
 use Rattle.dkg_core.specs.Including.{cached_for, can_finish, job_for, retained_for, retains, verified}
-use Rattle.dkg_core.specs.Live.{Artifact, Deals, Dealer, Ends, Faulted, Finalized, Follows, GaveNone, Includes, Inclusion, Job, Live, Peer, Plays, Request, Seat, Sent, Stage, VerifiedLogs, Watches, awaited_height, is_last_height, records_of_epoch, phase_of, recorded_at, with_inclusion, with_participation, with_tip, with_told}
+use Rattle.dkg_core.specs.Live.{Artifact, Deals, Dealer, Ends, Faulted, Finalized, Follows, GaveNone, Includes, Inclusion, Job, Live, Peer, Plays, Request, Seat, Mailed, Stage, VerifiedLogs, Watches, awaited_height, is_last_height, records_of_epoch, phase_of, recorded_at, with_inclusion, with_participation, with_tip, with_told}
 use Rattle.dkg_core.specs.Logs.{canonical, is_accepted, carried_log_event, logs_of}
 use Rattle.dkg_core.specs.Node.{kept_material, node_opening, node_step, unless_once}
 use Rattle.dkg_core.specs.Plans as p
@@ -174,10 +174,10 @@ module _ {Dir : Type 0} (c : Fixed Dir) (So : ℕ → Option ℕ → Type 0) whe
   behind_block = halves.behind_block c P (λ epoch. tt) tt (λ height. tt)
 
   -- A PEER'S MESSAGE commits nothing
-  pub peer_over : (from : ℕ) (bytes : List ℕ) (now : Live Dir) (h : Held) → SaysOver P (node_step c (event_of (Sent (Peer from bytes))) now) h
+  pub peer_over : (from : ℕ) (bytes : List ℕ) (now : Live Dir) (h : Held) → SaysOver P (node_step c (event_of (Mailed (Peer from bytes))) now) h
   peer_over from bytes now h =
-      over_behind P (under Faulted (step c (Sent (Peer from bytes)) now)) (λ end. unless_once c (half.asks_again c end) (Goes end)) h
-      (over_under P Faulted (step c (Sent (Peer from bytes)) now) h (anywhere P (step c (Sent (Peer from bytes)) now) h (hears_so c P plain from bytes now now.participation.stage)))
+      over_behind P (under Faulted (step c (Mailed (Peer from bytes)) now)) (λ end. unless_once c (half.asks_again c end) (Goes end)) h
+      (over_under P Faulted (step c (Mailed (Peer from bytes)) now) h (anywhere P (step c (Mailed (Peer from bytes)) now) h (hears_so c P plain from bytes now now.participation.stage)))
       (halves.behind_mail c P (λ epoch. tt) tt (λ height. tt))
 
   -- AN OPENING of the form commits what is recovered for the info of its first epoch's boundary block, over the devices once the journal is open.

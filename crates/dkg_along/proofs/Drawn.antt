@@ -28,7 +28,7 @@ use Rattle.dkg_script.proofs.Bridges.{reads_info}
 use Rattle.dkg_script.proofs.LineBlocks.{of_line}
 use Rattle.dkg_store.specs.Acts.{Held}
 use Rattle.dkg_core.specs.Forms.{IsForm, IsNodeBegun, IsSeated, IsSetUpIn, round_for, seed_read, share_read, started}
-use Rattle.dkg_core.specs.Live.{Finalized, Live, Message, Sent}
+use Rattle.dkg_core.specs.Live.{Finalized, Live, Message, Mailed}
 use Rattle.dkg_laws.specs.NodeThrough.{IsNodeThrough}
 use Rattle.dkg_core.specs.Seen.{Seen}
 use Rattle.dkg_core.specs.Setup.{Uncommitted}
@@ -203,7 +203,7 @@ module _ (s : Setting) (cuts : List (Option CutAt)) (form : IsFormOfInclusion s.
 
           by_brought : BringsBlock g its m.message ⊎ BringsMail its m.message → HasRoundOf s node.mid
           by_brought (inl b) = by_number b.0 b.1 (is ∙ ap (λ (e : Event). Some e) b.2) b.3
-          by_brought (inr mail) = absurd (let wrong : ◌≡◌ {A = Message directory.Unit} (Sent mail.0) (Finalized over.block) = sym mail.1 ∙ over.is in cc)
+          by_brought (inr mail) = absurd (let wrong : ◌≡◌ {A = Message directory.Unit} (Mailed mail.0) (Finalized over.block) = sym mail.1 ∙ over.is in cc)
 
       pub step_round : HasRoundOf s end
       step_round = λ round there.

@@ -14,7 +14,7 @@ use Rattle.dkg_text.specs.declared.script.Event.TheVariants as event
 use Rattle.dkg_text.specs.declared.script.Life.{Life}
 use Rattle.dkg_text.specs.declared.script.Script.{Script}
 use Rattle.dkg_script.specs.Asked.{AskAnew, IsAskedAnew, fed_to, fed_while_open}
-use Rattle.dkg_lives.specs.Asks.{RequestStanding, Unmade, Open, Closed, Cancelled, turns, request_standing, fed_in}
+use Rattle.dkg_lives.specs.Asks.{RequestStanding, Unmade, Open, FullyFed, Cancelled, turns, request_standing, fed_in}
 use Rattle.dkg_lives.specs.Given.{blocks_in, numbered}
 use Rattle.dkg_lives.proofs.Awaiting.{one_more}
 
@@ -36,16 +36,16 @@ module _ (request : ℕ) where
   abbrev fed_from : RequestStanding → List Event → List ℕ
   fed_from Unmade events = fed_to request events
   fed_from Open events = fed_while_open request events
-  fed_from Closed events = []
+  fed_from FullyFed events = []
   fed_from Cancelled events = []
 
   first_fed : (standing : RequestStanding) (e : Event) (es : List Event) → fed_from standing (e ∷ es) ≡ adds standing e ++ fed_from (turns request standing e) es
-  first_fed Closed e es = closed e
+  first_fed FullyFed e es = closed e
     where
-      closed : (e : Event) → [] ≡ adds Closed e ++ fed_from (turns request Closed e) es
+      closed : (e : Event) → [] ≡ adds FullyFed e ++ fed_from (turns request FullyFed e) es
       closed (event.Cancel number) = by_test (number == request)
         where
-          by_test : (t : Bool) → [] ≡ fed_from (if t then Cancelled else Closed) es
+          by_test : (t : Bool) → [] ≡ fed_from (if t then Cancelled else FullyFed) es
           by_test true = refl
           by_test false = refl
       closed other = refl
@@ -63,7 +63,7 @@ module _ (request : ℕ) where
       by_test false = refl
   first_fed Open (event.Over number) es = by_test (number == request)
     where
-      by_test : (t : Bool) → (if t then [] else fed_while_open request es) ≡ fed_from (if t then Closed else Open) es
+      by_test : (t : Bool) → (if t then [] else fed_while_open request es) ≡ fed_from (if t then FullyFed else Open) es
       by_test true = refl
       by_test false = refl
   first_fed Open (event.Cancel number) es = by_test (number == request)
@@ -76,7 +76,7 @@ module _ (request : ℕ) where
   nothing_from : (standing : RequestStanding) → fed_from standing [] ≡ []
   nothing_from Unmade = refl
   nothing_from Open = refl
-  nothing_from Closed = refl
+  nothing_from FullyFed = refl
   nothing_from Cancelled = refl
 
   fed_more_from : (standing : RequestStanding) (es : List Event) (e : Event) → fed_from standing (es ++ e ∷ []) ≡ fed_from standing es ++ adds (fold (turns request) standing es) e

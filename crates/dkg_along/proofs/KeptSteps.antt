@@ -28,7 +28,7 @@ use Rattle.dkg_script.specs.Setting.{Setting, CutAt, life_at, me}
 use Rattle.dkg_script.proofs.EachEntry.{EachAfter}
 use Rattle.dkg_core.specs.Courses.{EndsSo, on_devices}
 use Rattle.dkg_core.specs.Fixed.{Fixed}
-use Rattle.dkg_core.specs.Live.{Live, NodeStop, Faulted, Mail, Message, Sent, Peer, Finalized, Delivers, with_inclusion}
+use Rattle.dkg_core.specs.Live.{Live, NodeStop, Faulted, Mail, Message, Mailed, Peer, Finalized, Delivers, with_inclusion}
 use Rattle.dkg_core.specs.Core.{step}
 use Rattle.dkg_core.specs.Node.{node_step}
 use Rattle.dkg_core.specs.Agreeing.{AreAgreed, CanRecord}
@@ -243,12 +243,12 @@ aside_written s (one ∷ lines) p aside is = aside_written s lines (read s p one
 -- A MESSAGE
 module _ {Dir : Type 0} (c : Fixed Dir) (b e l : ℕ) (life : Life) (j from : ℕ) (bytes : List ℕ) (st : Live Dir) (ended : Ended NodeStop (Live Dir)) (w new : World) (s : Setting) (p : Progress)
     (at : IsAtStep l life j s p) (event_is : event_of_step life j ≡ Some (FromPeer from bytes)) (awaits : e ≡ awaited_epoch s l life (j - 1)) (carries : CarriesAt c b e l st w.held s p)
-    (can : CanRecord c st (Sent (Peer from bytes))) (small : from < 2 ^ 32)
+    (can : CanRecord c st (Mailed (Peer from bytes))) (small : from < 2 ^ 32)
     -- the life goes on in its round and its seat
     (next : IfWentTo ended (λ end. (end.participation.round ≡ st.participation.round) × (end.participation.seat ≡ st.participation.seat) × IsLiveThrough c any_shares end × IsActiveThrough end))
-    (run : EndsSo (node_step c (event_of (Sent (Peer from bytes))) st) ended w new) where
-  abbrev its : RunsBehind (step c (Sent (Peer from bytes)) st) ended w new
-  its = steps_run_behind c st (Sent (Peer from bytes)) ended w new run
+    (run : EndsSo (node_step c (event_of (Mailed (Peer from bytes))) st) ended w new) where
+  abbrev its : RunsBehind (step c (Mailed (Peer from bytes)) st) ended w new
+  its = steps_run_behind c st (Mailed (Peer from bytes)) ended w new run
 
   its_half : IsHeard c b e st from bytes life l j its.half w its.mid s p
   its_half = heard c b e st from bytes life l j its.half w its.mid s p
@@ -284,7 +284,7 @@ module _ {Dir : Type 0} (c : Fixed Dir) (b e l : ℕ) (life : Life) (j from : �
       mid = fold (read s) p its_half.added
 
       left : (q : Progress) → IsUnchanged mid q → (list_any is_ack mid.written ≡ true → list_any is_ack q.written ≡ true) → IsLeftBy c b e l (Unheard q) ended new.held s p q
-      left q unchanged wrote = leaves c b e b e l life j st (Sent (Peer from bytes)) ended w new s p at carries (agreed_by c st (Sent (Peer from bytes)) ended w new carries.half.agreed can run) carries.half.current behind_it (Unheard q) q
+      left q unchanged wrote = leaves c b e b e l life j st (Mailed (Peer from bytes)) ended w new s p at carries (agreed_by c st (Mailed (Peer from bytes)) ended w new carries.half.agreed can run) carries.half.current behind_it (Unheard q) q
           (record { cuts = unchanged.cuts ∙ its_half.same.cuts; step = unchanged.step ∙ its_half.same.step; opened = unchanged.opened ∙ its_half.same.opened })
           (subst (λ (h : Held). IsWhole (notes h) h.secrets) (sym its.held) its_half.whole)
           (rw (its.held, unchanged.recorded) its_half.given)
@@ -315,8 +315,8 @@ asked_aside (entry.Log request log ∷ lines) all = (tt, asked_aside lines all.1
 asked_aside (other ∷ lines) all = absurd all.0
 
 module _ {Dir : Type 0} (c : Fixed Dir) (b e l : ℕ) (life : Life) (j : ℕ) (mail : Mail Dir) (st : Live Dir) (ended : Ended NodeStop (Live Dir)) (w new : World) (s : Setting) (p : Progress) (at : IsAtStep l life j s p)
-    (carries : CarriesAt c b e l st w.held s p) (can : CanRecord c st (Sent mail)) (other : IsOther (Sent mail)) (next : IfWentTo ended (λ end. IsLiveThrough c any_shares end × IsActiveThrough end))
-    (run : EndsSo (node_step c (event_of (Sent mail)) st) ended w new) where
+    (carries : CarriesAt c b e l st w.held s p) (can : CanRecord c st (Mailed mail)) (other : IsOther (Mailed mail)) (next : IfWentTo ended (λ end. IsLiveThrough c any_shares end × IsActiveThrough end))
+    (run : EndsSo (node_step c (event_of (Mailed mail)) st) ended w new) where
   abbrev answers : LeavesIdle st ended w new
   answers = mails_are_idle c mail st ended w new other ((carries.active).active).unawaited run
 
@@ -347,7 +347,7 @@ module _ {Dir : Type 0} (c : Fixed Dir) (b e l : ℕ) (life : Life) (j : ℕ) (m
   }
     where
       left : (q : Progress) → IsUnchanged p q → IsLeftBy c b e l (Unit {0}) ended new.held s p q
-      left q unchanged = leaves c b e b e l life j st (Sent mail) ended w new s p at carries (agreed_by c st (Sent mail) ended w new carries.half.agreed can run) carries.half.current idle_behind (Unit {0}) q
+      left q unchanged = leaves c b e b e l life j st (Mailed mail) ended w new s p at carries (agreed_by c st (Mailed mail) ended w new carries.half.agreed can run) carries.half.current idle_behind (Unit {0}) q
           (record { cuts = unchanged.cuts; step = unchanged.step; opened = unchanged.opened }) (subst (λ (h : Held). IsWhole (notes h) h.secrets) (sym answers.held) carries.half.agreed.whole)
           (subst (λ (m : Pairs). AllCurrent b (Gives m) q.recorded) (sym idle_pairs) (rw unchanged.recorded carries.half.are.given)) (λ pair there. inl (known pair there))
           (λ pair there. rw unchanged.recorded there) (by_end ended)

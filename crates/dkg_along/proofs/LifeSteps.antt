@@ -43,7 +43,7 @@ use Rattle.dkg_core.specs.Heard.{recovered_in}
 use Rattle.dkg_core.specs.Laws as node
 use Rattle.dkg_core.specs.Laws.{IsOther, reach_of}
 use Rattle.dkg_core.specs.Live as core
-use Rattle.dkg_core.specs.Live.{Stage, Deals, Includes, Follows, Ends, Finalized, Live, Mail, Message, NodeStop, Participation, Records, Peer, NextLog, ReleaseLog, EpochInfoOf, Feed, Over, Cancel, Work, Sent, phase_of}
+use Rattle.dkg_core.specs.Live.{Stage, Deals, Includes, Follows, Ends, Finalized, Live, Mail, Message, NodeStop, Participation, Records, Peer, NextLog, ReleaseLog, EpochInfoOf, Feed, Over, Cancel, Work, Mailed, phase_of}
 use Rattle.dkg_core.specs.Blocks.{is_in_window_in}
 use Rattle.dkg_core.specs.Sources.{Tip}
 use Rattle.dkg_ceremony.specs.declared.phase.Phase.{Phase}
@@ -255,7 +255,7 @@ module _ (s : Setting) (ends : List (Option CutAt)) (l : ℕ) (life : Life) (see
           node_steps_record_logs (c (suc i)) st m.message ended (b (suc i) - 1) w new low going.carries.half.agreed can run key above
 
       -- a message notes none
-      mail_logs : (mail : Mail U) → m.message ≡ Sent mail → (q : Progress) → IsGrown p.recorded q.recorded → marks → LogsKnown s (b (suc i)) q.recorded (logs_in (notes new.held))
+      mail_logs : (mail : Mail U) → m.message ≡ Mailed mail → (q : Progress) → IsGrown p.recorded q.recorded → marks → LogsKnown s (b (suc i)) q.recorded (logs_in (notes new.held))
       mail_logs mail message_is q grown known key noted now there =
           let low : reach_of (c (suc i)) m.message ≤ b (suc i) - 1 = subst (λ (x : Message U). reach_of (c (suc i)) x ≤ b (suc i) - 1) (sym message_is) (omega arith) in
           let same : get (logs_in (notes new.held)) key ≡ get (logs_in (notes w.held)) key
@@ -322,12 +322,12 @@ module _ (s : Setting) (ends : List (Option CutAt)) (l : ℕ) (life : Life) (see
       awaits = ap (λ (x : ℕ). awaited_epoch s l life x) (sym back)
 
       -- A MESSAGE
-      module _ (from : ℕ) (bytes : List ℕ) (its_is : slice_get life.events i ≡ Some (event.Peer from bytes)) (message_is : m.message ≡ Sent (Peer from bytes)) (small : from < 2 ^ 32) where
+      module _ (from : ℕ) (bytes : List ℕ) (its_is : slice_get life.events i ≡ Some (event.Peer from bytes)) (message_is : m.message ≡ Mailed (Peer from bytes)) (small : from < 2 ^ 32) where
         abbrev message_mail : Mail U
         message_mail = Peer from bytes
 
         abbrev message : Message U
-        message = Sent message_mail
+        message = Mailed message_mail
 
         event_is : event_of_step life (suc i) ≡ Some (event.Peer from bytes)
         event_is = its_is
@@ -335,7 +335,7 @@ module _ (s : Setting) (ends : List (Option CutAt)) (l : ℕ) (life : Life) (see
         goes_on : IfWentTo ended (λ end. (end.participation.round ≡ st.participation.round) × (end.participation.seat ≡ st.participation.seat) × IsLiveThrough (c (suc i)) any_shares end × IsActiveThrough end)
         goes_on = by_end ended followed
           where
-            no_block : (x : made.Block U) → ◌≡◌ {A = Message U} (Sent (Peer from bytes)) (Finalized x) → ⊥
+            no_block : (x : made.Block U) → ◌≡◌ {A = Message U} (Mailed (Peer from bytes)) (Finalized x) → ⊥
             no_block x e = cc
 
             by_end : (x : Ended NodeStop (Live U)) → IfWentTo x IsFollowed
@@ -399,7 +399,7 @@ module _ (s : Setting) (ends : List (Option CutAt)) (l : ℕ) (life : Life) (see
 
       -- ANY OTHER MESSAGE
       module _ (one : script.Event) (its_is : slice_get life.events i ≡ Some one) (none : delivered_number one ≡ None) (undue : (q : Progress) (epoch : ℕ) → IsDueEvent s q epoch one → ⊥)
-          (mail : Mail U) (message_is : m.message ≡ Sent mail) (other : IsOther (Sent mail)) where
+          (mail : Mail U) (message_is : m.message ≡ Mailed mail) (other : IsOther (Mailed mail)) where
         lives_on : IfWentTo ended (λ end. IsLiveThrough (c (suc i)) any_shares end × IsActiveThrough end)
         lives_on = by_end ended followed
           where

@@ -25,7 +25,7 @@ use Rattle.dkg_script.specs.Setting.{CutAt, Setting}
 use Rattle.dkg_store.specs.Acts.{Ended, Held, broken, by_cut, stopped, went}
 use Rattle.dkg_core.specs.Courses.{Course, Goes, on_devices}
 use Rattle.dkg_core.specs.Laws.{IsQuiet}
-use Rattle.dkg_core.specs.Live.{Cancel, Delivers, EpochInfoOf, Feed, Finalized, Live, NextLog, NodeStop, Over, Peer, ReleaseLog, Reshare, Sent, Work}
+use Rattle.dkg_core.specs.Live.{Cancel, Delivers, EpochInfoOf, Feed, Finalized, Live, NextLog, NodeStop, Over, Peer, ReleaseLog, Reshare, Mailed, Work}
 use Rattle.dkg_core.specs.Node.{node_opening, node_step}
 use Rattle.dkg_core.specs.Said.{Said}
 use Rattle.dkg_core.specs.Seen.{Seen}
@@ -144,7 +144,7 @@ adds_quiet out now its = record { added = its.0; parts = its.1; quiet = its.2 }
 pub step_is_quiet : (g : Lived) (j : ℕ) (its : Event) (st : Live directory.Unit) (ended : Ended NodeStop (Live directory.Unit)) (out now : List Entry)
     → Said (on_devices (step_of g j its st)) ended out now → AddsQuiet out now
 step_is_quiet g j (event.Peer from bytes) st ended out now said =
-    adds_quiet out now (node_steps_are_quiet (at_step g j) st (Sent (Peer from bytes)) ended out now said)
+    adds_quiet out now (node_steps_are_quiet (at_step g j) st (Mailed (Peer from bytes)) ended out now said)
 step_is_quiet g j (event.Final number) st ended out now said = of_block (slice_get (blocks_in g.script) number) said
   where
     of_block : (o : Option (Block directory.Unit))
@@ -152,21 +152,21 @@ step_is_quiet g j (event.Final number) st ended out now said = of_block (slice_g
     of_block None said = said_none st ended out now said
     of_block (Some b) said = adds_quiet out now (node_steps_are_quiet (at_step g j) st (Finalized b) ended out now said)
 step_is_quiet g j (event.Next request height) st ended out now said =
-    adds_quiet out now (node_steps_are_quiet (at_step g j) st (Sent (NextLog request height)) ended out now said)
+    adds_quiet out now (node_steps_are_quiet (at_step g j) st (Mailed (NextLog request height)) ended out now said)
 step_is_quiet g j (event.Release height) st ended out now said =
-    adds_quiet out now (node_steps_are_quiet (at_step g j) st (Sent (ReleaseLog height)) ended out now said)
+    adds_quiet out now (node_steps_are_quiet (at_step g j) st (Mailed (ReleaseLog height)) ended out now said)
 step_is_quiet g j (event.Info request) st ended out now said =
-    adds_quiet out now (node_steps_are_quiet (at_step g j) st (Sent (EpochInfoOf request)) ended out now said)
+    adds_quiet out now (node_steps_are_quiet (at_step g j) st (Mailed (EpochInfoOf request)) ended out now said)
 step_is_quiet g j (event.Feed request number) st ended out now said = of_fed (slice_get (blocks_in g.script) number) said
   where
     of_fed : (o : Option (Block directory.Unit))
         → Said (on_devices (option_map_or (λ its. node_step (at_step g j) its st) (option_map (λ b. Reshare (Feed request b)) o) (Goes st))) ended out now → AddsQuiet out now
     of_fed None said = said_none st ended out now said
-    of_fed (Some b) said = adds_quiet out now (node_steps_are_quiet (at_step g j) st (Sent (Feed request b)) ended out now said)
-step_is_quiet g j (event.Over request) st ended out now said = adds_quiet out now (node_steps_are_quiet (at_step g j) st (Sent (Over request)) ended out now said)
+    of_fed (Some b) said = adds_quiet out now (node_steps_are_quiet (at_step g j) st (Mailed (Feed request b)) ended out now said)
+step_is_quiet g j (event.Over request) st ended out now said = adds_quiet out now (node_steps_are_quiet (at_step g j) st (Mailed (Over request)) ended out now said)
 step_is_quiet g j (event.Cancel request) st ended out now said =
-    adds_quiet out now (node_steps_are_quiet (at_step g j) st (Sent (Cancel request)) ended out now said)
-step_is_quiet g j event.Work st ended out now said = adds_quiet out now (node_steps_are_quiet (at_step g j) st (Sent (Work None)) ended out now said)
+    adds_quiet out now (node_steps_are_quiet (at_step g j) st (Mailed (Cancel request)) ended out now said)
+step_is_quiet g j event.Work st ended out now said = adds_quiet out now (node_steps_are_quiet (at_step g j) st (Mailed (Work None)) ended out now said)
 step_is_quiet g j other st ended out now said = said_none st ended out now said
 
 -- EVENTS, those from number i on

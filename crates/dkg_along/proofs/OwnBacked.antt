@@ -28,7 +28,7 @@ use Rattle.dkg_store.specs.Pairs.{IsWhole, Pairs, recovered}
 use Rattle.dkg_store.proofs.Acts.{along_runs}
 use Rattle.dkg_core.specs.Behind.{RunsBehind}
 use Rattle.dkg_core.specs.Core.{opening}
-use Rattle.dkg_core.specs.Courses.{Ask, Call, Course, Do, EndsSo, Goes, Say, Stops, Throughout, on_devices}
+use Rattle.dkg_core.specs.Courses.{Ask, CallOutside, Course, Do, EndsSo, Goes, Say, Stops, Throughout, on_devices}
 use Rattle.dkg_core.specs.Fixed.{Fixed}
 use Rattle.dkg_core.specs.Forms.{IsForm}
 use Rattle.dkg_core.specs.Heard.{recovered_in}
@@ -56,7 +56,7 @@ some_is e = cc
 pub along_both : {Dir F S : Type 0} (A B P : World → Type 0) → ((x : World) → A x → B x → P x) → (course : Course Dir F S) (w : World) → Throughout A course w → Throughout B course w → Throughout P course w
 along_both A B P so (Say line course) w a b = (so w a.0 b.0, along_both A B P so course (says w line) a.1 b.1)
 along_both A B P so (Do op course) w a b = (λ cause new tears. so new (a.0 cause new tears) (b.0 cause new tears), along_both A B P so course (does w op) a.1 b.1)
-along_both A B P so (Call outer course) w a b = along_both A B P so course w a b
+along_both A B P so (CallOutside outer course) w a b = along_both A B P so course w a b
 along_both A B P so (Ask f) w a b = along_both A B P so (f w.held) w a b
 along_both A B P so (Goes end) w a b = so w a b
 along_both A B P so (Stops fault) w a b = so w a b

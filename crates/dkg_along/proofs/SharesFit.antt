@@ -34,7 +34,7 @@ use Rattle.dkg_core.specs.Forms.{IsForm}
 use Rattle.dkg_laws.specs.SharesMoved.{IsSuchShare}
 use Rattle.dkg_core.specs.Through.{IsFormThrough, IsLiveThrough}
 use Rattle.dkg_core.specs.Including as i
-use Rattle.dkg_core.specs.Live.{Deals, Ends, Finalized, Follows, Includes, Live, NodeStop, Peer, Sent, Stage, awaited_height, is_last_height, with_tip}
+use Rattle.dkg_core.specs.Live.{Deals, Ends, Finalized, Follows, Includes, Live, NodeStop, Peer, Mailed, Stage, awaited_height, is_last_height, with_tip}
 use Rattle.dkg_core.specs.Node.{node_opening, node_step}
 use Rattle.dkg_core.specs.Setup as s
 use Rattle.dkg_core.specs.Endings.{first_epoch}
@@ -272,9 +272,9 @@ module _ (Such : (epoch share : ℕ) → Type 0) where
             by_stage Ends at = walked (λ is. ends_apart (sym at ∙ is))
 
     -- A MESSAGE
-    pub message_such : (from : ℕ) (bytes : List ℕ) (st : Live Dir) (ended : Ended NodeStop (Live Dir)) (w new : World) → A w → EndsSo (node_step c (event_of (Sent (Peer from bytes))) st) ended w new → A new
+    pub message_such : (from : ℕ) (bytes : List ℕ) (st : Live Dir) (ended : Ended NodeStop (Live Dir)) (w new : World) → A w → EndsSo (node_step c (event_of (Mailed (Peer from bytes))) st) ended w new → A new
     message_such from bytes st ended w new q run =
-        let its : RunsBehind (step c (Sent (Peer from bytes)) st) ended w new = steps_run_behind c st (Sent (Peer from bytes)) ended w new run in
-        let same : SameSecrets c w its.mid = along_runs (SameSecrets c w) (on_devices (step c (Sent (Peer from bytes)) st)) its.half w its.mid
+        let its : RunsBehind (step c (Mailed (Peer from bytes)) st) ended w new = steps_run_behind c st (Mailed (Peer from bytes)) ended w new run in
+        let same : SameSecrets c w its.mid = along_runs (SameSecrets c w) (on_devices (step c (Mailed (Peer from bytes)) st)) its.half w its.mid
         (hears_same c w from bytes st st.participation.stage w (record { seeds = refl; shares = refl })) its.run in
         same_shares w.held new.held (ap (λ (h : Held). h.secrets.shares) its.held ∙ same.shares) q

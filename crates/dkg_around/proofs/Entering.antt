@@ -14,7 +14,7 @@ use Rattle.dkg_infos.specs.declared.fault.Fault.TheVariants.{MissingEpochInfo, W
 use Rattle.dkg_infos.specs.declared.info.EpochInfo.{EpochInfo}
 use Rattle.dkg_core.specs.Entering.{is_ready}
 use Rattle.dkg_core.specs.Fixed.{Fixed}
-use Rattle.dkg_core.specs.Sources.{Source}
+use Rattle.dkg_core.specs.Sources.{SourceAnswers}
 use Rattle.dkg_core.specs.Endings.{first_block, first_epoch}
 use Rattle.dkg_around.specs.Halves.{AreStart, beginning_of}
 use Rattle.dkg_around.specs.Orchestrator.{IsFenceReady, IsHalfGiven}
@@ -51,10 +51,10 @@ ready_where_carried c fence b epoch of at begins ready = subst (λ (n : ℕ). is
         the_block e = cc
 
 -- .. where the bounds, the boundary block and its info were found so
-pub ready_at : (c : Fixed directory.Unit) (fence : Readiness) (b : Block directory.Unit) (blocks : ℕ) (source : Source directory.Unit) (bounds : Bounds) (height : ℕ) → IsHalfGiven blocks source c → AreStart c bounds
+pub ready_at : (c : Fixed directory.Unit) (fence : Readiness) (b : Block directory.Unit) (blocks : ℕ) (source : SourceAnswers directory.Unit) (bounds : Bounds) (height : ℕ) → IsHalfGiven blocks source c → AreStart c bounds
     → ((n : ℕ) → bounds.first ≡ first n bounds.epoch → height ≡ boundary n bounds.epoch) → Some b ≡ source.block height → beginning_of b bounds.epoch ≡ Ok tt → IsFenceReady c fence → is_ready fence.ready bounds.epoch ≡ true
 ready_at c fence b blocks source bounds height given start boundary_is there begins ready = ready_where_carried c fence b bounds.epoch start.epoch_is here begins ready
   where
     here : first_block c ≡ Some b
-    here = ap (λ (s : Source directory.Unit). s.block (boundary c.blocks_per_epoch (first_epoch c))) given.lent
+    here = ap (λ (s : SourceAnswers directory.Unit). s.block (boundary c.blocks_per_epoch (first_epoch c))) given.lent
         ∙ ap source.block (sym (boundary_is c.blocks_per_epoch start.first_is ∙ ap (boundary c.blocks_per_epoch) start.epoch_is)) ∙ sym there

@@ -25,7 +25,7 @@ use Rattle.dkg_store.specs.Acts.{Acts, Breaks, Cause, Completes, Ended, Faults, 
 use Rattle.dkg_store.proofs.Acts.{breaks_none}
 use Rattle.dkg_core.specs.Courses.{Course, Genesis, Goes, Say, Stops, bind, on_devices}
 use Rattle.dkg_core.specs.Entering as core
-use Rattle.dkg_core.specs.Entering.{Acknowledges, Withholds, acked_at, acked_late, active, asks_again, takes_delivered, delivered_in, enters, enters_at, is_ready, leaves, starts_engine, stops_engine, tracks_peers, wait_for, waited_for}
+use Rattle.dkg_core.specs.Entering.{AcknowledgesBlock, Withholds, acked_at, acked_late, active, asks_again, takes_delivered, delivered_in, enters, enters_at, is_ready, leaves, starts_engine, stops_engine, tracks_peers, wait_for, waited_for}
 use Rattle.dkg_core.specs.Fixed.{Fixed}
 use Rattle.dkg_core.specs.Live.{Faulted, Live, NodeStop, Orchestrator, Waiting, with_orchestrator}
 use Rattle.dkg_core.specs.Splitting.{fault_named}
@@ -122,7 +122,7 @@ wants_speaks {S} course its is out now same =
 -- ANY BLOCK, where the half waits for nothing
 
 module _ (c : Fixed directory.Unit) (b : Block directory.Unit) (st : Live directory.Unit) (half : Half) (has : HasOrchestratorHalf half st) where
-  abbrev answers : core.Half directory.Unit → Course directory.Unit NodeStop (Live directory.Unit)
+  abbrev answers : core.LifeAndAnswer directory.Unit → Course directory.Unit NodeStop (Live directory.Unit)
   answers its = acked_at b.height its.answer its.live
 
   abbrev says_acked : Live directory.Unit → Course directory.Unit NodeStop (Live directory.Unit)
@@ -153,13 +153,13 @@ module _ (c : Fixed directory.Unit) (b : Block directory.Unit) (st : Live direct
         subst (λ (x : Course directory.Unit NodeStop (Live directory.Unit)). Speaks x (by_node_stop its) out now) (in_epoch (Some epoch) is) (early_speaks (delivered_in c b st (Some epoch)) answers its out now a)
 
     -- .. or went on, and the block is acknowledged
-    acks : (end : Live directory.Unit) (out mid : List Entry) → Speaks (delivered_in c b st (Some epoch)) (went (record { live = end; answer = Acknowledges })) out mid
+    acks : (end : Live directory.Unit) (out mid : List Entry) → Speaks (delivered_in c b st (Some epoch)) (went (record { live = end; answer = AcknowledgesBlock })) out mid
         → (how : Ended NodeStop (Live directory.Unit)) (now : List Entry) → Speaks (says_acked end) how mid now → Speaks (bind (takes_delivered c b st) answers) how out now
     acks end out mid a how now more =
         subst (λ (x : Course directory.Unit NodeStop (Live directory.Unit)). Speaks x how out now) (in_epoch (Some epoch) is)
-        (then_speaks (delivered_in c b st (Some epoch)) answers (record { live = end; answer = Acknowledges }) how out mid now a more)
+        (then_speaks (delivered_in c b st (Some epoch)) answers (record { live = end; answer = AcknowledgesBlock }) how out mid now a more)
 
-    module _ (end : Live directory.Unit) (out mid : List Entry) (went_on : Speaks (delivered_in c b st (Some epoch)) (went (record { live = end; answer = Acknowledges })) out mid) where
+    module _ (end : Live directory.Unit) (out mid : List Entry) (went_on : Speaks (delivered_in c b st (Some epoch)) (went (record { live = end; answer = AcknowledgesBlock })) out mid) where
       pub acks_wanted : (now : List Entry) → now ≡ mid → Speaks (bind (takes_delivered c b st) answers) (by_node_stop (stop.Fault NoMemory)) out now
       acks_wanted now same = acks end out mid went_on (by_node_stop (stop.Fault NoMemory)) now (wants_speaks (says_acked end) (stop.Fault NoMemory) refl mid now same)
 

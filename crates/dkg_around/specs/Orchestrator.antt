@@ -11,7 +11,7 @@ use Rattle.dkg_core.specs.Entering as core
 use Rattle.dkg_core.specs.Entering.{is_ready}
 use Rattle.dkg_core.specs.Fixed.{Fixed}
 use Rattle.dkg_core.specs.Live.{Live, NodeStop, with_orchestrator}
-use Rattle.dkg_core.specs.Sources.{Source}
+use Rattle.dkg_core.specs.Sources.{SourceAnswers}
 use Rattle.dkg_core.specs.Endings.{OnInfo, first_epoch}
 use Rattle.dkg_life.specs.declared.stop.Stop.{Stop}
 use Rattle.dkg_lives.specs.Ended.{by_node_stop}
@@ -34,7 +34,7 @@ ends_half fence st (Ok half) = went (with_orchestrator_half half fence st)
 ends_half fence st (Err stop) = by_node_stop stop
 
 -- A Fixed that this half's opening is given: no plan is read.
-pub record IsHalfGiven (blocks : ℕ) (source : Source directory.Unit) (c : Fixed directory.Unit) : Type 0 where
+pub record IsHalfGiven (blocks : ℕ) (source : SourceAnswers directory.Unit) (c : Fixed directory.Unit) : Type 0 where
   pub blocks_are : c.blocks_per_epoch ≡ blocks
   pub lent : c.source ≡ source
   pub unplanned : IsUnplanned c.seen
@@ -68,6 +68,6 @@ MayPass per_epoch half ready height = (epoch : ℕ) → half.halted ≡ false �
     → (last per_epoch epoch < 2 ^ 64) × (height ≡ last per_epoch epoch → (last per_epoch (epoch + 1) < 2 ^ 64) × (is_ready ready (epoch + 1) ≡ true))
 
 -- how a half's step ended, whatever it answered
-abbrev pub ends_on : Live directory.Unit → Result (Unit {0}) Stop → Ended NodeStop (core.Half directory.Unit)
-ends_on st (Ok done) = went (record { live = st; answer = core.Acknowledges })
+abbrev pub ends_on : Live directory.Unit → Result (Unit {0}) Stop → Ended NodeStop (core.LifeAndAnswer directory.Unit)
+ends_on st (Ok done) = went (record { live = st; answer = core.AcknowledgesBlock })
 ends_on st (Err stop) = by_node_stop stop

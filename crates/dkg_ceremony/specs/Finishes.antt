@@ -99,6 +99,6 @@ AnswersFinish answer (Err NoMemory) = Unit {0}
 AnswersFinish answer (Err e) = answer ≡ Err e
 
 -- which dealing is missing, where that is what is answered
-abbrev pub Lacks : Option ℕ → FinishError → Type 0
-Lacks missing (MissingDealing dealer) = missing ≡ Some dealer
-Lacks missing NoMemory = Unit {0}
+abbrev pub TellsMissingDealing : Option ℕ → FinishError → Type 0
+TellsMissingDealing missing (MissingDealing dealer) = missing ≡ Some dealer
+TellsMissingDealing missing NoMemory = Unit {0}

@@ -5,7 +5,7 @@
 ghost use Rattle.std.specs.Prelude.{◌≡◌, length, Some, None, Contains, IfOk, IfErr};
 ghost use Rattle.std.specs.List.{zip};
 ghost use Rattle.std.specs.Str.{bytes_eq};
-ghost use Rattle.dkg_ceremony.specs.Finishes.{AnswersFinish, Lacks, finish_of, first_missing, first_that, known_privates, lacks_dealing, private_in, weighted_total};
+ghost use Rattle.dkg_ceremony.specs.Finishes.{AnswersFinish, TellsMissingDealing, finish_of, first_missing, first_that, known_privates, lacks_dealing, private_in, weighted_total};
 ghost use Rattle.dkg_ceremony.specs.Outcomes.{selected_of};
 ghost use Rattle.dkg_ceremony.specs.declared.finish.FinishError.TheVariants.{NoMemory as NoMemoryLeft};
 
@@ -99,7 +99,7 @@ fn privates_of(
     selected: &[Key],
 ) -> Result<Vec<Element>, FinishError>
     ensures all { IfOk result (λ privates. (first_missing (private_in players.now me dealings.now logs.now) selected.now ≡ None) × (privates.items ≡ known_privates (private_in players.now me dealings.now logs.now) selected.now)) }
-    ensures missing { IfErr result (λ e. Lacks (first_missing (private_in players.now me dealings.now logs.now) selected.now) e) }
+    ensures missing { IfErr result (λ e. TellsMissingDealing (first_missing (private_in players.now me dealings.now logs.now) selected.now) e) }
 {
     let mut privates = Vec::new(alloc);
     for dealer in selected {
@@ -123,7 +123,7 @@ fn gather(
     requires player { Contains round.now.players me }
     requires chosen { selected_of round.now logs.now ≡ Some selected.now }
     ensures all { IfOk result (λ privates. (first_that (lacks_dealing round.now me dealings.now logs.now) selected.now ≡ None) × (privates.items ≡ known_privates (private_in round.now.players me dealings.now logs.now) selected.now)) }
-    ensures missing { IfErr result (λ e. Lacks (first_that (lacks_dealing round.now me dealings.now logs.now) selected.now) e) }
+    ensures missing { IfErr result (λ e. TellsMissingDealing (first_that (lacks_dealing round.now me dealings.now logs.now) selected.now) e) }
 {
     privates_of(alloc, &round.parts().players, me, dealings, logs, selected)
 }

@@ -59,9 +59,9 @@ use Rattle.dkg_store.proofs.Pruned.{recovered_from, acks_from, logs_from}
 use Rattle.dkg_store.proofs.Silent.{says_dealing}
 use Rattle.dkg_secrets.proofs.Tried.{all_done}
 use Rattle.dkg_core.specs.Sources.{Tip, startup}
-use Rattle.dkg_core.specs.Courses.{Course, Say, Do, Call, Ask, Goes, Stops, Tracks, bind, Finishes}
+use Rattle.dkg_core.specs.Courses.{Course, Say, Do, CallOutside, Ask, Goes, Stops, Tracks, bind, Finishes}
 use Rattle.dkg_core.specs.Fixed.{Fixed, Material, OneShot, has, start}
-use Rattle.dkg_core.specs.Live.{Live, Records, Dealer, Seat, Plays, Watches, Stage, Deals, Includes, Follows, Ends, Request, Job, Verified, VerifiedLogs, Artifact, Message, Sent, Peer, Finalized, NextLog, ReleaseLog, EpochInfoOf, Feed, Over, Cancel, Work, awaited_height, recorded_at, records_of_epoch, phase_of, with_tip, with_participation, with_inclusion, with_queue, with_used, is_last_height}
+use Rattle.dkg_core.specs.Live.{Live, Records, Dealer, Seat, Plays, Watches, Stage, Deals, Includes, Follows, Ends, Request, Job, Verified, VerifiedLogs, Artifact, Message, Mailed, Peer, Finalized, NextLog, ReleaseLog, EpochInfoOf, Feed, Over, Cancel, Work, awaited_height, recorded_at, records_of_epoch, phase_of, with_tip, with_participation, with_inclusion, with_queue, with_used, is_last_height}
 use Rattle.dkg_core.specs.Logs.{canonical, filled_by, is_accepted, carried_log_event, logs_of, recorded_log}
 use Rattle.dkg_core.specs.Setup as s
 use Rattle.dkg_core.specs.Dealing as d
@@ -79,7 +79,7 @@ use Rattle.dkg_core.proofs.Keeping.{fold_silent, silent_whole}
 abbrev Lands : {Dir : Type 0} → Course Dir Fault (Live Dir) → Held → Type 0
 Lands (Say line course) h = Lands course h
 Lands (Do op course) h = Lands course (held_after op h)
-Lands (Call outer course) h = Lands course h
+Lands (CallOutside outer course) h = Lands course h
 Lands (Ask f) h = Lands (f h) h
 Lands (Goes st) h = AreAgreed st.records h
 Lands (Stops fault) h = Unit {0}
@@ -88,7 +88,7 @@ lands_bind : {Dir : Type 0} (course : Course Dir Fault (Live Dir)) (next : Live 
     → ((st : Live Dir) (h : Held) → AreAgreed st.records h → Lands (next st) h) → Lands (bind course next) h
 lands_bind (Say line course) next h l more = lands_bind course next h l more
 lands_bind (Do op course) next h l more = lands_bind course next (held_after op h) l more
-lands_bind (Call outer course) next h l more = lands_bind course next h l more
+lands_bind (CallOutside outer course) next h l more = lands_bind course next h l more
 lands_bind (Ask f) next h l more = lands_bind (f h) next h l more
 lands_bind (Goes st) next h l more = more st h l
 lands_bind (Stops fault) next h l more = tt
@@ -105,7 +105,7 @@ lands_option (Some a) f none h some without = some a refl
 pub lands_at : {Dir : Type 0} (course : Course Dir Fault (Live Dir)) (w new : World) (end : Live Dir) → Lands course w.held → Finishes course end w new → AreAgreed end.records new.held
 lands_at (Say line course) w new end l done = lands_at course (says w line) new end l done
 lands_at (Do op course) w new end l done = lands_at course (does w op) new end l done
-lands_at (Call outer course) w new end l done = lands_at course w new end l done
+lands_at (CallOutside outer course) w new end l done = lands_at course w new end l done
 lands_at (Ask f) w new end l done = lands_at (f w.held) w new end l done
 lands_at {Dir} (Goes st) w new end l done =
     subst (λ (x : World). AreAgreed end.records x.held) (sym done.0) (subst (λ (x : Live Dir). AreAgreed x.records w.held) (sym done.1) l)
@@ -673,14 +673,14 @@ module _ {Dir : Type 0} (c : Fixed Dir) where
 
   steps : (st : Live Dir) (message : Message Dir) (h : Held) → CanRecord c st message → AreAgreed st.records h → Lands (step c message st) h
   steps st (Finalized block) h can a = delivers block can.acks can.brings st st.participation.stage h can.dealing a
-  steps st (Sent (Peer from bytes)) h can a = hears from bytes st st.participation.stage h can.brings a
-  steps st (Sent (NextLog request height)) h can a = gives request height (i.served_now st) (with_used request st) h a
-  steps st (Sent (ReleaseLog height)) h can a = releases height st h a
-  steps st (Sent (EpochInfoOf request)) h can a = asks_in request (with_used request st) st.participation.stage h a
-  steps st (Sent (Feed request block)) h can a = advanced (i.changed request (λ r. if r.ended then r else record r { blocks = r.blocks ++ block ∷ [] }) st) h a
-  steps st (Sent (Over request)) h can a = advanced (i.changed request (λ r. record r { ended = true }) st) h a
-  steps st (Sent (Cancel request)) h can a = cancels request st h a
-  steps st (Sent (Work handed)) h can a = works handed st h a
+  steps st (Mailed (Peer from bytes)) h can a = hears from bytes st st.participation.stage h can.brings a
+  steps st (Mailed (NextLog request height)) h can a = gives request height (i.served_now st) (with_used request st) h a
+  steps st (Mailed (ReleaseLog height)) h can a = releases height st h a
+  steps st (Mailed (EpochInfoOf request)) h can a = asks_in request (with_used request st) st.participation.stage h a
+  steps st (Mailed (Feed request block)) h can a = advanced (i.changed request (λ r. if r.ended then r else record r { blocks = r.blocks ++ block ∷ [] }) st) h a
+  steps st (Mailed (Over request)) h can a = advanced (i.changed request (λ r. record r { ended = true }) st) h a
+  steps st (Mailed (Cancel request)) h can a = cancels request st h a
+  steps st (Mailed (Work handed)) h can a = works handed st h a
 
   -- OPENINGS
 
@@ -743,7 +743,7 @@ module _ {Dir : Type 0} (c : Fixed Dir) where
       (λ e. draws_up (o.participants_in once) None None seed (s.anew c st) (held_after (Changes (PutSeed 0 seed)) h) (same_halves st.records h (of_secrets.after (PutSeed 0 seed) h.secrets) refl a)))
 
   tracks_once : (once : OneShot Dir) (course : Course Dir Fault (Live Dir)) (h : Held) → Lands course h → Lands (o.tracks_once c once course) h
-  tracks_once once course h l = lands_if (o.is_refused c once) course (Call (Tracks 0 (o.peers_in once) once.directory) course) h (λ e. l) (λ e. l)
+  tracks_once once course h l = lands_if (o.is_refused c once) course (CallOutside (Tracks 0 (o.peers_in once) once.directory) course) h (λ e. l) (λ e. l)
 
   valid_once : (once : OneShot Dir) (st : Live Dir) (valid : Result (Unit {0}) ParticipantsError) (h : Held) → AreAgreed st.records h → Lands (o.valid_once c once st valid) h
   valid_once once st (Err e) h a = tt

@@ -19,15 +19,15 @@ use Rattle.dkg_infos.specs.declared.fault.Fault.TheVariants.{HeightRange, Missin
 use Rattle.dkg_infos.specs.declared.info.EpochInfo.{EpochInfo}
 use Rattle.dkg_types.specs.declared.scheme.SchemeInfo.{SchemeInfo}
 use Rattle.dkg_store.specs.Acts.{World, Cause, says, Ended, went, stopped, broken, Completes, Faults, Breaks}
-use Rattle.dkg_core.specs.Courses.{Course, Say, Do, Call, Ask, Goes, Stops, bind, under, on_devices, EndsSo, Genesis, Certified}
+use Rattle.dkg_core.specs.Courses.{Course, Say, Do, CallOutside, Ask, Goes, Stops, bind, under, on_devices, EndsSo, Genesis, Certified}
 use Rattle.dkg_core.specs.Said.{Said, SaysAll, SaysUpTo, SaysFirst}
 use Rattle.dkg_core.specs.Fixed.{Fixed, Material}
-use Rattle.dkg_core.specs.Live.{Live, Orchestrator, Waiting, NodeStop, Faulted, Sent, Finalized, with_orchestrator}
+use Rattle.dkg_core.specs.Live.{Live, Orchestrator, Waiting, NodeStop, Faulted, Mailed, Finalized, with_orchestrator}
 use Rattle.dkg_core.specs.Setup.{is_past_range}
 use Rattle.dkg_core.specs.Plans.{material_at}
 use Rattle.dkg_core.specs.Core.{opening, step}
 use Rattle.dkg_core.specs.Entering as half
-use Rattle.dkg_core.specs.Entering.{Half, HalfAnswer}
+use Rattle.dkg_core.specs.Entering.{LifeAndAnswer, HalfAnswer}
 use Rattle.dkg_core.specs.Node.{unless_once, kept_material}
 use Rattle.dkg_core.specs.Behind.{EndsBehind, IfEarly, IsAside, IsSameBeside, OnlySays, OpeningsRunBehind, OpeningsSayBehind, RunsBehind, SaidBehind, StepsRunBehind, StepsSayBehind}
 use Rattle.dkg_core.specs.Splitting.{IsEarly, fault_named}
@@ -49,7 +49,7 @@ pub only_behind : {Dir F S T : Type 0} (P : Entry → Type 0) (Q : S → Type 0)
     → OnlySays P Q course → ((end : S) → Q end → OnlySays P R (next end)) → OnlySays P R (bind course next)
 only_behind P Q R (Say line course) next only so = (only.0, only_behind P Q R course next only.1 so)
 only_behind P Q R (Do op course) next only so = absurd only
-only_behind P Q R (Call outer course) next only so = only_behind P Q R course next only so
+only_behind P Q R (CallOutside outer course) next only so = only_behind P Q R course next only so
 only_behind P Q R (Ask f) next only so = λ h. only_behind P Q R (f h) next (only h) so
 only_behind P Q R (Goes end) next only so = so end only
 only_behind P Q R (Stops fault) next only so = tt
@@ -57,25 +57,25 @@ only_behind P Q R (Stops fault) next only so = tt
 pub only_under : {Dir F G S : Type 0} (P : Entry → Type 0) (Q : S → Type 0) (name : F → G) (course : Course Dir F S) → OnlySays P Q course → OnlySays P Q (under name course)
 only_under P Q name (Say line course) only = (only.0, only_under P Q name course only.1)
 only_under P Q name (Do op course) only = absurd only
-only_under P Q name (Call outer course) only = only_under P Q name course only
+only_under P Q name (CallOutside outer course) only = only_under P Q name course only
 only_under P Q name (Ask f) only = λ h. only_under P Q name (f h) (only h)
 only_under P Q name (Goes end) only = only
 only_under P Q name (Stops fault) only = tt
 
 -- THE ORCHESTRATOR'S HALF
 
-abbrev IsHalfOf : {Dir : Type 0} → Live Dir → Half Dir → Type 0
+abbrev IsHalfOf : {Dir : Type 0} → Live Dir → LifeAndAnswer Dir → Type 0
 IsHalfOf st left = IsSameBeside st left.live
 
 module _ {Dir : Type 0} (c : Fixed Dir) where
-  abbrev Aside : Live Dir → Course Dir NodeStop (Half Dir) → Type 0
+  abbrev Aside : Live Dir → Course Dir NodeStop (LifeAndAnswer Dir) → Type 0
   Aside st course = OnlySays IsAside (IsHalfOf st) course
 
   starts_aside : (st : Live Dir) (o : Orchestrator Dir) (w : Waiting Dir) (found : Option SchemeInfo) → Aside st (half.starts_engine o w found st)
   starts_aside st o w None = tt
   starts_aside st o w (Some scheme) = stopped_aside o.entered
     where
-      stopped_aside : (old : Option ℕ) → Aside st (half.stops_engine old (Say (Entered w.epoch) (half.leaves (half.with_entered w.epoch o) half.Acknowledges st)))
+      stopped_aside : (old : Option ℕ) → Aside st (half.stops_engine old (Say (Entered w.epoch) (half.leaves (half.with_entered w.epoch o) half.AcknowledgesBlock st)))
       stopped_aside None = (tt, refl)
       stopped_aside (Some epoch) = (tt, refl)
 
@@ -94,8 +94,8 @@ module _ {Dir : Type 0} (c : Fixed Dir) where
 
   enters_at_aside : (st : Live Dir) (b : Block Dir) (epoch : ℕ) (block : Option ℕ) → Aside st (half.enters_at c b epoch block st)
   enters_at_aside st b epoch block =
-      let goes : EpochInfo Dir → Course Dir NodeStop (Half Dir) = λ info. half.enters c (record { epoch = epoch; info = info; floor = Genesis b.digest; block = block }) st in
-      let wrong : EpochInfo Dir → Course Dir NodeStop (Half Dir) = λ info. Stops (Faulted (WrongEpoch epoch info.epoch)) in
+      let goes : EpochInfo Dir → Course Dir NodeStop (LifeAndAnswer Dir) = λ info. half.enters c (record { epoch = epoch; info = info; floor = Genesis b.digest; block = block }) st in
+      let wrong : EpochInfo Dir → Course Dir NodeStop (LifeAndAnswer Dir) = λ info. Stops (Faulted (WrongEpoch epoch info.epoch)) in
       only_option IsAside (IsHalfOf st) (λ info. if info.epoch == epoch then goes info else wrong info) (info_of b.payload) (Stops (Faulted (MissingEpochInfo b.height)))
       (λ info. only_if IsAside (IsHalfOf st) (info.epoch == epoch) (goes info) (wrong info) (enters_aside st (record { epoch = epoch; info = info; floor = Genesis b.digest; block = block })) tt) tt
 
@@ -111,13 +111,13 @@ module _ {Dir : Type 0} (c : Fixed Dir) where
       tt (opens_at_aside st epoch (c.source.block (boundary c.blocks_per_epoch epoch)))
 
   acked_aside : (st end : Live Dir) (height : ℕ) (answer : HalfAnswer) → IsSameBeside st end → OnlySays IsAside (IsSameBeside st) (half.acked_at height answer end)
-  acked_aside st end height half.Acknowledges same = (tt, same)
+  acked_aside st end height half.AcknowledgesBlock same = (tt, same)
   acked_aside st end height half.Withholds same = same
 
   asks_aside : (st : Live Dir) → OnlySays IsAside (IsSameBeside st) (half.asks_again c st)
   asks_aside st = by_waiting st.orchestrator.waiting
     where
-      late : (block : Option ℕ) (left : Half Dir) → IsHalfOf st left → OnlySays IsAside (IsSameBeside st) (half.acked_late block left)
+      late : (block : Option ℕ) (left : LifeAndAnswer Dir) → IsHalfOf st left → OnlySays IsAside (IsSameBeside st) (half.acked_late block left)
       late None left same = same
       late (Some height) left same = acked_aside st left.live height left.answer same
 
@@ -134,14 +134,14 @@ module _ {Dir : Type 0} (c : Fixed Dir) where
       judged mid None = refl
       judged mid (Some epoch) =
           let ends = last c.blocks_per_epoch epoch in
-          let early : Course Dir NodeStop (Half Dir) = half.leaves mid.orchestrator half.Acknowledges mid in
+          let early : Course Dir NodeStop (LifeAndAnswer Dir) = half.leaves mid.orchestrator half.AcknowledgesBlock mid in
           only_if IsAside (IsHalfOf mid) (nat_lt ends b.height) (Stops (Faulted (SkippedHeight ends b.height))) (if nat_lt b.height ends then early else half.enters_at c b (epoch + 1) (Some b.height) mid)
           tt (only_if IsAside (IsHalfOf mid) (nat_lt b.height ends) early (half.enters_at c b (epoch + 1) (Some b.height) mid) refl (enters_at_aside mid b (epoch + 1) (Some b.height)))
 
-      only_as : (mid : Live Dir) → IsSameBeside st mid → (course : Course Dir NodeStop (Half Dir)) → Aside mid course → Aside st course
+      only_as : (mid : Live Dir) → IsSameBeside st mid → (course : Course Dir NodeStop (LifeAndAnswer Dir)) → Aside mid course → Aside st course
       only_as mid same (Say line course) only = (only.0, only_as mid same course only.1)
       only_as mid same (Do op course) only = absurd only
-      only_as mid same (Call outer course) only = only_as mid same course only
+      only_as mid same (CallOutside outer course) only = only_as mid same course only
       only_as mid same (Ask f) only = λ h. only_as mid same (f h) (only h)
       only_as mid same (Goes left) only = only ∙ ap (λ (st : Live Dir). with_orchestrator left.live.orchestrator st) same
       only_as mid same (Stops fault) only = tt
@@ -215,7 +215,7 @@ module _ {Dir F S : Type 0} (P : Entry → Type 0) (Q : S → Type 0) where
   completes : (course : Course Dir F S) (end : S) (w new : World) → OnlySays P Q course → Completes (on_devices course) end w new → LeavesDevices {F = F} P Q (went end) w new
   completes (Say line course) end w new only run = one_more P Q line (went end) w new only.0 (completes course end (says w line) new only.1 run)
   completes (Do op course) end w new only run = absurd only
-  completes (Call outer course) end w new only run = completes course end w new only run
+  completes (CallOutside outer course) end w new only run = completes course end w new only run
   completes (Ask f) end w new only run = completes (f w.held) end w new (only w.held) run
   completes (Goes its) end w new only run = nothing_more P Q (went end) w new run.0 (subst Q (sym run.1) only)
   completes (Stops fault) end w new only run = absurd run
@@ -223,7 +223,7 @@ module _ {Dir F S : Type 0} (P : Entry → Type 0) (Q : S → Type 0) where
   faults : (course : Course Dir F S) (fault : F) (w new : World) → OnlySays P Q course → Faults (on_devices course) fault w new → LeavesDevices P Q (stopped fault) w new
   faults (Say line course) fault w new only run = one_more P Q line (stopped fault) w new only.0 (faults course fault (says w line) new only.1 run)
   faults (Do op course) fault w new only run = absurd only
-  faults (Call outer course) fault w new only run = faults course fault w new only run
+  faults (CallOutside outer course) fault w new only run = faults course fault w new only run
   faults (Ask f) fault w new only run = faults (f w.held) fault w new (only w.held) run
   faults (Goes its) fault w new only run = absurd run
   faults (Stops its) fault w new only run = nothing_more P Q (stopped fault) w new run.0 tt
@@ -232,7 +232,7 @@ module _ {Dir F S : Type 0} (P : Entry → Type 0) (Q : S → Type 0) where
   breaks cause (Say line course) w new only (inl none) = nothing_more P Q (broken cause) w new none.1 tt
   breaks cause (Say line course) w new only (inr run) = one_more P Q line (broken cause) w new only.0 (breaks cause course (says w line) new only.1 run)
   breaks cause (Do op course) w new only run = absurd only
-  breaks cause (Call outer course) w new only run = breaks cause course w new only run
+  breaks cause (CallOutside outer course) w new only run = breaks cause course w new only run
   breaks cause (Ask f) w new only run = breaks cause (f w.held) w new (only w.held) run
   breaks cause (Goes its) w new only run = nothing_more P Q (broken cause) w new run.1 tt
   breaks cause (Stops fault) w new only run = nothing_more P Q (broken cause) w new run.1 tt
@@ -245,7 +245,7 @@ module _ {Dir F S : Type 0} (P : Entry → Type 0) (Q : S → Type 0) where
   all_says : (course : Course Dir F S) (end : S) (lines : List Entry) → OnlySays P Q course → SaysAll (on_devices course) end lines → AllByRecursion P lines × Q end
   all_says (Say line course) end lines only by = let rest = all_says course end by.0 only.1 by.2 in (all_such P line lines by.0 by.1 only.0 rest.0, rest.1)
   all_says (Do op course) end lines only by = absurd only
-  all_says (Call outer course) end lines only by = all_says course end lines only by
+  all_says (CallOutside outer course) end lines only by = all_says course end lines only by
   all_says (Ask f) end lines only by = all_says (f by.0) end lines (only by.0) by.1
   all_says (Goes its) end lines only by = (none_such P lines by.0, subst Q (sym by.1) only)
   all_says (Stops fault) end lines only by = absurd by
@@ -253,7 +253,7 @@ module _ {Dir F S : Type 0} (P : Entry → Type 0) (Q : S → Type 0) where
   up_to_says : (course : Course Dir F S) (fault : F) (lines : List Entry) → OnlySays P Q course → SaysUpTo (on_devices course) fault lines → AllByRecursion P lines
   up_to_says (Say line course) fault lines only by = all_such P line lines by.0 by.1 only.0 (up_to_says course fault by.0 only.1 by.2)
   up_to_says (Do op course) fault lines only by = absurd only
-  up_to_says (Call outer course) fault lines only by = up_to_says course fault lines only by
+  up_to_says (CallOutside outer course) fault lines only by = up_to_says course fault lines only by
   up_to_says (Ask f) fault lines only by = up_to_says (f by.0) fault lines (only by.0) by.1
   up_to_says (Goes its) fault lines only by = absurd by
   up_to_says (Stops its) fault lines only by = none_such P lines by.0
@@ -262,7 +262,7 @@ module _ {Dir F S : Type 0} (P : Entry → Type 0) (Q : S → Type 0) where
   first_says (Say line course) lines only (inl none) = none_such P lines none
   first_says (Say line course) lines only (inr by) = all_such P line lines by.0 by.1 only.0 (first_says course by.0 only.1 by.2)
   first_says (Do op course) lines only by = absurd only
-  first_says (Call outer course) lines only by = first_says course lines only by
+  first_says (CallOutside outer course) lines only by = first_says course lines only by
   first_says (Ask f) lines only (inl none) = none_such P lines none
   first_says (Ask f) lines only (inr by) = first_says (f by.0) lines (only by.0) by.1
   first_says (Goes its) lines only by = none_such P lines by
@@ -380,7 +380,7 @@ pub openings_run_behind : {Dir : Type 0} → OpeningsRunBehind Dir
 openings_run_behind c ended w new run = runs_behind (opening c) (λ st. unless_once c (kept_material c st) (Goes st)) (opened_aside c) ended w new run
 
 pub steps_run_behind : {Dir : Type 0} → StepsRunBehind Dir
-steps_run_behind c st (Sent mail) ended w new run = runs_behind (step c (Sent mail) st) (λ st. unless_once c (half.asks_again c st) (Goes st)) (heard_aside c) ended w new run
+steps_run_behind c st (Mailed mail) ended w new run = runs_behind (step c (Mailed mail) st) (λ st. unless_once c (half.asks_again c st) (Goes st)) (heard_aside c) ended w new run
 steps_run_behind c st (Finalized b) ended w new run =
     runs_behind (step c (Finalized b) st) (λ st. unless_once c (bind (half.takes_delivered c b st) (λ left. half.acked_at b.height left.answer left.live)) (Say (Acked b.height) (Goes st))) (block_aside c b) ended w new run
 
@@ -388,6 +388,6 @@ pub openings_say_behind : {Dir : Type 0} → OpeningsSayBehind Dir
 openings_say_behind c ended old new said = said_behind (opening c) (λ st. unless_once c (kept_material c st) (Goes st)) (opened_aside c) ended old new said
 
 pub steps_say_behind : {Dir : Type 0} → StepsSayBehind Dir
-steps_say_behind c st (Sent mail) ended old new said = said_behind (step c (Sent mail) st) (λ st. unless_once c (half.asks_again c st) (Goes st)) (heard_aside c) ended old new said
+steps_say_behind c st (Mailed mail) ended old new said = said_behind (step c (Mailed mail) st) (λ st. unless_once c (half.asks_again c st) (Goes st)) (heard_aside c) ended old new said
 steps_say_behind c st (Finalized b) ended old new said =
     said_behind (step c (Finalized b) st) (λ st. unless_once c (bind (half.takes_delivered c b st) (λ left. half.acked_at b.height left.answer left.live)) (Say (Acked b.height) (Goes st))) (block_aside c b) ended old new said

@@ -7,7 +7,7 @@ use Rattle.dkg_values.specs.Rising.{lookup, with_pair}
 use Rattle.dkg_ceremony.specs.declared.round.RoundParts.{RoundParts as Round}
 use Rattle.dkg_infos.specs.declared.fault.Fault.{Fault}
 use Rattle.dkg_store.specs.declared.event.Event.TheVariants as events
-use Rattle.dkg_core.specs.Courses.{Course, Say, Do, Call, Ask, Goes, Stops}
+use Rattle.dkg_core.specs.Courses.{Course, Say, Do, CallOutside, Ask, Goes, Stops}
 use Rattle.dkg_core.specs.Fixed.{Fixed}
 use Rattle.dkg_core.specs.Live.{Live, Records, Dealer, Stage, recorded_at}
 use Rattle.dkg_core.specs.Dealing as d
@@ -33,7 +33,7 @@ pub comes_as : {Dir F S : Type 0} (stops others : F → Type 0) (goes ends : S �
     → ComesTo stops goes course → ComesTo others ends course
 comes_as stops others goes ends (Say line course) more most comes = comes_as stops others goes ends course more most comes
 comes_as stops others goes ends (Do op course) more most comes = comes_as stops others goes ends course more most comes
-comes_as stops others goes ends (Call outer course) more most comes = comes_as stops others goes ends course more most comes
+comes_as stops others goes ends (CallOutside outer course) more most comes = comes_as stops others goes ends course more most comes
 comes_as stops others goes ends (Ask f) more most comes = λ h. comes_as stops others goes ends (f h) more most (comes h)
 comes_as stops others goes ends (Goes end) more most comes = most end comes
 comes_as stops others goes ends (Stops fault) more most comes = more fault comes

@@ -15,10 +15,10 @@ use Rattle.dkg_infos.specs.declared.info.EpochInfo.{EpochInfo}
 use Rattle.dkg_types.specs.declared.scheme.SchemeInfo.{SchemeInfo}
 use Rattle.dkg_types.specs.Blocks.{Block}
 use Rattle.dkg_infos.specs.declared.entry.Entry.TheVariants.{Entered}
-use Rattle.dkg_core.specs.Courses.{Course, Say, Goes, Stops, bind, Deed, Called, Genesis, Tracks, StartsEngine}
+use Rattle.dkg_core.specs.Courses.{Course, Say, Goes, Stops, bind, Deed, CalledOutside, Genesis, Tracks, StartsEngine}
 use Rattle.dkg_core.specs.Fixed.{Fixed}
 use Rattle.dkg_core.specs.Live.{Live, Orchestrator, Waiting, NodeStop, Faulted}
-use Rattle.dkg_core.specs.Entering.{Half, Acknowledges, Withholds, acked_late, active, delivered_in, enters, enters_at, is_ready, leaves, peers_for, starts_engine, stops_engine, tracks_peers, wait_for, waited_for, with_entered}
+use Rattle.dkg_core.specs.Entering.{LifeAndAnswer, AcknowledgesBlock, Withholds, acked_late, active, delivered_in, enters, enters_at, is_ready, leaves, peers_for, starts_engine, stops_engine, tracks_peers, wait_for, waited_for, with_entered}
 use Rattle.dkg_core.specs.Laws.{Law, Holds}
 use Rattle.dkg_core.specs.Entered.{entry_law, EntersRegistered, LastBlocksAreEntered}
 use Rattle.dkg_core.proofs.Holding.{holds_if, holds_option}
@@ -30,19 +30,19 @@ was_ready fence epoch =
       | false ↦ elim fence.closed as (λ closed. (if closed then Closed else Pending) ≡ Ready → false ≡ true) [ true ↦ λ e. absurd (let f : ◌≡◌ {A = Waited} Closed Ready = e in cc) | false ↦ λ e. absurd (let f : ◌≡◌ {A = Waited} Pending Ready = e in cc) ]
     ]
 
-withheld : Withholds ≡ Acknowledges → ⊥
+withheld : Withholds ≡ AcknowledgesBlock → ⊥
 withheld e = cc
 
 module _ {Dir : Type 0} (c : Fixed Dir) (st : Live Dir) (w : Waiting Dir) (past : List (Deed Dir)) where
   starts : (o : Orchestrator Dir) (found : Option SchemeInfo) → is_ready st.orchestrator.fence.ready w.epoch ≡ true → lookup w.epoch st.orchestrator.schemes ≡ found
-      → Holds (entry_law st w.epoch) (Called (Tracks w.epoch (peers_for w) w.info.directory) ∷ past) (starts_engine o w found st)
+      → Holds (entry_law st w.epoch) (CalledOutside (Tracks w.epoch (peers_for w) w.info.directory) ∷ past) (starts_engine o w found st)
   starts o None ready is = tt
   starts o (Some found) ready is = stopped o.entered
     where
-      said : Course Dir NodeStop (Half Dir)
-      said = Say (Entered w.epoch) (leaves (with_entered w.epoch o) Acknowledges st)
+      said : Course Dir NodeStop (LifeAndAnswer Dir)
+      said = Say (Entered w.epoch) (leaves (with_entered w.epoch o) AcknowledgesBlock st)
 
-      stopped : (old : Option ℕ) → Holds (entry_law st w.epoch) (Called (StartsEngine w.epoch w.floor found) ∷ Called (Tracks w.epoch (peers_for w) w.info.directory) ∷ past) (stops_engine old said)
+      stopped : (old : Option ℕ) → Holds (entry_law st w.epoch) (CalledOutside (StartsEngine w.epoch w.floor found) ∷ CalledOutside (Tracks w.epoch (peers_for w) w.info.directory) ∷ past) (stops_engine old said)
       stopped None = (record { ready = ready; scheme = found; registered = is; started = (refl, refl, refl) }, λ e. refl)
       stopped (Some old) = (record { ready = ready; scheme = found; registered = is; started = (refl, refl, refl) }, λ e. refl)
 
@@ -75,14 +75,14 @@ not_waiting false entered w epoch e = absurd (let f : ◌≡◌ {A = Option ℕ}
 module _ {Dir : Type 0} (c : Fixed Dir) (b : Block Dir) (epoch : ℕ) (past : List (Deed Dir)) (is : b.height ≡ last c.blocks_per_epoch epoch) where
   last_block : (st : Live Dir) → Holds (entry_law st (epoch + 1)) past (delivered_in c b st (Some epoch))
   last_block st =
-      let law : Law Dir (Half Dir) = entry_law st (epoch + 1) in
-      let skips : Course Dir NodeStop (Half Dir) = Stops (Faulted (SkippedHeight (last c.blocks_per_epoch epoch) b.height)) in
-      let wrong : EpochInfo Dir → Course Dir NodeStop (Half Dir) = λ info. Stops (Faulted (WrongEpoch (epoch + 1) info.epoch)) in
-      let missing : Course Dir NodeStop (Half Dir) = Stops (Faulted (MissingEpochInfo b.height)) in
-      let goes : EpochInfo Dir → Course Dir NodeStop (Half Dir) = λ info. enters c (record { epoch = epoch + 1; info = info; floor = Genesis b.digest; block = Some b.height }) st in
-      holds_if law past (nat_lt (last c.blocks_per_epoch epoch) b.height) skips (if nat_lt b.height (last c.blocks_per_epoch epoch) then leaves st.orchestrator Acknowledges st else enters_at c b (epoch + 1) (Some b.height) st)
+      let law : Law Dir (LifeAndAnswer Dir) = entry_law st (epoch + 1) in
+      let skips : Course Dir NodeStop (LifeAndAnswer Dir) = Stops (Faulted (SkippedHeight (last c.blocks_per_epoch epoch) b.height)) in
+      let wrong : EpochInfo Dir → Course Dir NodeStop (LifeAndAnswer Dir) = λ info. Stops (Faulted (WrongEpoch (epoch + 1) info.epoch)) in
+      let missing : Course Dir NodeStop (LifeAndAnswer Dir) = Stops (Faulted (MissingEpochInfo b.height)) in
+      let goes : EpochInfo Dir → Course Dir NodeStop (LifeAndAnswer Dir) = λ info. enters c (record { epoch = epoch + 1; info = info; floor = Genesis b.digest; block = Some b.height }) st in
+      holds_if law past (nat_lt (last c.blocks_per_epoch epoch) b.height) skips (if nat_lt b.height (last c.blocks_per_epoch epoch) then leaves st.orchestrator AcknowledgesBlock st else enters_at c b (epoch + 1) (Some b.height) st)
       (λ above. tt)
-      (λ e. holds_if law past (nat_lt b.height (last c.blocks_per_epoch epoch)) (leaves st.orchestrator Acknowledges st) (enters_at c b (epoch + 1) (Some b.height) st)
+      (λ e. holds_if law past (nat_lt b.height (last c.blocks_per_epoch epoch)) (leaves st.orchestrator AcknowledgesBlock st) (enters_at c b (epoch + 1) (Some b.height) st)
       (λ below. absurd (not_below b.height (last c.blocks_per_epoch epoch) is below))
       (λ e. holds_option law past (info_of b.payload) (λ info. if info.epoch == epoch + 1 then goes info else wrong info) missing
       (λ info e. holds_if law past (info.epoch == epoch + 1) (goes info) (wrong info) (λ e. enters_registered c (record { epoch = epoch + 1; info = info; floor = Genesis b.digest; block = Some b.height }) st past) (λ e. tt)) (λ e. tt)))

@@ -11,7 +11,7 @@ use Rattle.dkg_types.specs.PayloadCodes.{log_payload}
 use Rattle.dkg_store.specs.Acts.{Held}
 use Rattle.dkg_core.specs.Courses.{Goes, bind}
 use Rattle.dkg_core.specs.Fixed.{Fixed}
-use Rattle.dkg_core.specs.Live.{Live, Stage, Deals, Includes, Follows, Ends, Inclusion, Request, Job, VerifiedLogs, GaveLog, GaveNone, Mail, Peer, NextLog, ReleaseLog, EpochInfoOf, Feed, Over, Cancel, Work, Sent, awaited_height, phase_of, with_inclusion, with_queue, with_used}
+use Rattle.dkg_core.specs.Live.{Live, Stage, Deals, Includes, Follows, Ends, Inclusion, Request, Job, VerifiedLogs, GaveLog, GaveNone, Mail, Peer, NextLog, ReleaseLog, EpochInfoOf, Feed, Over, Cancel, Work, Mailed, awaited_height, phase_of, with_inclusion, with_queue, with_used}
 use Rattle.dkg_core.specs.Including as inc
 use Rattle.dkg_core.specs.Including.{advanced, changed, queued, is_of_job}
 use Rattle.dkg_core.specs.Core.{step}
@@ -219,7 +219,7 @@ module _ {Dir : Type 0} (c : Fixed Dir) (form : IsFormThrough c) (stored : OfSha
 
   -- A RESULT
 
-  pub handed_of : (handed : Option VerifiedLogs) → IsTakenThrough c (Sent (Work handed)) st → IsHanded c handed st
+  pub handed_of : (handed : Option VerifiedLogs) → IsTakenThrough c (Mailed (Work handed)) st → IsHanded c handed st
   handed_of None taken r e = absurd (none_apart r e)
   handed_of (Some its) taken r e = λ job runs is.
       subst (λ (x : VerifiedLogs). InRound st (λ round. IsResultIn c round st x)) (some_is its r e) (taken job runs (subst (λ (x : VerifiedLogs). is_of_job x job ≡ true) (sym (some_is its r e)) is))
@@ -283,7 +283,7 @@ module _ {Dir : Type 0} (c : Fixed Dir) (form : IsFormThrough c) (stored : OfSha
 
   -- ANY OF THEM
 
-  pub mail_comes : (mail : Mail Dir) → IsRequest mail → IsTakenThrough c (Sent mail) st → ComesOver AskStop (ReadTo (asked_by mail st)) (step c (Sent mail) st) devices
+  pub mail_comes : (mail : Mail Dir) → IsRequest mail → IsTakenThrough c (Mailed mail) st → ComesOver AskStop (ReadTo (asked_by mail st)) (step c (Mailed mail) st) devices
   mail_comes (Peer from bytes) other taken = absurd other
   mail_comes (NextLog request height) other taken = absurd other
   mail_comes (ReleaseLog height) other taken = absurd other

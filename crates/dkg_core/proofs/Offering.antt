@@ -8,7 +8,7 @@ use Rattle.dkg_store.specs.Acts.{Ended}
 use Rattle.dkg_core.specs.Courses.{Deed, on_devices}
 use Rattle.dkg_core.specs.Said.{Said}
 use Rattle.dkg_core.specs.Fixed.{Fixed}
-use Rattle.dkg_core.specs.Live.{Live, Message, Sent, Peer, Finalized, NextLog, ReleaseLog, EpochInfoOf, Feed, Over, Cancel, Work}
+use Rattle.dkg_core.specs.Live.{Live, Message, Mailed, Peer, Finalized, NextLog, ReleaseLog, EpochInfoOf, Feed, Over, Cancel, Work}
 use Rattle.dkg_core.specs.Core.{step}
 use Rattle.dkg_core.specs.Laws.{Law, Holds, PeerLine, peer_law, OtherLine, OfHalves, IsDealtToItself, IsOffered, other_law, reach_of}
 use Rattle.dkg_core.specs.Behind.{IsAside}
@@ -46,14 +46,14 @@ module _ {Dir : Type 0} (c : Fixed Dir) (st : Live Dir) (ended : Ended Fault (Li
 
   each : (message : Message Dir) → Said (on_devices (step c message st)) ended old new → AddsDealt
   each (Finalized b) said = of_other (Finalized b) (others_acknowledge_nothing c st (Finalized b) tt) said
-  each (Sent (Peer from bytes)) said = of_law (peer_law c st from) (Sent (Peer from bytes)) (peer_offers c st from) (heard c st from bytes) said
-  each (Sent (NextLog request height)) said = of_other (Sent (NextLog request height)) (others_acknowledge_nothing c st (Sent (NextLog request height)) tt) said
-  each (Sent (ReleaseLog height)) said = of_other (Sent (ReleaseLog height)) (others_acknowledge_nothing c st (Sent (ReleaseLog height)) tt) said
-  each (Sent (EpochInfoOf request)) said = of_other (Sent (EpochInfoOf request)) (others_acknowledge_nothing c st (Sent (EpochInfoOf request)) tt) said
-  each (Sent (Feed request b)) said = of_other (Sent (Feed request b)) (others_acknowledge_nothing c st (Sent (Feed request b)) tt) said
-  each (Sent (Over request)) said = of_other (Sent (Over request)) (others_acknowledge_nothing c st (Sent (Over request)) tt) said
-  each (Sent (Cancel request)) said = of_other (Sent (Cancel request)) (others_acknowledge_nothing c st (Sent (Cancel request)) tt) said
-  each (Sent (Work handed)) said = of_other (Sent (Work handed)) (others_acknowledge_nothing c st (Sent (Work handed)) tt) said
+  each (Mailed (Peer from bytes)) said = of_law (peer_law c st from) (Mailed (Peer from bytes)) (peer_offers c st from) (heard c st from bytes) said
+  each (Mailed (NextLog request height)) said = of_other (Mailed (NextLog request height)) (others_acknowledge_nothing c st (Mailed (NextLog request height)) tt) said
+  each (Mailed (ReleaseLog height)) said = of_other (Mailed (ReleaseLog height)) (others_acknowledge_nothing c st (Mailed (ReleaseLog height)) tt) said
+  each (Mailed (EpochInfoOf request)) said = of_other (Mailed (EpochInfoOf request)) (others_acknowledge_nothing c st (Mailed (EpochInfoOf request)) tt) said
+  each (Mailed (Feed request b)) said = of_other (Mailed (Feed request b)) (others_acknowledge_nothing c st (Mailed (Feed request b)) tt) said
+  each (Mailed (Over request)) said = of_other (Mailed (Over request)) (others_acknowledge_nothing c st (Mailed (Over request)) tt) said
+  each (Mailed (Cancel request)) said = of_other (Mailed (Cancel request)) (others_acknowledge_nothing c st (Mailed (Cancel request)) tt) said
+  each (Mailed (Work handed)) said = of_other (Mailed (Work handed)) (others_acknowledge_nothing c st (Mailed (Work handed)) tt) said
 
 pub offers_are_dealt : {Dir : Type 0} → OffersAreDealt Dir
 offers_are_dealt c st message ended old new said = each c st ended old new message said

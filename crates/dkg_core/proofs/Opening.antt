@@ -19,7 +19,7 @@ use Rattle.dkg_types.specs.PayloadCodes.{its_log}
 use Rattle.dkg_infos.specs.Validation.{validation}
 use Rattle.dkg_journal.specs.Operations.{Bars, Opens, Appends, Prunes, PutsPlan, ClearsPlan}
 use Rattle.dkg_store.specs.Acts.{Held, Operation, OnDisk, Changes, held_after}
-use Rattle.dkg_core.specs.Courses.{Course, Do, Call, Stops, Tracks, Deed, Said, Did, Called, deeds_of}
+use Rattle.dkg_core.specs.Courses.{Course, Do, CallOutside, Stops, Tracks, Deed, SaidEntry, DidOperation, CalledOutside, deeds_of}
 use Rattle.dkg_store.specs.Recorded.{Pair, restored_of}
 use Rattle.dkg_secrets.specs.declared.secrets.SecretOp.TheVariants.{PutShare, PutSeed, PutDealing, Prune}
 use Rattle.dkg_core.specs.Sources.{Tip, position, over_floor, startup}
@@ -146,7 +146,7 @@ module _ {Dir : Type 0} (c : Fixed Dir) (law : Law Dir (Live Dir)) (Within : ℕ
 
   tracks_once : (past : List (Deed Dir)) (once : OneShot Dir) (course : Course Dir Fault (Live Dir)) → ((past : List (Deed Dir)) → Holds law past course) → Holds law past (o.tracks_once c once course)
   tracks_once past once course each =
-      holds_if law past (o.is_refused c once) course (Call (Tracks 0 (o.peers_in once) once.directory) course) (λ e. each past) (λ e. each (Called (Tracks 0 (o.peers_in once) once.directory) ∷ past))
+      holds_if law past (o.is_refused c once) course (CallOutside (Tracks 0 (o.peers_in once) once.directory) course) (λ e. each past) (λ e. each (CalledOutside (Tracks 0 (o.peers_in once) once.directory) ∷ past))
 
   valid_once : (past : List (Deed Dir)) (once : OneShot Dir) (st : Live Dir) (valid : Result (Unit {0}) ParticipantsError) → Holds law past (o.valid_once c once st valid)
   valid_once past once st (Err e) = tt
@@ -180,4 +180,4 @@ pub openings_restore : {Dir : Type 0} → OpeningsRestore Dir
 openings_restore c h reads =
     let opened : Held = held_after (OnDisk (Opens c.opening_calls)) (held_after (OnDisk Bars) h) in
     let rest = deeds_of (opens_in c c.oneshot (begun_life (c.seen opened))) opened in
-    (rest, ap (λ (dealings : List Pair). Did (OnDisk Bars) ∷ Did (OnDisk (Opens c.opening_calls)) ∷ Said (Opened c.life (map restored_of dealings)) ∷ rest) (reads.dealings opened))
+    (rest, ap (λ (dealings : List Pair). DidOperation (OnDisk Bars) ∷ DidOperation (OnDisk (Opens c.opening_calls)) ∷ SaidEntry (Opened c.life (map restored_of dealings)) ∷ rest) (reads.dealings opened))

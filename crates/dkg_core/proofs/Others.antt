@@ -32,7 +32,7 @@ use Rattle.dkg_store.specs.declared.event.Event.TheVariants as events
 use Rattle.dkg_secrets.specs.declared.secrets.SecretOp.TheVariants.{PutShare, PutSeed, PutDealing, Prune}
 use Rattle.dkg_core.specs.Sources.{Tip}
 use Rattle.dkg_core.specs.Fixed.{Fixed, OneShot, has}
-use Rattle.dkg_core.specs.Live.{Live, Dealer, Seat, Plays, Watches, Stage, Deals, Includes, Follows, Ends, Request, Job, Verified, VerifiedLogs, Artifact, Sent, Peer, Finalized, NextLog, ReleaseLog, EpochInfoOf, Feed, Over, Cancel, Work, awaited_height, recorded_at, with_tip, with_inclusion, with_queue, with_used, is_last_height}
+use Rattle.dkg_core.specs.Live.{Live, Dealer, Seat, Plays, Watches, Stage, Deals, Includes, Follows, Ends, Request, Job, Verified, VerifiedLogs, Artifact, Mailed, Peer, Finalized, NextLog, ReleaseLog, EpochInfoOf, Feed, Over, Cancel, Work, awaited_height, recorded_at, with_tip, with_inclusion, with_queue, with_used, is_last_height}
 use Rattle.dkg_core.specs.Logs.{canonical, filled_by, is_accepted, carried_log_event}
 use Rattle.dkg_core.specs.Setup as s
 use Rattle.dkg_core.specs.Dealing as d
@@ -430,11 +430,11 @@ owns c st most round dealer is_round is_dealer =
 
 pub others_acknowledge_nothing : {Dir : Type 0} → OthersAcknowledgeNothing Dir
 others_acknowledge_nothing c st (Finalized block) other = delivers c (IsDealtToItself c st) (IsOffered c st) block [] st st.participation.stage (owns c st (reach c (IsDealtToItself c st) (IsOffered c st) block))
-others_acknowledge_nothing c st (Sent (Peer from bytes)) other = absurd other
-others_acknowledge_nothing c st (Sent (NextLog request height)) other = serves c (IsDealtToItself c st) (IsOffered c st) 0 [] request height (i.served_now st) (with_used request st)
-others_acknowledge_nothing c st (Sent (ReleaseLog height)) other = tt
-others_acknowledge_nothing c st (Sent (EpochInfoOf request)) other = asks_in c (IsDealtToItself c st) (IsOffered c st) 0 [] request (with_used request st) st.participation.stage
-others_acknowledge_nothing c st (Sent (Feed request block)) other = advanced c (IsDealtToItself c st) (IsOffered c st) 0 [] (i.changed request (λ r. if r.ended then r else record r { blocks = r.blocks ++ block ∷ [] }) st)
-others_acknowledge_nothing c st (Sent (Over request)) other = advanced c (IsDealtToItself c st) (IsOffered c st) 0 [] (i.changed request (λ r. record r { ended = true }) st)
-others_acknowledge_nothing c st (Sent (Cancel request)) other = cancels c (IsDealtToItself c st) (IsOffered c st) 0 [] request st
-others_acknowledge_nothing c st (Sent (Work handed)) other = works c (IsDealtToItself c st) (IsOffered c st) 0 [] handed st
+others_acknowledge_nothing c st (Mailed (Peer from bytes)) other = absurd other
+others_acknowledge_nothing c st (Mailed (NextLog request height)) other = serves c (IsDealtToItself c st) (IsOffered c st) 0 [] request height (i.served_now st) (with_used request st)
+others_acknowledge_nothing c st (Mailed (ReleaseLog height)) other = tt
+others_acknowledge_nothing c st (Mailed (EpochInfoOf request)) other = asks_in c (IsDealtToItself c st) (IsOffered c st) 0 [] request (with_used request st) st.participation.stage
+others_acknowledge_nothing c st (Mailed (Feed request block)) other = advanced c (IsDealtToItself c st) (IsOffered c st) 0 [] (i.changed request (λ r. if r.ended then r else record r { blocks = r.blocks ++ block ∷ [] }) st)
+others_acknowledge_nothing c st (Mailed (Over request)) other = advanced c (IsDealtToItself c st) (IsOffered c st) 0 [] (i.changed request (λ r. record r { ended = true }) st)
+others_acknowledge_nothing c st (Mailed (Cancel request)) other = cancels c (IsDealtToItself c st) (IsOffered c st) 0 [] request st
+others_acknowledge_nothing c st (Mailed (Work handed)) other = works c (IsDealtToItself c st) (IsOffered c st) 0 [] handed st

@@ -18,14 +18,14 @@ use Rattle.dkg_probe.specs.Probing as probing
 use Rattle.dkg_probe.specs.Probing.{Probes, latest_request, with_sample, with_awaited, asks_dealers, asks_next, activates, one_more, is_done, is_first, subscribes, retries_in, retries, of_genesis, resolves, begins_at, awaits_block, from_floor, dealers_in, chooses, samples, is_dealer, blocks_peer, hears_latest, adds_candidate, hears_boundary, found_in, from_body, hears_body, hears_block, hears_in, discovers, response_to, answers_peer, serves, takes, then_serves, steps}
 use Rattle.dkg_probe.specs.Sampling.{Sampled, awaits, sample_recorded, highest, is_enough, selected, floor_of, sample_forgotten}
 use Rattle.dkg_probe.specs.Sources.{ProbeSource}
-use Rattle.dkg_probe.specs.Wire.{ProbeReply, IsBoundary, IsBlock, IsLatest, request_of, reply_of}
+use Rattle.dkg_probe.specs.Wire.{ProbeReply, BoundaryReply, BlockReply, LatestReply, request_of, reply_of}
 use Rattle.dkg_store.specs.Acts.{World}
 use Rattle.dkg_core.specs.Courses.{EndsSo}
 use Rattle.dkg_core.specs.Fixed.{Fixed, Snapshot}
 use Rattle.dkg_core.specs.Joining.{probe_ended_as}
 use Rattle.dkg_core.specs.Live.{Live, PeerSet}
 use Rattle.dkg_core.specs.Probes.{HasState, IfProbeWentTo, ProbesStep}
-use Rattle.dkg_core.specs.Probing.{least_epoch, given, lack_in, served_from, awaiting_of, awaited_view, known_of, discovered_of, state_of, probe_of, with_probe, steps_from, probe_event, probes_in}
+use Rattle.dkg_core.specs.Probing.{least_epoch, given, lack_in, served_from, awaiting_of, awaited_view, known_of_discovered, discovered_of, state_of, probe_of, with_probe, steps_from, probe_event, probes_in}
 use Rattle.dkg_core.specs.Transcripts.{with_out}
 use Rattle.dkg_core.proofs.Joining.{probes_join}
 
@@ -139,12 +139,12 @@ module _ {Dir : Type 0} (m : ℕ) where
         either ((asked.0 == peer) && (epoch == a.floor.epoch)) (hears_body c a asked body st) (Goes st) (hearing_body a asked st (found_in c a.height a.floor.epoch asked.1.payload body) p) p
 
     hearing_in : (awaited : Option Awaiting) (peer : ℕ) (reply : ProbeReply) (st : State Dir) → st.sample.minimum ≡ m → Stays (hears_in c awaited peer reply st)
-    hearing_in None peer (IsLatest f) st p = hearing_latest peer f st p
-    hearing_in (Some a) peer (IsLatest f) st p = hearing_latest peer f st p
-    hearing_in None peer (IsBoundary f) st p = p
-    hearing_in None peer (IsBlock epoch body) st p = p
-    hearing_in (Some a) peer (IsBoundary f) st p = hearing_boundary a peer f st p
-    hearing_in (Some a) peer (IsBlock epoch body) st p = hearing_block a a.asked peer epoch body st p
+    hearing_in None peer (LatestReply f) st p = hearing_latest peer f st p
+    hearing_in (Some a) peer (LatestReply f) st p = hearing_latest peer f st p
+    hearing_in None peer (BoundaryReply f) st p = p
+    hearing_in None peer (BlockReply epoch body) st p = p
+    hearing_in (Some a) peer (BoundaryReply f) st p = hearing_boundary a peer f st p
+    hearing_in (Some a) peer (BlockReply epoch body) st p = hearing_block a a.asked peer epoch body st p
 
     discovering : (peer : ℕ) (reply : Result (Option ProbeReply) CodecError) (st : State Dir) → st.sample.minimum ≡ m → Stays (discovers c peer reply st)
     discovering peer (Err e) st p = p
@@ -177,13 +177,13 @@ awaited_again : (awaited : Option Awaiting) → option_map awaiting_of (option_m
 awaited_again None = refl
 awaited_again (Some a) = refl
 
-known_again : {Dir : Type 0} (known : Option (Known Dir)) → option_map known_of (option_map discovered_of known) ≡ known
+known_again : {Dir : Type 0} (known : Option (Known Dir)) → option_map known_of_discovered (option_map discovered_of known) ≡ known
 known_again None = refl
 known_again (Some found) = refl
 
 again : {Dir : Type 0} (state : State Dir) → state_of state.sample.minimum (probe_of state) ≡ state
 again {Dir} state =
-    ap (λ (awaited : Option Awaiting). record state { awaited = awaited; known = option_map known_of (option_map discovered_of state.known) }) (awaited_again state.awaited)
+    ap (λ (awaited : Option Awaiting). record state { awaited = awaited; known = option_map known_of_discovered (option_map discovered_of state.known) }) (awaited_again state.awaited)
     ∙ ap (λ (known : Option (Known Dir)). record state { known = known }) (known_again state.known)
 
 module _ {Dir : Type 0} (c : Fixed Dir) (s : Snapshot Dir) (event : ProbeEvent) (st : Live Dir) (state : State Dir) (has : HasState s st state) where

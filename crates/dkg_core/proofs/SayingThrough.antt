@@ -35,11 +35,11 @@ use Rattle.dkg_types.specs.MessageCodes.{message_at}
 use Rattle.dkg_types.specs.PayloadCodes.{its_log, info_payload, log_payload}
 use Rattle.dkg_store.specs.declared.event.Event.TheVariants as events
 use Rattle.dkg_store.specs.Acts.{Held, Ended, went, stopped, broken}
-use Rattle.dkg_core.specs.Courses.{Course, Say, Do, Call, Ask, Goes, Stops, bind, on_devices}
+use Rattle.dkg_core.specs.Courses.{Course, Say, Do, CallOutside, Ask, Goes, Stops, bind, on_devices}
 use Rattle.dkg_core.specs.Said.{Said, SaysAll, SaysUpTo, SaysFirst}
 use Rattle.dkg_core.specs.Sources.{Tip}
 use Rattle.dkg_core.specs.Fixed.{Fixed, OneShot, has}
-use Rattle.dkg_core.specs.Live.{Live, Dealer, Seat, Plays, Watches, Stage, Deals, Includes, Follows, Ends, Inclusion, Request, Job, VerifiedLogs, Artifact, Mail, Peer, NextLog, ReleaseLog, EpochInfoOf, Feed, Over, Cancel, Work, Sent, Finalized, GaveNone, awaited_height, phase_of, is_last_height, records_of_epoch, recorded_at, with_tip, with_participation, with_inclusion, with_queue, with_told, with_used}
+use Rattle.dkg_core.specs.Live.{Live, Dealer, Seat, Plays, Watches, Stage, Deals, Includes, Follows, Ends, Inclusion, Request, Job, VerifiedLogs, Artifact, Mail, Peer, NextLog, ReleaseLog, EpochInfoOf, Feed, Over, Cancel, Work, Mailed, Finalized, GaveNone, awaited_height, phase_of, is_last_height, records_of_epoch, recorded_at, with_tip, with_participation, with_inclusion, with_queue, with_told, with_used}
 use Rattle.dkg_core.specs.Logs.{canonical, filled_by, is_accepted, carried_log_event, logs_of}
 use Rattle.dkg_core.specs.Same.{same_logs, same_round}
 use Rattle.dkg_core.specs.Setup as s
@@ -96,7 +96,7 @@ module _ {Dir F S : Type 0} (P : Entry → Type 0) where
 pub so_behind : {Dir F S T : Type 0} (P : Entry → Type 0) (course : Course Dir F S) (next : S → Course Dir F T) → SaysSo P course → ((end : S) → SaysSo P (next end)) → SaysSo P (bind course next)
 so_behind P (Say line course) next so more = (so.0, so_behind P course next so.1 more)
 so_behind P (Do op course) next so more = so_behind P course next so more
-so_behind P (Call outer course) next so more = so_behind P course next so more
+so_behind P (CallOutside outer course) next so more = so_behind P course next so more
 so_behind P (Ask f) next so more = λ h. so_behind P (f h) next (so h) more
 so_behind P (Goes end) next so more = more end
 so_behind P (Stops fault) next so more = tt
@@ -106,7 +106,7 @@ pub so_known : {Dir F S T : Type 0} (P : Entry → Type 0) (stops : F → Type 0
     → SaysSo P course → ComesOver stops first course None → ((end : S) → first end None → SaysSo P (next end)) → SaysSo P (bind course next)
 so_known P stops first (Say line course) next so comes more = (so.0, so_known P stops first course next so.1 comes more)
 so_known P stops first (Do op course) next so comes more = so_known P stops first course next so comes more
-so_known P stops first (Call outer course) next so comes more = so_known P stops first course next so comes more
+so_known P stops first (CallOutside outer course) next so comes more = so_known P stops first course next so comes more
 so_known P stops first (Ask f) next so comes more = λ h. so_known P stops first (f h) next (so h) (comes h) more
 so_known P stops first (Goes end) next so comes more = more end comes
 so_known P stops first (Stops fault) next so comes more = tt
@@ -123,7 +123,7 @@ module _ {Dir F S : Type 0} (P : Entry → Type 0) where
   all_so : (course : Course Dir F S) (end : S) (lines : List Entry) → SaysSo P course → SaysAll (on_devices course) end lines → AllByRecursion P lines
   all_so (Say line course) end lines so by = such P line lines by.0 by.1 so.0 (all_so course end by.0 so.1 by.2)
   all_so (Do op course) end lines so by = all_so course end lines so by
-  all_so (Call outer course) end lines so by = all_so course end lines so by
+  all_so (CallOutside outer course) end lines so by = all_so course end lines so by
   all_so (Ask f) end lines so by = all_so (f by.0) end lines (so by.0) by.1
   all_so (Goes its) end lines so by = no_such P lines by.0
   all_so (Stops fault) end lines so by = absurd by
@@ -131,7 +131,7 @@ module _ {Dir F S : Type 0} (P : Entry → Type 0) where
   up_to_so : (course : Course Dir F S) (fault : F) (lines : List Entry) → SaysSo P course → SaysUpTo (on_devices course) fault lines → AllByRecursion P lines
   up_to_so (Say line course) fault lines so by = such P line lines by.0 by.1 so.0 (up_to_so course fault by.0 so.1 by.2)
   up_to_so (Do op course) fault lines so by = up_to_so course fault lines so by
-  up_to_so (Call outer course) fault lines so by = up_to_so course fault lines so by
+  up_to_so (CallOutside outer course) fault lines so by = up_to_so course fault lines so by
   up_to_so (Ask f) fault lines so by = up_to_so (f by.0) fault lines (so by.0) by.1
   up_to_so (Goes its) fault lines so by = absurd by
   up_to_so (Stops its) fault lines so by = no_such P lines by.0
@@ -141,7 +141,7 @@ module _ {Dir F S : Type 0} (P : Entry → Type 0) where
   first_so (Say line course) lines so (inr by) = such P line lines by.0 by.1 so.0 (first_so course by.0 so.1 by.2)
   first_so (Do op course) lines so (inl none) = no_such P lines none
   first_so (Do op course) lines so (inr by) = first_so course lines so by
-  first_so (Call outer course) lines so by = first_so course lines so by
+  first_so (CallOutside outer course) lines so by = first_so course lines so by
   first_so (Ask f) lines so (inl none) = no_such P lines none
   first_so (Ask f) lines so (inr by) = first_so (f by.0) lines (so by.0) by.1
   first_so (Goes its) lines so by = no_such P lines by
@@ -616,7 +616,7 @@ module _ {Dir : Type 0} (c : Fixed Dir) (form : IsFormThrough c) (stored : OfSha
       (reads_so c form.form stored reads (with_inclusion end.inclusion st) live.informed (subst (HasAsked c stored) its.1.same its.1.has) (IsMailLine c st (Work handed))
       (λ line read. inr (as_finished end.inclusion its.1.queue line read))))) (λ e. tt)
 
-  pub mail_so : (its : Mail Dir) → IsTakenThrough c (Sent its) st → SaysSo (IsMailLine c st its) (step c (Sent its) st)
+  pub mail_so : (its : Mail Dir) → IsTakenThrough c (Mailed its) st → SaysSo (IsMailLine c st its) (step c (Mailed its) st)
   mail_so (Peer from bytes) taken = hears_so c (IsMailLine c st (Peer from bytes)) (λ line is. is) from bytes st st.participation.stage
   mail_so (NextLog number height) taken = gives number height (i.served_now (with_used number st))
   mail_so (ReleaseLog height) taken = tt
@@ -740,5 +740,5 @@ module _ {Dir : Type 0} (c : Fixed Dir) (form : IsFormThrough c) (stored : OfSha
 pub steps_say_through : {Dir : Type 0} → StepsSayThrough Dir
 steps_say_through c stored st (Finalized block) ended old new form reads taken live said =
     said_so (IsBlockLineThrough c stored st block) (step c (Finalized block) st) ended old new (block_so c form stored reads st live block) said
-steps_say_through c stored st (Sent mail) ended old new form reads taken live said =
-    said_so (IsMailLine c st mail) (step c (Sent mail) st) ended old new (mail_so c form stored reads st live mail taken) said
+steps_say_through c stored st (Mailed mail) ended old new form reads taken live said =
+    said_so (IsMailLine c st mail) (step c (Mailed mail) st) ended old new (mail_so c form stored reads st live mail taken) said

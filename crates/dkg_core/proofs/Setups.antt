@@ -24,7 +24,7 @@ use Rattle.dkg_infos.specs.declared.participants.ParticipantsError.{Participants
 use Rattle.dkg_store.specs.Acts.{Held, World, Ended, went, stopped, broken, Completes, Faults, says, does, held_after}
 use Rattle.dkg_store.specs.Recorded.{Pair, first_refused, bare_logs}
 use Rattle.dkg_store.specs.declared.recorded_log.RecordedLog.{RecordedLog}
-use Rattle.dkg_core.specs.Courses.{Course, Say, Do, Call, Ask, Goes, Stops, bind, under, on_devices, EndsSo}
+use Rattle.dkg_core.specs.Courses.{Course, Say, Do, CallOutside, Ask, Goes, Stops, bind, under, on_devices, EndsSo}
 use Rattle.dkg_core.specs.Fixed.{Fixed, has}
 use Rattle.dkg_core.specs.Live.{Live, Records, Dealer, Inclusion, Stage, Deals, Includes, Seat, Plays, Watches, awaited_height, phase_of, records_of_epoch, with_inclusion}
 use Rattle.dkg_core.specs.Logs.{logs_of}
@@ -52,7 +52,7 @@ module _ {Dir F S : Type 0} (stops : F → Type 0) (goes : S → Option Held →
   pub comes_anywhere : (course : Course Dir F S) → ComesOver stops goes course None → ComesTo stops (λ end. goes end None) course
   comes_anywhere (Say line course) comes = comes_anywhere course comes
   comes_anywhere (Do op course) comes = comes_anywhere course comes
-  comes_anywhere (Call outer course) comes = comes_anywhere course comes
+  comes_anywhere (CallOutside outer course) comes = comes_anywhere course comes
   comes_anywhere (Ask f) comes = λ h. comes_anywhere (f h) (comes h)
   comes_anywhere (Goes end) comes = comes
   comes_anywhere (Stops fault) comes = comes
@@ -60,7 +60,7 @@ module _ {Dir F S : Type 0} (stops : F → Type 0) (goes : S → Option Held →
   over_all : (course : Course Dir F S) (end : S) (w new : World) → ComesOver stops goes course (Some w.held) → Completes (on_devices course) end w new → goes end (Some new.held)
   over_all (Say line course) end w new comes run = over_all course end (says w line) new comes run
   over_all (Do op course) end w new comes run = over_all course end (does w op) new comes run
-  over_all (Call outer course) end w new comes run = over_all course end w new comes run
+  over_all (CallOutside outer course) end w new comes run = over_all course end w new comes run
   over_all (Ask f) end w new comes run = over_all (f w.held) end w new comes run
   over_all (Goes its) end w new comes run = subst (λ (e : S). goes e (Some new.held)) (sym run.1) (subst (λ (v : World). goes its (Some v.held)) (sym run.0) comes)
   over_all (Stops fault) end w new comes run = absurd run
@@ -68,7 +68,7 @@ module _ {Dir F S : Type 0} (stops : F → Type 0) (goes : S → Option Held →
   over_faults : (course : Course Dir F S) (fault : F) (w new : World) → ComesOver stops goes course (Some w.held) → Faults (on_devices course) fault w new → stops fault
   over_faults (Say line course) fault w new comes run = over_faults course fault (says w line) new comes run
   over_faults (Do op course) fault w new comes run = over_faults course fault (does w op) new comes run
-  over_faults (Call outer course) fault w new comes run = over_faults course fault w new comes run
+  over_faults (CallOutside outer course) fault w new comes run = over_faults course fault w new comes run
   over_faults (Ask f) fault w new comes run = over_faults (f w.held) fault w new comes run
   over_faults (Goes end) fault w new comes run = absurd run
   over_faults (Stops its) fault w new comes run = subst stops (sym run.1) comes
@@ -83,7 +83,7 @@ module _ {Dir F S : Type 0} (stops : F → Type 0) (goes : S → Option Held →
 pub anywhere_over : {Dir F S : Type 0} (stops : F → Type 0) (goes : S → Type 0) (course : Course Dir F S) (devices : Option Held) → ComesTo stops goes course → ComesOver stops (λ end left. goes end) course devices
 anywhere_over stops goes (Say line course) devices comes = anywhere_over stops goes course devices comes
 anywhere_over stops goes (Do op course) devices comes = anywhere_over stops goes course (option_map (held_after op) devices) comes
-anywhere_over stops goes (Call outer course) devices comes = anywhere_over stops goes course devices comes
+anywhere_over stops goes (CallOutside outer course) devices comes = anywhere_over stops goes course devices comes
 anywhere_over stops goes (Ask f) (Some h) comes = anywhere_over stops goes (f h) (Some h) (comes h)
 anywhere_over stops goes (Ask f) None comes = λ h. anywhere_over stops goes (f h) None (comes h)
 anywhere_over stops goes (Goes end) devices comes = comes
@@ -94,7 +94,7 @@ pub over_as : {Dir F S : Type 0} (stops others : F → Type 0) (goes ends : S �
     → ((fault : F) → stops fault → others fault) → ((end : S) (left : Option Held) → goes end left → ends end left) → ComesOver stops goes course devices → ComesOver others ends course devices
 over_as stops others goes ends (Say line course) devices more most comes = over_as stops others goes ends course devices more most comes
 over_as stops others goes ends (Do op course) devices more most comes = over_as stops others goes ends course (option_map (held_after op) devices) more most comes
-over_as stops others goes ends (Call outer course) devices more most comes = over_as stops others goes ends course devices more most comes
+over_as stops others goes ends (CallOutside outer course) devices more most comes = over_as stops others goes ends course devices more most comes
 over_as stops others goes ends (Ask f) (Some h) more most comes = over_as stops others goes ends (f h) (Some h) more most comes
 over_as stops others goes ends (Ask f) None more most comes = λ h. over_as stops others goes ends (f h) None more most (comes h)
 over_as stops others goes ends (Goes end) devices more most comes = most end devices comes
@@ -105,7 +105,7 @@ pub over_behind : {Dir F S T : Type 0} (stops : F → Type 0) (first : S → Opt
     → ComesOver stops first course devices → ((end : S) (left : Option Held) → first end left → ComesOver stops goes (next end) left) → ComesOver stops goes (bind course next) devices
 over_behind stops first goes (Say line course) next devices comes so = over_behind stops first goes course next devices comes so
 over_behind stops first goes (Do op course) next devices comes so = over_behind stops first goes course next (option_map (held_after op) devices) comes so
-over_behind stops first goes (Call outer course) next devices comes so = over_behind stops first goes course next devices comes so
+over_behind stops first goes (CallOutside outer course) next devices comes so = over_behind stops first goes course next devices comes so
 over_behind stops first goes (Ask f) next (Some h) comes so = over_behind stops first goes (f h) next (Some h) comes so
 over_behind stops first goes (Ask f) next None comes so = λ h. over_behind stops first goes (f h) next None (comes h) so
 over_behind stops first goes (Goes end) next devices comes so = so end devices comes
@@ -116,7 +116,7 @@ pub over_under : {Dir F G S : Type 0} (name : F → G) (stops : F → Type 0) (g
     → ComesOver stops goes course devices → ComesOver (λ stop. (fault : F) × (stop ≡ name fault) × stops fault) goes (under name course) devices
 over_under name stops goes (Say line course) devices comes = over_under name stops goes course devices comes
 over_under name stops goes (Do op course) devices comes = over_under name stops goes course (option_map (held_after op) devices) comes
-over_under name stops goes (Call outer course) devices comes = over_under name stops goes course devices comes
+over_under name stops goes (CallOutside outer course) devices comes = over_under name stops goes course devices comes
 over_under name stops goes (Ask f) (Some h) comes = over_under name stops goes (f h) (Some h) comes
 over_under name stops goes (Ask f) None comes = λ h. over_under name stops goes (f h) None (comes h)
 over_under name stops goes (Goes end) devices comes = comes

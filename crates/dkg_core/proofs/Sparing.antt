@@ -23,7 +23,7 @@ use Rattle.dkg_secrets.specs.declared.secrets.SecretOp.TheVariants.{PutDealing}
 use Rattle.dkg_core.specs.Courses.{Course, Goes, Stops, Deed, Throughout}
 use Rattle.dkg_core.specs.Sources.{startup}
 use Rattle.dkg_core.specs.Fixed.{Fixed, Material, start}
-use Rattle.dkg_core.specs.Live.{Live, Dealer, Seat, Plays, Watches, Stage, Deals, Includes, Follows, Ends, Sent, Peer, awaited_height, recorded_at}
+use Rattle.dkg_core.specs.Live.{Live, Dealer, Seat, Plays, Watches, Stage, Deals, Includes, Follows, Ends, Mailed, Peer, awaited_height, recorded_at}
 use Rattle.dkg_core.specs.Setup as s
 use Rattle.dkg_core.specs.Dealing as d
 use Rattle.dkg_core.specs.Plans as p
@@ -178,5 +178,5 @@ module _ {Dir : Type 0} (c : Fixed Dir) (Spares : Operation → Type 0) (from : 
   hears st Follows = tt
   hears st Ends = tt
 
-  pub peer_spares : (st : Live Dir) → Holds law [] (step c (Sent (Peer from bytes)) st)
+  pub peer_spares : (st : Live Dir) → Holds law [] (step c (Mailed (Peer from bytes)) st)
   peer_spares st = hears st st.participation.stage

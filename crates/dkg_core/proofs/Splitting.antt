@@ -2,7 +2,7 @@
 use Rattle.std.proofs.Common.{◌≡◌, ◌⊎◌, inl, inr, List, [], ◌∷◌, ◌++◌, refl, sym, ◌∙◌, ap, subst, append_assoc}
 use Rattle.dkg_infos.specs.declared.entry.Entry.{Entry}
 use Rattle.dkg_store.specs.Acts.{World, says, does, Cause, Ended, went, stopped, broken, Completes, Faults, Breaks}
-use Rattle.dkg_core.specs.Courses.{Course, Say, Do, Call, Ask, Goes, Stops, bind, under, on_devices}
+use Rattle.dkg_core.specs.Courses.{Course, Say, Do, CallOutside, Ask, Goes, Stops, bind, under, on_devices}
 use Rattle.dkg_core.specs.Said.{Said, SaysAll, SaysUpTo, SaysFirst}
 use Rattle.dkg_core.specs.Splitting.{IsEarly, RunsSplit, RunsUnder, SaidSplit, SaidUnder}
 use Rattle.dkg_core.specs.Endings.{CameTo, ComesTo}
@@ -14,7 +14,7 @@ module _ {Dir F S T : Type 0} (next : S → Course Dir F T) where
       → (its : S) × (mid : World) × Completes (on_devices course) its w mid × Completes (on_devices (next its)) end mid new
   completes_apart (Say line course) end w new run = completes_apart course end (says w line) new run
   completes_apart (Do op course) end w new run = completes_apart course end (does w op) new run
-  completes_apart (Call outer course) end w new run = completes_apart course end w new run
+  completes_apart (CallOutside outer course) end w new run = completes_apart course end w new run
   completes_apart (Ask f) end w new run = completes_apart (f w.held) end w new run
   completes_apart (Goes its) end w new run = (its, w, (refl, refl), run)
   completes_apart (Stops fault) end w new run = absurd run
@@ -23,7 +23,7 @@ module _ {Dir F S T : Type 0} (next : S → Course Dir F T) where
       → ((its : S) × (mid : World) × Completes (on_devices course) its w mid × Faults (on_devices (next its)) fault mid new) ⊎ Faults (on_devices course) fault w new
   faults_apart (Say line course) fault w new run = faults_apart course fault (says w line) new run
   faults_apart (Do op course) fault w new run = faults_apart course fault (does w op) new run
-  faults_apart (Call outer course) fault w new run = faults_apart course fault w new run
+  faults_apart (CallOutside outer course) fault w new run = faults_apart course fault w new run
   faults_apart (Ask f) fault w new run = faults_apart (f w.held) fault w new run
   faults_apart (Goes its) fault w new run = inl (its, w, (refl, refl), run)
   faults_apart (Stops its) fault w new run = inr run
@@ -34,7 +34,7 @@ module _ {Dir F S T : Type 0} (next : S → Course Dir F T) where
   breaks_apart cause (Say line course) w new (inr run) = elim (breaks_apart cause course (says w line) new run) [ inl both ↦ inl both | inr first ↦ inr (inr first) ]
   breaks_apart cause (Do op course) w new (inl torn) = inr (inl torn)
   breaks_apart cause (Do op course) w new (inr run) = elim (breaks_apart cause course (does w op) new run) [ inl both ↦ inl both | inr first ↦ inr (inr first) ]
-  breaks_apart cause (Call outer course) w new run = breaks_apart cause course w new run
+  breaks_apart cause (CallOutside outer course) w new run = breaks_apart cause course w new run
   breaks_apart cause (Ask f) w new run = breaks_apart cause (f w.held) w new run
   breaks_apart cause (Goes its) w new run = inl (its, w, (refl, refl), run)
   breaks_apart cause (Stops fault) w new run = inr run
@@ -57,7 +57,7 @@ module _ {Dir F S T : Type 0} (next : S → Course Dir F T) where
   all_apart : (course : Course Dir F S) (end : T) (lines : List Entry) → SaysAll (on_devices (bind course next)) end lines → Both course (λ its rest. SaysAll (on_devices (next its)) end rest) lines
   all_apart (Say line course) end lines said = both_more line course (λ its rest. SaysAll (on_devices (next its)) end rest) lines said.0 said.1 (all_apart course end said.0 said.2)
   all_apart (Do op course) end lines said = all_apart course end lines said
-  all_apart (Call outer course) end lines said = all_apart course end lines said
+  all_apart (CallOutside outer course) end lines said = all_apart course end lines said
   all_apart (Ask f) end lines said = let both = all_apart (f said.0) end lines said.1 in (both.0, both.1, both.2, both.3, (said.0, both.4), both.5)
   all_apart (Goes its) end lines said = (its, [], lines, refl, (refl, refl), said)
   all_apart (Stops fault) end lines said = absurd said
@@ -69,7 +69,7 @@ module _ {Dir F S T : Type 0} (next : S → Course Dir F T) where
     | inr first ↦ inr (said.0, said.1, first)
   ]
   up_to_apart (Do op course) fault lines said = up_to_apart course fault lines said
-  up_to_apart (Call outer course) fault lines said = up_to_apart course fault lines said
+  up_to_apart (CallOutside outer course) fault lines said = up_to_apart course fault lines said
   up_to_apart (Ask f) fault lines said = elim (up_to_apart (f said.0) fault lines said.1) [
     | inl both ↦ inl (both.0, both.1, both.2, both.3, (said.0, both.4), both.5)
     | inr first ↦ inr (said.0, first)
@@ -86,7 +86,7 @@ module _ {Dir F S T : Type 0} (next : S → Course Dir F T) where
   ]
   first_apart (Do op course) lines (inl none) = inr (inl none)
   first_apart (Do op course) lines (inr said) = elim (first_apart course lines said) [ inl both ↦ inl both | inr first ↦ inr (inr first) ]
-  first_apart (Call outer course) lines said = first_apart course lines said
+  first_apart (CallOutside outer course) lines said = first_apart course lines said
   first_apart (Ask f) lines (inl none) = inr (inl none)
   first_apart (Ask f) lines (inr said) = elim (first_apart (f said.0) lines said.1) [
     | inl both ↦ inl (both.0, both.1, both.2, both.3, (said.0, both.4), both.5)
@@ -138,7 +138,7 @@ module _ {Dir F G S : Type 0} (name : F → G) where
   completes_under : (course : Course Dir F S) (end : S) (w new : World) → Completes (on_devices (under name course)) end w new → Completes (on_devices course) end w new
   completes_under (Say line course) end w new run = completes_under course end (says w line) new run
   completes_under (Do op course) end w new run = completes_under course end (does w op) new run
-  completes_under (Call outer course) end w new run = completes_under course end w new run
+  completes_under (CallOutside outer course) end w new run = completes_under course end w new run
   completes_under (Ask f) end w new run = completes_under (f w.held) end w new run
   completes_under (Goes its) end w new run = run
   completes_under (Stops fault) end w new run = absurd run
@@ -146,7 +146,7 @@ module _ {Dir F G S : Type 0} (name : F → G) where
   faults_under : (course : Course Dir F S) (fault : G) (w new : World) → Faults (on_devices (under name course)) fault w new → (its : F) × (fault ≡ name its) × Faults (on_devices course) its w new
   faults_under (Say line course) fault w new run = faults_under course fault (says w line) new run
   faults_under (Do op course) fault w new run = faults_under course fault (does w op) new run
-  faults_under (Call outer course) fault w new run = faults_under course fault w new run
+  faults_under (CallOutside outer course) fault w new run = faults_under course fault w new run
   faults_under (Ask f) fault w new run = faults_under (f w.held) fault w new run
   faults_under (Goes end) fault w new run = absurd run
   faults_under (Stops its) fault w new run = (its, run.1, (run.0, refl))
@@ -156,7 +156,7 @@ module _ {Dir F G S : Type 0} (name : F → G) where
   breaks_under cause (Say line course) w new (inr run) = inr (breaks_under cause course (says w line) new run)
   breaks_under cause (Do op course) w new (inl torn) = inl torn
   breaks_under cause (Do op course) w new (inr run) = inr (breaks_under cause course (does w op) new run)
-  breaks_under cause (Call outer course) w new run = breaks_under cause course w new run
+  breaks_under cause (CallOutside outer course) w new run = breaks_under cause course w new run
   breaks_under cause (Ask f) w new run = breaks_under cause (f w.held) w new run
   breaks_under cause (Goes end) w new run = run
   breaks_under cause (Stops fault) w new run = run
@@ -164,7 +164,7 @@ module _ {Dir F G S : Type 0} (name : F → G) where
   all_under : (course : Course Dir F S) (end : S) (lines : List Entry) → SaysAll (on_devices (under name course)) end lines → SaysAll (on_devices course) end lines
   all_under (Say line course) end lines said = (said.0, said.1, all_under course end said.0 said.2)
   all_under (Do op course) end lines said = all_under course end lines said
-  all_under (Call outer course) end lines said = all_under course end lines said
+  all_under (CallOutside outer course) end lines said = all_under course end lines said
   all_under (Ask f) end lines said = (said.0, all_under (f said.0) end lines said.1)
   all_under (Goes its) end lines said = said
   all_under (Stops fault) end lines said = absurd said
@@ -173,7 +173,7 @@ module _ {Dir F G S : Type 0} (name : F → G) where
       → (its : F) × (fault ≡ name its) × SaysUpTo (on_devices course) its lines
   up_to_under (Say line course) fault lines said = let rest = up_to_under course fault said.0 said.2 in (rest.0, rest.1, (said.0, said.1, rest.2))
   up_to_under (Do op course) fault lines said = up_to_under course fault lines said
-  up_to_under (Call outer course) fault lines said = up_to_under course fault lines said
+  up_to_under (CallOutside outer course) fault lines said = up_to_under course fault lines said
   up_to_under (Ask f) fault lines said = let rest = up_to_under (f said.0) fault lines said.1 in (rest.0, rest.1, (said.0, rest.2))
   up_to_under (Goes end) fault lines said = absurd said
   up_to_under (Stops its) fault lines said = (its, said.1, (said.0, refl))
@@ -183,7 +183,7 @@ module _ {Dir F G S : Type 0} (name : F → G) where
   first_under (Say line course) lines (inr said) = inr (said.0, said.1, first_under course said.0 said.2)
   first_under (Do op course) lines (inl none) = inl none
   first_under (Do op course) lines (inr said) = inr (first_under course lines said)
-  first_under (Call outer course) lines said = first_under course lines said
+  first_under (CallOutside outer course) lines said = first_under course lines said
   first_under (Ask f) lines (inl none) = inl none
   first_under (Ask f) lines (inr said) = inr (said.0, first_under (f said.0) lines said.1)
   first_under (Goes end) lines said = said
@@ -206,7 +206,7 @@ module _ {Dir F S : Type 0} (stops : F → Type 0) (goes : S → Type 0) where
   came_all : (course : Course Dir F S) (end : S) (lines : List Entry) → ComesTo stops goes course → SaysAll (on_devices course) end lines → goes end
   came_all (Say line course) end lines comes a = came_all course end a.0 comes a.2
   came_all (Do op course) end lines comes a = came_all course end lines comes a
-  came_all (Call outer course) end lines comes a = came_all course end lines comes a
+  came_all (CallOutside outer course) end lines comes a = came_all course end lines comes a
   came_all (Ask f) end lines comes a = came_all (f a.0) end lines (comes a.0) a.1
   came_all (Goes its) end lines comes a = subst goes (sym a.1) comes
   came_all (Stops fault) end lines comes a = absurd a
@@ -214,7 +214,7 @@ module _ {Dir F S : Type 0} (stops : F → Type 0) (goes : S → Type 0) where
   came_up_to : (course : Course Dir F S) (fault : F) (lines : List Entry) → ComesTo stops goes course → SaysUpTo (on_devices course) fault lines → stops fault
   came_up_to (Say line course) fault lines comes a = came_up_to course fault a.0 comes a.2
   came_up_to (Do op course) fault lines comes a = came_up_to course fault lines comes a
-  came_up_to (Call outer course) fault lines comes a = came_up_to course fault lines comes a
+  came_up_to (CallOutside outer course) fault lines comes a = came_up_to course fault lines comes a
   came_up_to (Ask f) fault lines comes a = came_up_to (f a.0) fault lines (comes a.0) a.1
   came_up_to (Goes end) fault lines comes a = absurd a
   came_up_to (Stops its) fault lines comes a = subst stops (sym a.1) comes
@@ -229,7 +229,7 @@ pub comes_behind : {Dir F S T : Type 0} (stops : F → Type 0) (first : S → Ty
     → ComesTo stops first course → ((end : S) → first end → ComesTo stops goes (next end)) → ComesTo stops goes (bind course next)
 comes_behind stops first goes (Say line course) next comes so = comes_behind stops first goes course next comes so
 comes_behind stops first goes (Do op course) next comes so = comes_behind stops first goes course next comes so
-comes_behind stops first goes (Call outer course) next comes so = comes_behind stops first goes course next comes so
+comes_behind stops first goes (CallOutside outer course) next comes so = comes_behind stops first goes course next comes so
 comes_behind stops first goes (Ask f) next comes so = λ h. comes_behind stops first goes (f h) next (comes h) so
 comes_behind stops first goes (Goes end) next comes so = so end comes
 comes_behind stops first goes (Stops fault) next comes so = comes
@@ -239,7 +239,7 @@ pub comes_both : {Dir F S : Type 0} (stops others : F → Type 0) (goes ends : S
     → ComesTo (λ fault. stops fault × others fault) (λ end. goes end × ends end) course
 comes_both stops others goes ends (Say line course) one other = comes_both stops others goes ends course one other
 comes_both stops others goes ends (Do op course) one other = comes_both stops others goes ends course one other
-comes_both stops others goes ends (Call outer course) one other = comes_both stops others goes ends course one other
+comes_both stops others goes ends (CallOutside outer course) one other = comes_both stops others goes ends course one other
 comes_both stops others goes ends (Ask f) one other = λ h. comes_both stops others goes ends (f h) (one h) (other h)
 comes_both stops others goes ends (Goes end) one other = (one, other)
 comes_both stops others goes ends (Stops fault) one other = (one, other)

@@ -13,7 +13,7 @@ use Rattle.dkg_types.specs.declared.message.Message.TheVariants.{Dealer as ADeal
 use Rattle.dkg_types.specs.MessageCodes.{message_at}
 use Rattle.dkg_core.specs.Courses.{Goes}
 use Rattle.dkg_core.specs.Fixed.{Fixed}
-use Rattle.dkg_core.specs.Live.{Live, Dealer, Seat, Plays, Watches, Stage, Deals, Includes, Follows, Ends, Sent, Peer, recorded_at}
+use Rattle.dkg_core.specs.Live.{Live, Dealer, Seat, Plays, Watches, Stage, Deals, Includes, Follows, Ends, Mailed, Peer, recorded_at}
 use Rattle.dkg_core.specs.Dealing as d
 use Rattle.dkg_core.specs.Core.{step}
 use Rattle.dkg_core.specs.Endings.{ComesTo}
@@ -80,7 +80,7 @@ module _ {Dir : Type 0} (c : Fixed Dir) (st : Live Dir) (from : ℕ) (bytes : Li
   hears Follows = same
   hears Ends = same
 
-  pub peers_come : ComesTo Never Heard (step c (Sent (Peer from bytes)) st)
+  pub peers_come : ComesTo Never Heard (step c (Mailed (Peer from bytes)) st)
   peers_come = hears st.participation.stage
 
 -- .. which is of the form again

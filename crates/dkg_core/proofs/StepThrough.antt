@@ -12,7 +12,7 @@ use Rattle.dkg_infos.specs.declared.fault.Fault.{Fault}
 use Rattle.dkg_store.specs.Acts.{Held}
 use Rattle.dkg_core.specs.Courses.{Course, Goes}
 use Rattle.dkg_core.specs.Fixed.{Fixed}
-use Rattle.dkg_core.specs.Live.{Live, Dealer, Seat, Plays, Watches, Stage, Deals, Includes, Follows, Ends, Inclusion, Request, Message, Sent, Finalized, Mail, Peer, NextLog, ReleaseLog, EpochInfoOf, Feed, Over, Cancel, Work, recorded_at, is_last_height, with_tip, with_used}
+use Rattle.dkg_core.specs.Live.{Live, Dealer, Seat, Plays, Watches, Stage, Deals, Includes, Follows, Ends, Inclusion, Request, Message, Mailed, Finalized, Mail, Peer, NextLog, ReleaseLog, EpochInfoOf, Feed, Over, Cancel, Work, recorded_at, is_last_height, with_tip, with_used}
 use Rattle.dkg_core.specs.Setup as s
 use Rattle.dkg_core.specs.Dealing as d
 use Rattle.dkg_core.specs.Including.{advanced, served_now}
@@ -416,35 +416,35 @@ module _ {Dir : Type 0} (c : Fixed Dir) (form : IsFormThrough c) (stored : OfSha
   ReadIn its = mail.ReadTo c form stored st live devices now_reads (asked_by its st)
 
   -- an event of a request that stops was asked
-  requests : (its : Mail Dir) → IsRequest its → ((end : Live Dir) (left : Option Held) → ReadIn its end left → Left (Sent its) end left) → IsTakenThrough c (Sent its) st
-      → ComesOver (λ fault. WasAsked its st × IsAskStop c st fault) (Left (Sent its)) (step c (Sent its) st) devices
+  requests : (its : Mail Dir) → IsRequest its → ((end : Live Dir) (left : Option Held) → ReadIn its end left → Left (Mailed its) end left) → IsTakenThrough c (Mailed its) st
+      → ComesOver (λ fault. WasAsked its st × IsAskStop c st fault) (Left (Mailed its)) (step c (Mailed its) st) devices
   requests its is most taken = either (mail_asked c stored st live.asked.has devices its is)
     where
-      comes : ComesOver (IsAskStop c st) (ReadIn its) (step c (Sent its) st) devices
+      comes : ComesOver (IsAskStop c st) (ReadIn its) (step c (Mailed its) st) devices
       comes = mail.mail_comes c form stored st live devices now_reads its is taken
 
-      either : WasAsked its st ⊎ ComesOver (λ fault. ⊥) (Any c) (step c (Sent its) st) devices → ComesOver (λ fault. WasAsked its st × IsAskStop c st fault) (Left (Sent its)) (step c (Sent its) st) devices
+      either : WasAsked its st ⊎ ComesOver (λ fault. ⊥) (Any c) (step c (Mailed its) st) devices → ComesOver (λ fault. WasAsked its st × IsAskStop c st fault) (Left (Mailed its)) (step c (Mailed its) st) devices
       either (inl asked) =
-          over_as (IsAskStop c st) (λ fault. WasAsked its st × IsAskStop c st fault) (ReadIn its) (Left (Sent its)) (step c (Sent its) st) devices (λ fault stop. (asked, stop)) most comes
+          over_as (IsAskStop c st) (λ fault. WasAsked its st × IsAskStop c st fault) (ReadIn its) (Left (Mailed its)) (step c (Mailed its) st) devices (λ fault stop. (asked, stop)) most comes
       either (inr never) =
-          over_as (λ fault. WasAsked its st × IsAskStop c st fault) (λ fault. WasAsked its st × IsAskStop c st fault) (ReadIn its) (Left (Sent its)) (step c (Sent its) st) devices (λ fault stop. stop) most
-          (over_never (Any c) (IsAskStop c st) (λ fault. WasAsked its st × IsAskStop c st fault) (ReadIn its) (step c (Sent its) st) devices never comes)
+          over_as (λ fault. WasAsked its st × IsAskStop c st fault) (λ fault. WasAsked its st × IsAskStop c st fault) (ReadIn its) (Left (Mailed its)) (step c (Mailed its) st) devices (λ fault stop. stop) most
+          (over_never (Any c) (IsAskStop c st) (λ fault. WasAsked its st × IsAskStop c st fault) (ReadIn its) (step c (Mailed its) st) devices never comes)
 
   steps : (message : Message Dir) → IsTakenThrough c message st → ComesOver (IsStopThrough c stored st message devices) (Left message) (step c message st) devices
   steps (Finalized block) taken = block_comes c form stored st live block devices reads
-  steps (Sent (Peer from bytes)) taken =
-      over_as (Never c stored st live from) (IsStopThrough c stored st (Sent (Peer from bytes)) devices) (λ end left. IsHeardBy c st from end × IsLiveThrough c stored end) (Left (Sent (Peer from bytes)))
-      (step c (Sent (Peer from bytes)) st) devices (λ fault never. never) (λ end left its. record { live = its.1; is = its.0; own = tt }) (hears c stored st live from bytes st.participation.stage refl devices)
-  steps (Sent (NextLog request height)) taken =
-      over_as (IsStopThrough c stored st (Sent (NextLog request height)) devices) (IsStopThrough c stored st (Sent (NextLog request height)) devices) (ReadIn (NextLog request height)) (Left (Sent (NextLog request height)))
-      (step c (Sent (NextLog request height)) st) devices (λ fault stop. stop) (λ end left its. record { live = its.0; is = (its.1, its.2); own = tt })
-      (mail.serves c form stored st live devices now_reads (IsStopThrough c stored st (Sent (NextLog request height)) devices) request height (served_now (with_used request st)) refl)
-  steps (Sent (ReleaseLog height)) taken = let its = mail.releases c form stored st live devices now_reads height in record { live = its.0; is = (its.1, its.2); own = tt }
-  steps (Sent (EpochInfoOf request)) taken = requests (EpochInfoOf request) tt (λ end left its. record { live = its.0; is = (its.1, its.2); own = tt }) taken
-  steps (Sent (Feed request block)) taken = requests (Feed request block) tt (λ end left its. record { live = its.0; is = (its.1, its.2); own = tt }) taken
-  steps (Sent (Over request)) taken = requests (Over request) tt (λ end left its. record { live = its.0; is = (its.1, its.2); own = tt }) taken
-  steps (Sent (Cancel request)) taken = requests (Cancel request) tt (λ end left its. record { live = its.0; is = (its.1, its.2); own = tt }) taken
-  steps (Sent (Work handed)) taken = requests (Work handed) tt (λ end left its. record { live = its.0; is = (its.1, its.2); own = tt }) taken
+  steps (Mailed (Peer from bytes)) taken =
+      over_as (Never c stored st live from) (IsStopThrough c stored st (Mailed (Peer from bytes)) devices) (λ end left. IsHeardBy c st from end × IsLiveThrough c stored end) (Left (Mailed (Peer from bytes)))
+      (step c (Mailed (Peer from bytes)) st) devices (λ fault never. never) (λ end left its. record { live = its.1; is = its.0; own = tt }) (hears c stored st live from bytes st.participation.stage refl devices)
+  steps (Mailed (NextLog request height)) taken =
+      over_as (IsStopThrough c stored st (Mailed (NextLog request height)) devices) (IsStopThrough c stored st (Mailed (NextLog request height)) devices) (ReadIn (NextLog request height)) (Left (Mailed (NextLog request height)))
+      (step c (Mailed (NextLog request height)) st) devices (λ fault stop. stop) (λ end left its. record { live = its.0; is = (its.1, its.2); own = tt })
+      (mail.serves c form stored st live devices now_reads (IsStopThrough c stored st (Mailed (NextLog request height)) devices) request height (served_now (with_used request st)) refl)
+  steps (Mailed (ReleaseLog height)) taken = let its = mail.releases c form stored st live devices now_reads height in record { live = its.0; is = (its.1, its.2); own = tt }
+  steps (Mailed (EpochInfoOf request)) taken = requests (EpochInfoOf request) tt (λ end left its. record { live = its.0; is = (its.1, its.2); own = tt }) taken
+  steps (Mailed (Feed request block)) taken = requests (Feed request block) tt (λ end left its. record { live = its.0; is = (its.1, its.2); own = tt }) taken
+  steps (Mailed (Over request)) taken = requests (Over request) tt (λ end left its. record { live = its.0; is = (its.1, its.2); own = tt }) taken
+  steps (Mailed (Cancel request)) taken = requests (Cancel request) tt (λ end left its. record { live = its.0; is = (its.1, its.2); own = tt }) taken
+  steps (Mailed (Work handed)) taken = requests (Work handed) tt (λ end left its. record { live = its.0; is = (its.1, its.2); own = tt }) taken
 
 pub steps_come_through : {Dir : Type 0} → StepsComeThrough Dir
 steps_come_through c stored st message devices form reads taken live = steps c form stored st live devices reads message taken

@@ -14,16 +14,16 @@ use Rattle.dkg_infos.specs.declared.entry.Entry.TheVariants.{Acked}
 use Rattle.dkg_infos.specs.declared.fault.Fault.{Fault}
 use Rattle.dkg_infos.specs.declared.fault.Fault.TheVariants.{HeightRange, ConflictingBlock, DetachedBlock, SkippedHeight, OutOfWindow}
 use Rattle.dkg_store.specs.Acts.{Held, Ended, went, stopped, broken}
-use Rattle.dkg_core.specs.Courses.{Course, Say, Do, Call, Ask, Goes, Stops, bind, under}
+use Rattle.dkg_core.specs.Courses.{Course, Say, Do, CallOutside, Ask, Goes, Stops, bind, under}
 use Rattle.dkg_core.specs.Sources.{Tip}
 use Rattle.dkg_core.specs.Fixed.{Fixed}
-use Rattle.dkg_core.specs.Live.{Live, Orchestrator, Waiting, NodeStop, Faulted, Stage, Deals, Includes, Follows, Ends, Message, Sent, Peer, Finalized, NextLog, ReleaseLog, EpochInfoOf, Feed, Over, Cancel, Work, awaited_height, phase_of, is_last_height, with_tip}
+use Rattle.dkg_core.specs.Live.{Live, Orchestrator, Waiting, NodeStop, Faulted, Stage, Deals, Includes, Follows, Ends, Message, Mailed, Peer, Finalized, NextLog, ReleaseLog, EpochInfoOf, Feed, Over, Cancel, Work, awaited_height, phase_of, is_last_height, with_tip}
 use Rattle.dkg_core.specs.Setup as s
 use Rattle.dkg_core.specs.Dealing as d
 use Rattle.dkg_core.specs.Blocks as b
 use Rattle.dkg_core.specs.Core.{step}
 use Rattle.dkg_core.specs.Entering as half
-use Rattle.dkg_core.specs.Entering.{Half, HalfAnswer}
+use Rattle.dkg_core.specs.Entering.{LifeAndAnswer, HalfAnswer}
 use Rattle.dkg_core.specs.Node.{node_step, unless_once}
 use Rattle.dkg_core.specs.Behind.{OnlySays, IsAside, IsSameBeside, event_of}
 use Rattle.dkg_core.specs.Endings.{ComesTo, CameTo, stage_in, answer_in}
@@ -236,28 +236,28 @@ module _ {Dir : Type 0} (c : Fixed Dir) (form : IsForm c) (st : Live Dir) (live 
 
 module _ {Dir : Type 0} (c : Fixed Dir) (form : IsForm c) (st : Live Dir) (live : IsLiveIn c st) (devices : Option Held) where
   steps_over : (message : Message Dir) → IsTakenIn c message st → ComesOver (StepStop c form st live message devices) (StepTo c form st live message devices) (step c message st) devices
-  steps_over (Sent (Peer from bytes)) taken =
-      let message : Message Dir = Sent (Peer from bytes) in
+  steps_over (Mailed (Peer from bytes)) taken =
+      let message : Message Dir = Mailed (Peer from bytes) in
       let first = some_found devices in
       let second = some_found (option_map (held_at_setup c message) devices) in
       over_as (peer.Never c st from bytes) (StepStop c form st live message devices) (λ end left. peer.Heard c st from bytes end) (StepTo c form st live message devices) (step c message st) devices
       (λ fault never. absurd never) (λ end left its. (first.0, second.0, first.1, second.1, record { live = peer.heard_live c st from end live its; is = its }, nothing left second.0))
       (anywhere_over (peer.Never c st from bytes) (peer.Heard c st from bytes) (step c message st) devices (peer.peers_come c st from bytes))
     where
-      nothing : (left : Option Held) (k : Held) → IfLeft left (LeavesTaken c st (Sent (Peer from bytes)) k)
+      nothing : (left : Option Held) (k : Held) → IfLeft left (LeavesTaken c st (Mailed (Peer from bytes)) k)
       nothing None k = tt
       nothing (Some now) k = tt
   steps_over (Finalized block) taken =
       over_as (Stop c form st live devices block taken) (StepStop c form st live (Finalized block) devices) (To c form st live devices block taken) (StepTo c form st live (Finalized block) devices)
       (step c (Finalized block) st) devices (λ fault stop. stop)
       (λ end left its. (its.0, its.1, its.2, its.3, its.4, its.5)) (delivered c form st live devices block taken)
-  steps_over (Sent (NextLog request height)) taken = absurd taken
-  steps_over (Sent (ReleaseLog height)) taken = absurd taken
-  steps_over (Sent (EpochInfoOf request)) taken = absurd taken
-  steps_over (Sent (Feed request block)) taken = absurd taken
-  steps_over (Sent (Over request)) taken = absurd taken
-  steps_over (Sent (Cancel request)) taken = absurd taken
-  steps_over (Sent (Work handed)) taken = absurd taken
+  steps_over (Mailed (NextLog request height)) taken = absurd taken
+  steps_over (Mailed (ReleaseLog height)) taken = absurd taken
+  steps_over (Mailed (EpochInfoOf request)) taken = absurd taken
+  steps_over (Mailed (Feed request block)) taken = absurd taken
+  steps_over (Mailed (Over request)) taken = absurd taken
+  steps_over (Mailed (Cancel request)) taken = absurd taken
+  steps_over (Mailed (Work handed)) taken = absurd taken
 
 pub came_as : {F S : Type 0} (stops others : F → Type 0) (goes ends : S → Type 0) (ended : Ended F S) → ((fault : F) → stops fault → others fault) → ((end : S) → goes end → ends end)
     → CameTo stops goes ended → CameTo others ends ended
@@ -309,16 +309,16 @@ abbrev Never : NodeStop → Type 0
 Never stop = ⊥
 
 module _ {Dir : Type 0} (c : Fixed Dir) (st : Live Dir) (block : Block Dir) where
-  abbrev Answered : Option ℕ → Half Dir → Type 0
+  abbrev Answered : Option ℕ → LifeAndAnswer Dir → Type 0
   Answered found left = (left.live ≡ st) × (left.answer ≡ answer_in found)
 
   by_epoch : (found : Option ℕ) → ((epoch : ℕ) → found ≡ Some epoch → block.height < last c.blocks_per_epoch epoch) → ComesTo Never (Answered found) (half.delivered_in c block st found)
   by_epoch None low = (refl, refl)
   by_epoch (Some epoch) low =
       comes_if Never (Answered (Some epoch)) (nat_lt (last c.blocks_per_epoch epoch) block.height) (Stops (Faulted (SkippedHeight (last c.blocks_per_epoch epoch) block.height)))
-      (if nat_lt block.height (last c.blocks_per_epoch epoch) then half.leaves st.orchestrator half.Acknowledges st else half.enters_at c block (epoch + 1) (Some block.height) st)
+      (if nat_lt block.height (last c.blocks_per_epoch epoch) then half.leaves st.orchestrator half.AcknowledgesBlock st else half.enters_at c block (epoch + 1) (Some block.height) st)
       (λ e. not_above block.height (last c.blocks_per_epoch epoch) (low epoch refl) e)
-      (λ e. comes_if Never (Answered (Some epoch)) (nat_lt block.height (last c.blocks_per_epoch epoch)) (half.leaves st.orchestrator half.Acknowledges st) (half.enters_at c block (epoch + 1) (Some block.height) st)
+      (λ e. comes_if Never (Answered (Some epoch)) (nat_lt block.height (last c.blocks_per_epoch epoch)) (half.leaves st.orchestrator half.AcknowledgesBlock st) (half.enters_at c block (epoch + 1) (Some block.height) st)
       (λ e. (refl, refl)) (λ e. absurd (not_beside block.height (last c.blocks_per_epoch epoch) (low epoch refl) e)))
 
   by_half : (found : Option (Waiting Dir)) → found ≡ None → ((epoch : ℕ) → half.active st.orchestrator ≡ Some epoch → block.height < last c.blocks_per_epoch epoch)
@@ -336,7 +336,7 @@ pub still_over : {Dir F S : Type 0} (P : Entry → Type 0) (Q : S → Type 0) (s
     → OnlySays P Q course → ComesTo stops goes course → ComesOver stops (λ end left. goes end × (left ≡ devices)) course devices
 still_over P Q stops goes (Say line course) devices only comes = still_over P Q stops goes course devices only.1 comes
 still_over P Q stops goes (Do op course) devices only comes = absurd only
-still_over P Q stops goes (Call outer course) devices only comes = still_over P Q stops goes course devices only comes
+still_over P Q stops goes (CallOutside outer course) devices only comes = still_over P Q stops goes course devices only comes
 still_over P Q stops goes (Ask f) (Some h) only comes = still_over P Q stops goes (f h) (Some h) (only h) (comes h)
 still_over P Q stops goes (Ask f) None only comes = λ h. still_over P Q stops goes (f h) None (only h) (comes h)
 still_over P Q stops goes (Goes end) devices only comes = (comes, refl)
@@ -511,7 +511,7 @@ module _ {Dir : Type 0} (c : Fixed Dir) (form : IsForm c) (st : Live Dir) (live 
       (subst (λ (o : Option (Waiting Dir)). ComesTo Never (λ now. now ≡ end) (option_map_or (λ w. bind (half.enters c w end) (half.acked_late w.block)) o (Goes end))) (sym none) refl) refl
 
   acked : (height : ℕ) (answer : HalfAnswer) (end : Live Dir) → ComesTo Never (λ now. now ≡ end) (half.acked_at height answer end)
-  acked height half.Acknowledges end = refl
+  acked height half.AcknowledgesBlock end = refl
   acked height half.Withholds end = refl
 
   answered : (block : Block Dir) (end : Live Dir) → IsBelow block end → end.orchestrator.waiting ≡ None
@@ -536,8 +536,8 @@ module _ {Dir : Type 0} (c : Fixed Dir) (form : IsForm c) (st : Live Dir) (live 
         (λ now last is. subst (λ (x : Live Dir). NodeTo x last) (sym is.0) (subst (NodeTo end) (sym is.1) its)) (still_over IsAside (IsSameBeside end) Never (λ now. now ≡ end) course left only comes)
 
   node_over : (message : Message Dir) (devices : Option Held) → IsTakenIn c message st → ComesOver (NodeStops message devices) (NodeTo message devices) (node_step c (event_of message) st) devices
-  node_over (Sent (Peer from bytes)) devices taken =
-      let message : Message Dir = Sent (Peer from bytes) in
+  node_over (Mailed (Peer from bytes)) devices taken =
+      let message : Message Dir = Mailed (Peer from bytes) in
       let first = StepTo c form st live message devices in
       over_behind (NodeStops message devices) first (NodeTo message devices) (under Faulted (step c message st)) (λ end. unless_once c (half.asks_again c end) (Goes end)) devices
       (over_under Faulted (StepStop c form st live message devices) first (step c message st) devices (steps_over c form st live devices message taken))
@@ -551,13 +551,13 @@ module _ {Dir : Type 0} (c : Fixed Dir) (form : IsForm c) (st : Live Dir) (live 
       (over_under Faulted (StepStop c form st live message devices) first (step c message st) devices (steps_over c form st live devices message taken))
       (λ end left its. let act = block_active block taken its.0 its.1 end its.4 in
       behind message devices end left (next end) (its, act.0) (block_aside c block end) (answered block end act.1 act.0.unawaited))
-  node_over (Sent (NextLog request height)) devices taken = absurd taken
-  node_over (Sent (ReleaseLog height)) devices taken = absurd taken
-  node_over (Sent (EpochInfoOf request)) devices taken = absurd taken
-  node_over (Sent (Feed request block)) devices taken = absurd taken
-  node_over (Sent (Over request)) devices taken = absurd taken
-  node_over (Sent (Cancel request)) devices taken = absurd taken
-  node_over (Sent (Work handed)) devices taken = absurd taken
+  node_over (Mailed (NextLog request height)) devices taken = absurd taken
+  node_over (Mailed (ReleaseLog height)) devices taken = absurd taken
+  node_over (Mailed (EpochInfoOf request)) devices taken = absurd taken
+  node_over (Mailed (Feed request block)) devices taken = absurd taken
+  node_over (Mailed (Over request)) devices taken = absurd taken
+  node_over (Mailed (Cancel request)) devices taken = absurd taken
+  node_over (Mailed (Work handed)) devices taken = absurd taken
 
 pub node_steps_lead : {Dir : Type 0} → NodeStepsLead Dir
 node_steps_lead c st message ended old new form taken live active said =
@@ -613,11 +613,11 @@ module _ {Dir : Type 0} (c : Fixed Dir) (st : Live Dir) where
 
 pub next_lives_stay : {Dir : Type 0} → NextLivesStay Dir
 next_lives_stay c st (Finalized block) h k end none next = judged_stays c st block (judged_block c block st) h k end none next.is
-next_lives_stay c st (Sent (Peer from bytes)) h k end none next = heard_stays c st from end next.is
-next_lives_stay c st (Sent (NextLog request height)) h k end none next = absurd next.is
-next_lives_stay c st (Sent (ReleaseLog height)) h k end none next = absurd next.is
-next_lives_stay c st (Sent (EpochInfoOf request)) h k end none next = absurd next.is
-next_lives_stay c st (Sent (Feed request block)) h k end none next = absurd next.is
-next_lives_stay c st (Sent (Over request)) h k end none next = absurd next.is
-next_lives_stay c st (Sent (Cancel request)) h k end none next = absurd next.is
-next_lives_stay c st (Sent (Work handed)) h k end none next = absurd next.is
+next_lives_stay c st (Mailed (Peer from bytes)) h k end none next = heard_stays c st from end next.is
+next_lives_stay c st (Mailed (NextLog request height)) h k end none next = absurd next.is
+next_lives_stay c st (Mailed (ReleaseLog height)) h k end none next = absurd next.is
+next_lives_stay c st (Mailed (EpochInfoOf request)) h k end none next = absurd next.is
+next_lives_stay c st (Mailed (Feed request block)) h k end none next = absurd next.is
+next_lives_stay c st (Mailed (Over request)) h k end none next = absurd next.is
+next_lives_stay c st (Mailed (Cancel request)) h k end none next = absurd next.is
+next_lives_stay c st (Mailed (Work handed)) h k end none next = absurd next.is

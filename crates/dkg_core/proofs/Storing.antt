@@ -38,10 +38,10 @@ use Rattle.dkg_store.specs.Acts.{Held, Operation, OnDisk, Changes, World, does, 
 use Rattle.dkg_store.specs.declared.event.Event.TheVariants as events
 use Rattle.dkg_store.proofs.Acts.{along_runs}
 use Rattle.dkg_core.specs.Sources.{position, startup}
-use Rattle.dkg_core.specs.Courses.{Course, Say, Do, Call, Goes, Stops, bind, on_devices, Tracks, Throughout}
+use Rattle.dkg_core.specs.Courses.{Course, Say, Do, CallOutside, Goes, Stops, bind, on_devices, Tracks, Throughout}
 use Rattle.dkg_core.specs.Seen.{Seen}
 use Rattle.dkg_core.specs.Fixed.{Fixed, Material, OneShot, start}
-use Rattle.dkg_core.specs.Live.{Live, Dealer, Seat, Plays, Watches, Stage, Deals, Includes, Follows, Ends, Message, Sent, Peer, Finalized, NextLog, ReleaseLog, EpochInfoOf, Feed, Over, Cancel, Work, awaited_height, recorded_at, with_used}
+use Rattle.dkg_core.specs.Live.{Live, Dealer, Seat, Plays, Watches, Stage, Deals, Includes, Follows, Ends, Message, Mailed, Peer, Finalized, NextLog, ReleaseLog, EpochInfoOf, Feed, Over, Cancel, Work, awaited_height, recorded_at, with_used}
 use Rattle.dkg_core.specs.Logs.{carried_log_event}
 use Rattle.dkg_core.specs.Setup as s
 use Rattle.dkg_core.specs.Dealing as d
@@ -245,9 +245,9 @@ module _ {Dir : Type 0} (c : Fixed Dir) (reads : ReadsSecrets c.seen) (R : Secre
     torn = λ past cause w new op law q tears. half_torn op cause w new law tears q;
   }
 
-  hears : (from : ℕ) (bytes : List ℕ) (st : Live Dir) (w : World) → P w → Throughout P (step c (Sent (Peer from bytes)) st) w
+  hears : (from : ℕ) (bytes : List ℕ) (st : Live Dir) (w : World) → P w → Throughout P (step c (Mailed (Peer from bytes)) st) w
   hears from bytes st w q =
-      along (sparing IsHalf) P halves_keep [] (step c (Sent (Peer from bytes)) st) w
+      along (sparing IsHalf) P halves_keep [] (step c (Mailed (Peer from bytes)) st) w
       (peer_spares c IsHalf from bytes (λ epoch dealer private. tt) (λ epoch public private is. tt) (λ epoch ack is. tt) st) q
 
   -- its own dealing
@@ -311,15 +311,15 @@ module _ {Dir : Type 0} (c : Fixed Dir) (reads : ReadsSecrets c.seen) (R : Secre
       → ((b : Block Dir) → message ≡ Finalized b → st.participation.stage ≡ Includes → (epoch share : ℕ) (now : Secrets) → Fits epoch share now) → P w → Throughout P (step c message st) w
   steps st (Finalized block) w low any q =
       walk.delivered c P (λ w line aside q. q) most commits_read prunes block st w q (λ judged. applies block low st st.participation.stage w (any block refl) q) st.participation.stage
-  steps st (Sent (Peer from bytes)) w low any q = hears from bytes st w q
-  steps st (Sent (NextLog request height)) w low any q = walk.gives c P (λ w line aside q. q) request height (i.served_now st) (with_used request st) w q
-  steps st (Sent (ReleaseLog height)) w low any q = q
-  steps st (Sent (EpochInfoOf request)) w low any q = walk.asks_in c P (λ w line aside q. q) request (with_used request st) st.participation.stage w q
-  steps st (Sent (Feed request block)) w low any q =
+  steps st (Mailed (Peer from bytes)) w low any q = hears from bytes st w q
+  steps st (Mailed (NextLog request height)) w low any q = walk.gives c P (λ w line aside q. q) request height (i.served_now st) (with_used request st) w q
+  steps st (Mailed (ReleaseLog height)) w low any q = q
+  steps st (Mailed (EpochInfoOf request)) w low any q = walk.asks_in c P (λ w line aside q. q) request (with_used request st) st.participation.stage w q
+  steps st (Mailed (Feed request block)) w low any q =
       walk.advanced c P (λ w line aside q. q) (i.changed request (λ r. if r.ended then r else record r { blocks = r.blocks ++ block ∷ [] }) st) w q
-  steps st (Sent (Over request)) w low any q = walk.advanced c P (λ w line aside q. q) (i.changed request (λ r. record r { ended = true }) st) w q
-  steps st (Sent (Cancel request)) w low any q = walk.cancels c P (λ w line aside q. q) request st w q
-  steps st (Sent (Work handed)) w low any q = walk.works c P (λ w line aside q. q) handed st w q
+  steps st (Mailed (Over request)) w low any q = walk.advanced c P (λ w line aside q. q) (i.changed request (λ r. record r { ended = true }) st) w q
+  steps st (Mailed (Cancel request)) w low any q = walk.cancels c P (λ w line aside q. q) request st w q
+  steps st (Mailed (Work handed)) w low any q = walk.works c P (λ w line aside q. q) handed st w q
 
   -- AN OPENING
 
@@ -396,7 +396,7 @@ module _ {Dir : Type 0} (c : Fixed Dir) (reads : ReadsSecrets c.seen) (R : Secre
         (λ e. along_if P w (o.is_refused c once) (b.ends_once c None st) (o.begins_once c once seed st) (λ e. (q, q)) (λ e. begins_once once st w q))
 
     tracks_once : (once : OneShot Dir) (course : Course Dir Fault (Live Dir)) (w : World) → Throughout P course w → Throughout P (o.tracks_once c once course) w
-    tracks_once once course w t = along_if P w (o.is_refused c once) course (Call (Tracks 0 (o.peers_in once) once.directory) course) (λ e. t) (λ e. t)
+    tracks_once once course w t = along_if P w (o.is_refused c once) course (CallOutside (Tracks 0 (o.peers_in once) once.directory) course) (λ e. t) (λ e. t)
 
     valid_once : (once : OneShot Dir) (st : Live Dir) (valid : Result (Unit {0}) ParticipantsError) (w : World) → P w → Throughout P (o.valid_once c once st valid) w
     valid_once once st (Err e) w q = q

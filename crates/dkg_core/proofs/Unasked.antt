@@ -8,9 +8,9 @@ use Rattle.dkg_types.specs.Blocks.{Block}
 use Rattle.dkg_types.specs.PayloadCodes.{its_log}
 use Rattle.dkg_infos.specs.declared.fault.Fault.{Fault}
 use Rattle.dkg_store.specs.Acts.{Held, held_after}
-use Rattle.dkg_core.specs.Courses.{Course, Say, Do, Call, Ask, Goes, Stops, bind}
+use Rattle.dkg_core.specs.Courses.{Course, Say, Do, CallOutside, Ask, Goes, Stops, bind}
 use Rattle.dkg_core.specs.Fixed.{Fixed}
-use Rattle.dkg_core.specs.Live.{Live, Stage, Deals, Includes, Follows, Ends, Request, Job, VerifiedLogs, Mail, Peer, NextLog, ReleaseLog, EpochInfoOf, Feed, Over, Cancel, Work, Sent, recorded_at, with_inclusion, with_participation, with_queue, with_tip, with_used}
+use Rattle.dkg_core.specs.Live.{Live, Stage, Deals, Includes, Follows, Ends, Request, Job, VerifiedLogs, Mail, Peer, NextLog, ReleaseLog, EpochInfoOf, Feed, Over, Cancel, Work, Mailed, recorded_at, with_inclusion, with_participation, with_queue, with_tip, with_used}
 use Rattle.dkg_core.specs.Logs.{is_accepted, carried_log_event}
 use Rattle.dkg_core.specs.Dealing as d
 use Rattle.dkg_core.specs.Including as inc
@@ -42,7 +42,7 @@ pub over_never : {Dir F S : Type 0} (any : S → Option Held → Type 0) (stops 
     → ComesOver (λ fault. ⊥) any course devices → ComesOver stops goes course devices → ComesOver others goes course devices
 over_never any stops others goes (Say line course) devices never comes = over_never any stops others goes course devices never comes
 over_never any stops others goes (Do op course) devices never comes = over_never any stops others goes course (option_map (held_after op) devices) never comes
-over_never any stops others goes (Call outer course) devices never comes = over_never any stops others goes course devices never comes
+over_never any stops others goes (CallOutside outer course) devices never comes = over_never any stops others goes course devices never comes
 over_never any stops others goes (Ask f) (Some h) never comes = over_never any stops others goes (f h) (Some h) never comes
 over_never any stops others goes (Ask f) None never comes = λ h. over_never any stops others goes (f h) None (never h) (comes h)
 over_never any stops others goes (Goes end) devices never comes = comes
@@ -129,7 +129,7 @@ module _ {Dir : Type 0} (c : Fixed Dir) where
     included Ends = inr ends_apart
 
     abbrev Either : Mail Dir → Type 0
-    Either mail = WasAsked mail st ⊎ ComesOver Never Any (step c (Sent mail) st) devices
+    Either mail = WasAsked mail st ⊎ ComesOver Never Any (step c (Mailed mail) st) devices
 
     asked_or : ((st.participation.stage ≡ Includes) × ((st.inclusion.waiter ≡ None) × (st.inclusion.queue ≡ []) → ⊥)) ⊎ IsUnasked st
     asked_or = by_stage (included st.participation.stage)
@@ -144,7 +144,7 @@ module _ {Dir : Type 0} (c : Fixed Dir) where
         by_stage (inl is) = by_waiter is st.inclusion.waiter refl st.inclusion.queue refl
         by_stage (inr apart) = inr (has.waits (has.early apart).0, inr apart)
 
-    or_stays : (mail : Mail Dir) → (IsUnasked st → ComesOver Never Any (step c (Sent mail) st) devices)
+    or_stays : (mail : Mail Dir) → (IsUnasked st → ComesOver Never Any (step c (Mailed mail) st) devices)
         → ((st.participation.stage ≡ Includes) × ((st.inclusion.waiter ≡ None) × (st.inclusion.queue ≡ []) → ⊥) → WasAsked mail st) → Either mail
     or_stays mail stays asked = by_asked asked_or
       where

@@ -12,7 +12,7 @@ use Rattle.dkg_store.specs.Noted.{acks_in, logs_in}
 use Rattle.dkg_store.specs.Pairs.{IsWhole}
 use Rattle.dkg_core.specs.Courses.{Finishes}
 use Rattle.dkg_core.specs.Fixed.{Fixed}
-use Rattle.dkg_core.specs.Live.{Live, Records, Dealer, Message, Sent, Peer, Finalized}
+use Rattle.dkg_core.specs.Live.{Live, Records, Dealer, Message, Mailed, Peer, Finalized}
 use Rattle.dkg_core.specs.Core.{opening, step}
 use Rattle.dkg_core.specs.Setup.{setup}
 use Rattle.dkg_core.specs.Heard.{recovered_in, Fits}
@@ -27,7 +27,7 @@ pub record AreAgreed (r : Records) (h : Held) : Type 0 where
 
 -- what a message may bring to be recorded fits a record
 abbrev pub BringsRecords : {Dir : Type 0} → Fixed Dir → Message Dir → Type 0
-BringsRecords c (Sent (Peer from bytes)) = Fits c (from, bytes)
+BringsRecords c (Mailed (Peer from bytes)) = Fits c (from, bytes)
 BringsRecords c (Finalized b) = (log : SignedDealerLog) → option_and_then its_log b.payload ≡ Some log → IsEvent (events.LogAt log.dealer b.height log.log)
 BringsRecords c message = Unit {0}
 

@@ -5,10 +5,10 @@ use Rattle.std.specs.List.{AllByRecursion}
 use Rattle.dkg_infos.specs.declared.entry.Entry.{Entry}
 use Rattle.dkg_infos.specs.declared.fault.Fault.{Fault}
 use Rattle.dkg_store.specs.Acts.{Held, World, Ended, went, stopped, broken}
-use Rattle.dkg_core.specs.Courses.{Course, Say, Do, Call, Ask, Goes, Stops, on_devices, EndsSo}
+use Rattle.dkg_core.specs.Courses.{Course, Say, Do, CallOutside, Ask, Goes, Stops, on_devices, EndsSo}
 use Rattle.dkg_core.specs.Said.{Said}
 use Rattle.dkg_core.specs.Fixed.{Fixed}
-use Rattle.dkg_core.specs.Live.{Live, NodeStop, Faulted, Message, Sent, Finalized, Event, Reshare, Delivers, with_orchestrator}
+use Rattle.dkg_core.specs.Live.{Live, NodeStop, Faulted, Message, Mailed, Finalized, Event, Reshare, Delivers, with_orchestrator}
 use Rattle.dkg_core.specs.Core.{opening, step}
 use Rattle.dkg_core.specs.Node.{node_opening, node_step}
 use Rattle.dkg_core.specs.Laws.{IsSilent}
@@ -17,7 +17,7 @@ use Rattle.dkg_core.specs.Laws.{IsSilent}
 abbrev pub OnlySays : {Dir F S : Type 0} → (line : Entry → Type 0) → (end : S → Type 0) → Course Dir F S → Type 0
 OnlySays P Q (Say line course) = P line × OnlySays P Q course
 OnlySays P Q (Do op course) = ⊥
-OnlySays P Q (Call outer course) = OnlySays P Q course
+OnlySays P Q (CallOutside outer course) = OnlySays P Q course
 OnlySays P Q (Ask f) = (h : Held) → OnlySays P Q (f h)
 OnlySays P Q (Goes end) = Q end
 OnlySays P Q (Stops fault) = Unit {0}
@@ -69,7 +69,7 @@ pub record SaidBehind {Dir : Type 0} (course : Course Dir Fault (Live Dir)) (end
 
 -- what the reshare half takes, as an event of the node
 abbrev pub event_of : {Dir : Type 0} → Message Dir → Event Dir
-event_of (Sent mail) = Reshare mail
+event_of (Mailed mail) = Reshare mail
 event_of (Finalized b) = Delivers b
 
 -- A NODE'S RUN is one of its reshare half, behind which no device is touched.

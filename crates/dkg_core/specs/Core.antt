@@ -7,9 +7,9 @@ use Rattle.dkg_store.specs.Acts.{OnDisk, Held, World, Ended}
 use Rattle.dkg_store.specs.Recorded.{restored_of}
 use Rattle.dkg_core.specs.Courses.{Course, Say, Do, Goes, Deed, deeds_of, end_of, EndsSo}
 use Rattle.dkg_core.specs.Seen.{Seen}
-use Rattle.dkg_core.specs.Sources.{Source}
+use Rattle.dkg_core.specs.Sources.{SourceAnswers}
 use Rattle.dkg_core.specs.Fixed.{Fixed, OneShot, lending}
-use Rattle.dkg_core.specs.Live.{Live, Participation, Inclusion, Orchestrator, Probe, Follows, Watches, Mail, Peer, NextLog, ReleaseLog, EpochInfoOf, Feed, Over, Cancel, Work, Message, Sent, Finalized}
+use Rattle.dkg_core.specs.Live.{Live, Participation, Inclusion, Orchestrator, Probe, Follows, Watches, Mail, Peer, NextLog, ReleaseLog, EpochInfoOf, Feed, Over, Cancel, Work, Message, Mailed, Finalized}
 use Rattle.dkg_core.specs.Setup.{looks}
 use Rattle.dkg_core.specs.Dealing.{hears_peer}
 use Rattle.dkg_core.specs.Including.{serves_log, releases, asks_request, feeds_request, ends_request, cancels, works}
@@ -64,37 +64,37 @@ reads_mail c (Cancel request) st = cancels c request st
 reads_mail c (Work done) st = works c done st
 
 abbrev pub step : {Dir : Type 0} → Fixed Dir → Message Dir → Live Dir → Course Dir Fault (Live Dir)
-step c (Sent mail) st = reads_mail c mail st
+step c (Mailed mail) st = reads_mail c mail st
 step c (Finalized b) st = delivers c b st
 
 -- THE RELATIONS
 
 -- what a step says and does, in its order
-abbrev pub Reply : Type 0 → Type 0
-Reply Dir = List (Deed Dir)
+abbrev pub StepReply : Type 0 → Type 0
+StepReply Dir = List (Deed Dir)
 
 -- what is in memory, and what the devices hold
 pub record State (Live : Type 0) : Type 0 where
   pub live : Live
   pub held : Held
 
-pub record IsReplyOf {Dir F S : Type 0} (course : Course Dir F S) (held : Held) (reply : Reply Dir) (new : State S) : Type 0 where
+pub record IsReplyOf {Dir F S : Type 0} (course : Course Dir F S) (held : Held) (reply : StepReply Dir) (new : State S) : Type 0 where
   pub deeds : reply ≡ deeds_of course held
   pub end : end_of course held ≡ Some (new.live, new.held)
 
 -- AN OPENING: over these devices it gives this reply and this state.
-abbrev pub CoreOpens : {Dir : Type 0} → Fixed Dir → Held → Reply Dir → State (Live Dir) → Type 0
+abbrev pub CoreOpens : {Dir : Type 0} → Fixed Dir → Held → StepReply Dir → State (Live Dir) → Type 0
 CoreOpens c held reply new = IsReplyOf (opening c) held reply new
 
 -- A STEP: from this state this message gives this reply and that state.
-abbrev pub Core : {Dir : Type 0} → Fixed Dir → State (Live Dir) → Message Dir → Reply Dir → State (Live Dir) → Type 0
+abbrev pub Core : {Dir : Type 0} → Fixed Dir → State (Live Dir) → Message Dir → StepReply Dir → State (Live Dir) → Type 0
 Core c old message reply new = IsReplyOf (step c message old.live) old.held reply new
 
 -- a call as it was answered, and the source that it was lent
 pub record Answered (Dir E : Type 0) : Type 0 where
-  pub source : Source Dir
+  pub source : SourceAnswers Dir
   pub event : E
-  pub reply : Reply Dir
+  pub reply : StepReply Dir
 
 -- calls that were answered, one after another
 abbrev pub Run : {Dir : Type 0} → Fixed Dir → State (Live Dir) → List (Answered Dir (Message Dir)) → State (Live Dir) → Type 0
@@ -106,6 +106,6 @@ abbrev pub CoreEnds : {Dir : Type 0} → Fixed Dir → State (Live Dir) → Mess
 CoreEnds c old message ended before now = (before.held ≡ old.held) × EndsSo (step c message old.live) ended before now
 
 -- .. behind calls that were answered
-abbrev pub RunEnds : {Dir : Type 0} → Fixed Dir → State (Live Dir) → List (Answered Dir (Message Dir)) → Source Dir → Message Dir → Ended Fault (Live Dir) → (before now : World) → Type 0
+abbrev pub RunEnds : {Dir : Type 0} → Fixed Dir → State (Live Dir) → List (Answered Dir (Message Dir)) → SourceAnswers Dir → Message Dir → Ended Fault (Live Dir) → (before now : World) → Type 0
 RunEnds {Dir} c start calls source message ended before now =
     (mid : State (Live Dir)) × Run c start calls mid × CoreEnds (lending source c) mid message ended before now

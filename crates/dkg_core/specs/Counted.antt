@@ -2,16 +2,16 @@
 use Rattle.std.specs.Prelude.{◌≡◌, ◌≤◌, ◌<◌, ◌+◌, ◌^◌, ℕ}
 use Rattle.dkg_journal.specs.Fuse.{burnt, Reached}
 use Rattle.dkg_store.specs.Acts.{Held, World, Ended, went, stopped, broken, by_cut, device_calls, held_after}
-use Rattle.dkg_core.specs.Courses.{Course, Say, Do, Call, Ask, Goes, Stops, EndsSo}
+use Rattle.dkg_core.specs.Courses.{Course, Say, Do, CallOutside, Ask, Goes, Stops, EndsSo}
 
 -- over what the devices hold
-abbrev pub calls_of : {Dir F S : Type 0} → Course Dir F S → Held → ℕ
-calls_of (Say line course) h = calls_of course h
-calls_of (Do op course) h = device_calls op h + calls_of course (held_after op h)
-calls_of (Call outer course) h = calls_of course h
-calls_of (Ask f) h = calls_of (f h) h
-calls_of (Goes end) h = 0
-calls_of (Stops fault) h = 0
+abbrev pub course_calls : {Dir F S : Type 0} → Course Dir F S → Held → ℕ
+course_calls (Say line course) h = course_calls course h
+course_calls (Do op course) h = device_calls op h + course_calls course (held_after op h)
+course_calls (CallOutside outer course) h = course_calls course h
+course_calls (Ask f) h = course_calls (f h) h
+course_calls (Goes end) h = 0
+course_calls (Stops fault) h = 0
 
 -- All of them are made but where it is broken off.
 abbrev pub HasMade : {F S : Type 0} → Ended F S → (made all : ℕ) → Type 0
@@ -23,7 +23,7 @@ HasMade (broken cause) made all = made ≤ all
 pub record CountsCalls {Dir F S : Type 0} (course : Course Dir F S) (ended : Ended F S) (w new : World) : Type 0 where
   pub made : ℕ
   pub fuse : new.fuse ≡ burnt made w.fuse
-  pub of_course : HasMade ended made (calls_of course w.held)
+  pub of_course : HasMade ended made (course_calls course w.held)
 
 -- A RUN COUNTS the calls of its course.
 abbrev pub RunsCount : (Dir F S : Type 0) → Type 0
@@ -38,4 +38,4 @@ FallsIn (stopped fault) calls w new = w.fuse.spent < w.fuse.call → w.fuse.call
 
 -- A CUT FALLS exactly where the course makes so many calls.
 abbrev pub CutsFall : (Dir F S : Type 0) → Type 0
-CutsFall Dir F S = (course : Course Dir F S) (ended : Ended F S) (w new : World) → EndsSo course ended w new → FallsIn ended (calls_of course w.held) w new
+CutsFall Dir F S = (course : Course Dir F S) (ended : Ended F S) (w new : World) → EndsSo course ended w new → FallsIn ended (course_calls course w.held) w new

@@ -27,7 +27,7 @@ pub data Outer (Dir : Type 0) : Type 0 where
 pub data Course (Dir F S : Type 0) : Type 0 where
   Say : Entry → Course Dir F S → Course Dir F S
   Do : Operation → Course Dir F S → Course Dir F S
-  Call : Outer Dir → Course Dir F S → Course Dir F S
+  CallOutside : Outer Dir → Course Dir F S → Course Dir F S
   -- the devices are read, which changes nothing
   Ask : (Held → Course Dir F S) → Course Dir F S
   Goes : S → Course Dir F S
@@ -38,7 +38,7 @@ pub data Course (Dir F S : Type 0) : Type 0 where
 abbrev pub bind : {Dir F S T : Type 0} → Course Dir F S → (S → Course Dir F T) → Course Dir F T
 bind (Say line course) next = Say line (bind course next)
 bind (Do op course) next = Do op (bind course next)
-bind (Call outer course) next = Call outer (bind course next)
+bind (CallOutside outer course) next = CallOutside outer (bind course next)
 bind (Ask f) next = Ask (λ h. bind (f h) next)
 bind (Goes end) next = next end
 bind (Stops fault) next = Stops fault
@@ -47,7 +47,7 @@ bind (Stops fault) next = Stops fault
 abbrev pub under : {Dir F G S : Type 0} → (F → G) → Course Dir F S → Course Dir G S
 under name (Say line course) = Say line (under name course)
 under name (Do op course) = Do op (under name course)
-under name (Call outer course) = Call outer (under name course)
+under name (CallOutside outer course) = CallOutside outer (under name course)
 under name (Ask f) = Ask (λ h. under name (f h))
 under name (Goes end) = Goes end
 under name (Stops fault) = Stops (name fault)
@@ -56,7 +56,7 @@ under name (Stops fault) = Stops (name fault)
 abbrev pub on_devices : {Dir F S : Type 0} → Course Dir F S → Acts F S
 on_devices (Say line course) = acts_of.Say line (on_devices course)
 on_devices (Do op course) = acts_of.Do op (on_devices course)
-on_devices (Call outer course) = on_devices course
+on_devices (CallOutside outer course) = on_devices course
 on_devices (Ask f) = acts_of.Ask (λ h. on_devices (f h))
 on_devices (Goes end) = acts_of.Goes end
 on_devices (Stops fault) = acts_of.Stops fault
@@ -77,15 +77,15 @@ EndsSo course ended w new = Runs (on_devices course) ended w new
 
 -- what a course does one after another
 pub data Deed (Dir : Type 0) : Type 0 where
-  Said : Entry → Deed Dir
-  Did : Operation → Deed Dir
-  Called : Outer Dir → Deed Dir
+  SaidEntry : Entry → Deed Dir
+  DidOperation : Operation → Deed Dir
+  CalledOutside : Outer Dir → Deed Dir
 
 -- .. over what the devices hold
 abbrev pub deeds_of : {Dir F S : Type 0} → Course Dir F S → Held → List (Deed Dir)
-deeds_of (Say line course) h = Said line ∷ deeds_of course h
-deeds_of (Do op course) h = Did op ∷ deeds_of course (held_after op h)
-deeds_of (Call outer course) h = Called outer ∷ deeds_of course h
+deeds_of (Say line course) h = SaidEntry line ∷ deeds_of course h
+deeds_of (Do op course) h = DidOperation op ∷ deeds_of course (held_after op h)
+deeds_of (CallOutside outer course) h = CalledOutside outer ∷ deeds_of course h
 deeds_of (Ask f) h = deeds_of (f h) h
 deeds_of (Goes end) h = []
 deeds_of (Stops fault) h = []
@@ -94,7 +94,7 @@ deeds_of (Stops fault) h = []
 abbrev pub end_of : {Dir F S : Type 0} → Course Dir F S → Held → Option (S × Held)
 end_of (Say line course) h = end_of course h
 end_of (Do op course) h = end_of course (held_after op h)
-end_of (Call outer course) h = end_of course h
+end_of (CallOutside outer course) h = end_of course h
 end_of (Ask f) h = end_of (f h) h
 end_of (Goes end) h = Some (end, h)
 end_of (Stops fault) h = None
@@ -103,7 +103,7 @@ end_of (Stops fault) h = None
 abbrev pub fault_of : {Dir F S : Type 0} → Course Dir F S → Held → Option F
 fault_of (Say line course) h = fault_of course h
 fault_of (Do op course) h = fault_of course (held_after op h)
-fault_of (Call outer course) h = fault_of course h
+fault_of (CallOutside outer course) h = fault_of course h
 fault_of (Ask f) h = fault_of (f h) h
 fault_of (Goes end) h = None
 fault_of (Stops fault) h = Some fault

@@ -11,13 +11,13 @@ use Rattle.dkg_infos.specs.declared.info.EpochInfo.{EpochInfo}
 use Rattle.dkg_infos.specs.declared.participants.ParticipantsError.{ParticipantsError}
 use Rattle.dkg_infos.specs.Validation.{validation}
 use Rattle.dkg_store.specs.Acts.{Held, Ended, went, stopped, broken}
-use Rattle.dkg_core.specs.Courses.{Course, Say, Do, Call, Ask, Goes, Stops}
+use Rattle.dkg_core.specs.Courses.{Course, Say, Do, CallOutside, Ask, Goes, Stops}
 use Rattle.dkg_core.specs.Sources.{Tip}
 use Rattle.dkg_core.specs.Fixed.{Fixed, has}
-use Rattle.dkg_core.specs.Live.{Live, Orchestrator, Stage, Deals, Includes, Seat, Plays, Watches, Message, Sent, Finalized, records_of_epoch, with_orchestrator}
+use Rattle.dkg_core.specs.Live.{Live, Orchestrator, Stage, Deals, Includes, Seat, Plays, Watches, Message, Mailed, Finalized, records_of_epoch, with_orchestrator}
 use Rattle.dkg_core.specs.Logs.{logs_of}
 use Rattle.dkg_core.specs.Setup.{is_lost, participants_of}
-use Rattle.dkg_core.specs.Entering.{HalfAnswer, Acknowledges, Withholds}
+use Rattle.dkg_core.specs.Entering.{HalfAnswer, AcknowledgesBlock, Withholds}
 use Rattle.dkg_core.specs.Laws.{start_of}
 
 -- WHERE A COURSE COMES TO: each fault that it may stop by, and each end that it may go to, whatever is read
@@ -25,7 +25,7 @@ use Rattle.dkg_core.specs.Laws.{start_of}
 abbrev pub ComesTo : {Dir F S : Type 0} → (stops : F → Type 0) → (goes : S → Type 0) → Course Dir F S → Type 0
 ComesTo stops goes (Say line course) = ComesTo stops goes course
 ComesTo stops goes (Do op course) = ComesTo stops goes course
-ComesTo stops goes (Call outer course) = ComesTo stops goes course
+ComesTo stops goes (CallOutside outer course) = ComesTo stops goes course
 ComesTo stops goes (Ask f) = (h : Held) → ComesTo stops goes (f h)
 ComesTo stops goes (Goes end) = goes end
 ComesTo stops goes (Stops fault) = stops fault
@@ -82,9 +82,9 @@ pub record IsEntered {Dir : Type 0} (c : Fixed Dir) (st end : Live Dir) : Type 0
 -- the tip behind a message that is not refused: a block at or below it does nothing
 abbrev pub tip_behind : {Dir : Type 0} → Message Dir → Option Tip → Option Tip
 tip_behind (Finalized b) tip = if option_map_or (λ t. nat_le b.height t.height) tip false then tip else Some (record { height = b.height; digest = b.digest })
-tip_behind (Sent mail) tip = tip
+tip_behind (Mailed mail) tip = tip
 
 -- which half-answer an epoch's engine gives to a block below its last
 abbrev pub answer_in : Option ℕ → HalfAnswer
 answer_in None = Withholds
-answer_in (Some epoch) = Acknowledges
+answer_in (Some epoch) = AcknowledgesBlock

@@ -8,19 +8,19 @@ use Rattle.dkg_infos.specs.declared.entry.Entry.TheVariants.{Entered}
 use Rattle.dkg_types.specs.declared.scheme.SchemeInfo.{SchemeInfo}
 use Rattle.dkg_core.specs.Fixed.{Fixed}
 use Rattle.dkg_core.specs.Live.{Live, Waiting}
-use Rattle.dkg_core.specs.Courses.{Deed, Called, Tracks, StartsEngine, StopsEngine}
-use Rattle.dkg_core.specs.Entering.{Half, Acknowledges, is_ready, active, enters, takes_delivered}
+use Rattle.dkg_core.specs.Courses.{Deed, CalledOutside, Tracks, StartsEngine, StopsEngine}
+use Rattle.dkg_core.specs.Entering.{LifeAndAnswer, AcknowledgesBlock, is_ready, active, enters, takes_delivered}
 use Rattle.dkg_core.specs.Laws.{Law, Holds}
 
 -- The peers of the epoch were tracked last.
 abbrev pub IsTracked : {Dir : Type 0} → (epoch : ℕ) → List (Deed Dir) → Type 0
-IsTracked epoch (Called (Tracks tracked peers directory) ∷ past) = tracked ≡ epoch
+IsTracked epoch (CalledOutside (Tracks tracked peers directory) ∷ past) = tracked ≡ epoch
 IsTracked epoch past = ⊥
 
 -- .. and then the epoch's engine was started by this scheme, and behind it the one before was stopped, if there is one.
 abbrev pub IsEngineStarted : {Dir : Type 0} → (epoch : ℕ) → SchemeInfo → List (Deed Dir) → Type 0
-IsEngineStarted epoch scheme (Called (StopsEngine old) ∷ past) = IsEngineStarted epoch scheme past
-IsEngineStarted epoch scheme (Called (StartsEngine started floor by) ∷ past) = (started ≡ epoch) × (by ≡ scheme) × IsTracked epoch past
+IsEngineStarted epoch scheme (CalledOutside (StopsEngine old) ∷ past) = IsEngineStarted epoch scheme past
+IsEngineStarted epoch scheme (CalledOutside (StartsEngine started floor by) ∷ past) = (started ≡ epoch) × (by ≡ scheme) × IsTracked epoch past
 IsEngineStarted epoch scheme past = ⊥
 
 -- The fence was ready for the epoch, its scheme was registered, its peers were tracked, and its engine was started.
@@ -35,11 +35,11 @@ EntryLine st past (Entered epoch) = IsEnterable st past epoch
 EntryLine st past line = Unit {0}
 
 -- An enterable epoch alone is entered, no device is touched, and a half that acknowledges has entered this epoch.
-abbrev pub entry_law : {Dir : Type 0} → Live Dir → (epoch : ℕ) → Law Dir (Half Dir)
+abbrev pub entry_law : {Dir : Type 0} → Live Dir → (epoch : ℕ) → Law Dir (LifeAndAnswer Dir)
 entry_law st epoch = record {
   line = EntryLine st;
   operation = λ past op. ⊥;
-  end = λ past half. half.answer ≡ Acknowledges → half.live.orchestrator.entered ≡ Some epoch;
+  end = λ past half. half.answer ≡ AcknowledgesBlock → half.live.orchestrator.entered ≡ Some epoch;
 }
 
 abbrev pub EntersRegistered : Type 0 → Type 0

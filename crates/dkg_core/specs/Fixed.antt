@@ -33,7 +33,7 @@ use Rattle.dkg_infos.specs.declared.participants.TrackedPeers.{TrackedPeers}
 use Rattle.dkg_infos.specs.NextInfos.{Provided}
 use Rattle.dkg_store.specs.Acts.{Held}
 use Rattle.dkg_core.specs.Seen.{Seen}
-use Rattle.dkg_core.specs.Sources.{Source, Tip, position}
+use Rattle.dkg_core.specs.Sources.{SourceAnswers, Tip, position}
 
 -- What the calls of a ceremony answer: its ghost members, as plain functions.
 pub record Rules : Type 0 where
@@ -126,10 +126,10 @@ pub record Fixed (Dir : Type 0) : Type 0 where
   pub material : Option (Material Dir)
   pub opening_calls : ℕ
   -- lent anew to each step; a block that is delivered is in it by then
-  pub source : Source Dir
+  pub source : SourceAnswers Dir
 
 -- the same life's next step, with the source that it is lent
-abbrev pub lending : {Dir : Type 0} → Source Dir → Fixed Dir → Fixed Dir
+abbrev pub lending : {Dir : Type 0} → SourceAnswers Dir → Fixed Dir → Fixed Dir
 lending source c = record c { source = source }
 
 -- the position that the source tells

@@ -23,12 +23,12 @@ use Rattle.dkg_infos.specs.declared.info.EpochInfo.{EpochInfo}
 use Rattle.dkg_journal.specs.Operations.{Bars, Opens, Prunes}
 use Rattle.dkg_secrets.specs.declared.secrets.SecretOp.TheVariants.{PutShare, PutSeed, Prune}
 use Rattle.dkg_store.specs.Acts.{Held, World, Ended, OnDisk, Changes, held_after}
-use Rattle.dkg_core.specs.Courses.{Course, Say, Do, Call, Ask, Goes, Stops, on_devices, EndsSo}
+use Rattle.dkg_core.specs.Courses.{Course, Say, Do, CallOutside, Ask, Goes, Stops, on_devices, EndsSo}
 use Rattle.dkg_core.specs.Said.{Said}
 use Rattle.dkg_core.specs.Seen.{Seen}
 use Rattle.dkg_core.specs.Sources.{Tip, startup}
 use Rattle.dkg_core.specs.Fixed.{Fixed, has}
-use Rattle.dkg_core.specs.Live.{Live, Dealer, Orchestrator, NodeStop, Stage, Deals, Follows, Plays, Message, Sent, Peer, Finalized, awaited_height, phase_of}
+use Rattle.dkg_core.specs.Live.{Live, Dealer, Orchestrator, NodeStop, Stage, Deals, Follows, Plays, Message, Mailed, Peer, Finalized, awaited_height, phase_of}
 use Rattle.dkg_core.specs.Setup.{Standing, Uncommitted, WasCommitted, is_past_range, recovered_share, seed_for, records_from, refused_in, scheme_for, may_deal, dealer_from, dealer_for, signed, with_info}
 use Rattle.dkg_core.specs.Blocks.{is_in_window}
 use Rattle.dkg_core.specs.Core.{opening, begun_life, no_participation, no_inclusion, no_orchestrator}
@@ -92,7 +92,7 @@ judged_block c b st = if is_past_range c b.height then Refusal HeightRange else 
 
 -- What the form takes: a peer's message, a block that isn't applied, one below its epoch's midpoint, and any while the life follows.
 abbrev pub IsTakenIn : {Dir : Type 0} → Fixed Dir → Message Dir → Live Dir → Type 0
-IsTakenIn c (Sent (Peer from bytes)) st = Unit {0}
+IsTakenIn c (Mailed (Peer from bytes)) st = Unit {0}
 IsTakenIn c (Finalized b) st = judged_block c b st ≡ Applied → (st.participation.stage ≡ Follows) ⊎ (b.height < midpoint c.blocks_per_epoch (epoch_of c.blocks_per_epoch b.height))
 IsTakenIn c message st = ⊥
 
@@ -101,7 +101,7 @@ IsTakenIn c message st = ⊥
 abbrev pub ComesOver : {Dir F S : Type 0} → (stops : F → Type 0) → (goes : S → Option Held → Type 0) → Course Dir F S → Option Held → Type 0
 ComesOver stops goes (Say line course) devices = ComesOver stops goes course devices
 ComesOver stops goes (Do op course) devices = ComesOver stops goes course (option_map (held_after op) devices)
-ComesOver stops goes (Call outer course) devices = ComesOver stops goes course devices
+ComesOver stops goes (CallOutside outer course) devices = ComesOver stops goes course devices
 ComesOver stops goes (Ask f) (Some h) = ComesOver stops goes (f h) (Some h)
 ComesOver stops goes (Ask f) None = (h : Held) → ComesOver stops goes (f h) None
 ComesOver stops goes (Goes end) devices = goes end devices

@@ -14,13 +14,13 @@ use Rattle.dkg_types.specs.MessageCodes.{message_at}
 use Rattle.dkg_infos.specs.declared.fault.Fault.{Fault}
 use Rattle.dkg_store.specs.Acts.{Held, World, OnDisk, notes}
 use Rattle.dkg_journal.specs.Operations.{Bars, Opens}
-use Rattle.dkg_core.specs.Courses.{Course, Goes, bind, Deed, Said, Did, deeds_of, Throughout, Finishes}
+use Rattle.dkg_core.specs.Courses.{Course, Goes, bind, Deed, SaidEntry, DidOperation, deeds_of, Throughout, Finishes}
 use Rattle.dkg_store.specs.Recorded.{restored_list}
 use Rattle.dkg_store.specs.Events.{IsEvent}
 use Rattle.dkg_store.specs.declared.event.Event.TheVariants as events
 use Rattle.dkg_store.specs.Pairs.{Pairs, IsWhole, recovered}
 use Rattle.dkg_core.specs.Fixed.{Fixed}
-use Rattle.dkg_core.specs.Live.{Live, Sent, Peer, awaited_height}
+use Rattle.dkg_core.specs.Live.{Live, Mailed, Peer, awaited_height}
 use Rattle.dkg_core.specs.Setup.{setup}
 use Rattle.dkg_core.specs.Meant.{ReadsRecords}
 use Rattle.dkg_core.specs.Core.{opening, step}
@@ -72,17 +72,17 @@ OpeningsKeep Dir = (c : Fixed Dir) (most : ℕ) (w : World) → StartsWithin c m
 -- .. and lists what the devices give back.
 abbrev pub OpeningsRestore : Type 0 → Type 0
 OpeningsRestore Dir = (c : Fixed Dir) (h : Held) → ReadsRecords c.seen
-    → (rest : List (Deed Dir)) × (deeds_of (opening c) h ≡ Did (OnDisk Bars) ∷ Did (OnDisk (Opens c.opening_calls)) ∷ Said (Opened c.life (restored_list (recovered_in h))) ∷ rest)
+    → (rest : List (Deed Dir)) × (deeds_of (opening c) h ≡ DidOperation (OnDisk Bars) ∷ DidOperation (OnDisk (Opens c.opening_calls)) ∷ SaidEntry (Opened c.life (restored_list (recovered_in h))) ∷ rest)
 
 -- A PEER'S MESSAGE KEEPS THE PROMISE, wherever the step ends and whatever an operation in hand leaves.
 abbrev pub PeersAreKept : Type 0 → Type 0
 PeersAreKept Dir = (c : Fixed Dir) (st : Live Dir) (from : ℕ) (bytes : List ℕ) (round : Round) (w : World) (pairs : Pairs)
-    → st.participation.round ≡ Some round → Agrees c st from bytes pairs w → Throughout (IsKeptAt c st from round w.out pairs) (step c (Sent (Peer from bytes)) st) w
+    → st.participation.round ≡ Some round → Agrees c st from bytes pairs w → Throughout (IsKeptAt c st from round w.out pairs) (step c (Mailed (Peer from bytes)) st) w
 
 -- A RUN OF PEERS' MESSAGES, one after another
 abbrev pub hears_all : {Dir : Type 0} → Fixed Dir → List (ℕ × List ℕ) → Live Dir → Course Dir Fault (Live Dir)
 hears_all c [] st = Goes st
-hears_all c (m ∷ ms) st = bind (step c (Sent (Peer m.0 m.1)) st) (λ st. hears_all c ms st)
+hears_all c (m ∷ ms) st = bind (step c (Mailed (Peer m.0 m.1)) st) (λ st. hears_all c ms st)
 
 -- Whatever they bring fits a record.
 abbrev pub Fits : {Dir : Type 0} → Fixed Dir → ℕ × List ℕ → Type 0
@@ -106,7 +106,7 @@ pub record IsAgreed {Dir : Type 0} (st : Live Dir) (round : Round) (w : World) :
 -- .. which a completed message leaves so,
 abbrev pub PeersAgree : Type 0 → Type 0
 PeersAgree Dir = (c : Fixed Dir) (st end : Live Dir) (from : ℕ) (bytes : List ℕ) (round : Round) (w new : World)
-    → IsAgreed st round w → Fits c (from, bytes) → Finishes (step c (Sent (Peer from bytes)) st) end w new → IsAgreed end round new
+    → IsAgreed st round w → Fits c (from, bytes) → Finishes (step c (Mailed (Peer from bytes)) st) end w new → IsAgreed end round new
 
 -- .. so that every exit of the run keeps each acknowledgement and each recorded dealing of it.
 abbrev pub RunsAreKept : Type 0 → Type 0

@@ -16,12 +16,12 @@ use Rattle.dkg_values.specs.Rising.{lookup}
 use Rattle.dkg_infos.specs.declared.info.EpochInfo.{EpochInfo}
 use Rattle.dkg_store.specs.Acts.{Operation, OnDisk, Changes, Cause, Held, World, says, does, Tears}
 use Rattle.dkg_journal.specs.Operations.{Bars, Opens, Appends, Prunes, PutsPlan, ClearsPlan}
-use Rattle.dkg_core.specs.Courses.{Course, Say, Do, Call, Ask, Goes, Stops, Deed, Said, Did, Called, deeds_of}
+use Rattle.dkg_core.specs.Courses.{Course, Say, Do, CallOutside, Ask, Goes, Stops, Deed, SaidEntry, DidOperation, CalledOutside, deeds_of}
 use Rattle.dkg_store.specs.Events.{event_spelling}
 use Rattle.dkg_store.specs.declared.event.Event.TheVariants.{Dealing}
 use Rattle.dkg_secrets.specs.declared.secrets.SecretOp.TheVariants.{PutShare, PutSeed, PutDealing, Prune}
 use Rattle.dkg_core.specs.Fixed.{Fixed, has, stand_in, start}
-use Rattle.dkg_core.specs.Live.{Live, Dealer, Plays, Deals, Message, Sent, Peer, Finalized, awaited_height, recorded_at}
+use Rattle.dkg_core.specs.Live.{Live, Dealer, Plays, Deals, Message, Mailed, Peer, Finalized, awaited_height, recorded_at}
 use Rattle.dkg_core.specs.Core.{opening, step}
 use Rattle.dkg_core.specs.Setup.{setup}
 
@@ -33,9 +33,9 @@ pub record Law (Dir S : Type 0) : Type 1 where
 
 -- It holds of a course behind these deeds.
 abbrev pub Holds : {Dir F S : Type 0} → Law Dir S → List (Deed Dir) → Course Dir F S → Type 0
-Holds law past (Say line course) = law.line past line × Holds law (Said line ∷ past) course
-Holds law past (Do op course) = law.operation past op × Holds law (Did op ∷ past) course
-Holds law past (Call outer course) = Holds law (Called outer ∷ past) course
+Holds law past (Say line course) = law.line past line × Holds law (SaidEntry line ∷ past) course
+Holds law past (Do op course) = law.operation past op × Holds law (DidOperation op ∷ past) course
+Holds law past (CallOutside outer course) = Holds law (CalledOutside outer ∷ past) course
 Holds law past (Ask f) = (h : Held) → Holds law past (f h)
 Holds law past (Goes end) = law.end past end
 Holds law past (Stops fault) = Unit {0}
@@ -94,7 +94,7 @@ OpeningOperation most past op = PrunesAtMost most past op
 
 -- the line with what was restored, as the first thing behind the barrier and the journal's opening
 abbrev pub OpeningLine : {Dir : Type 0} → Fixed Dir → List (Deed Dir) → Entry → Type 0
-OpeningLine c past (Opened life restored) = (life ≡ c.life) × (past ≡ Did (OnDisk (Opens c.opening_calls)) ∷ Did (OnDisk Bars) ∷ [])
+OpeningLine c past (Opened life restored) = (life ≡ c.life) × (past ≡ DidOperation (OnDisk (Opens c.opening_calls)) ∷ DidOperation (OnDisk Bars) ∷ [])
 OpeningLine c past line = IsSilent past line
 
 abbrev pub opening_law : {Dir : Type 0} → Fixed Dir → (most : ℕ) → Law Dir (Live Dir)
@@ -126,12 +126,12 @@ pub record IsAccepted {Dir : Type 0} (c : Fixed Dir) (st : Live Dir) (epoch deal
 -- the private half was put, and then the record was appended
 abbrev pub WasPut : {Dir : Type 0} → (epoch dealer : ℕ) → List ℕ → ℕ → List (Deed Dir) → Type 0
 WasPut epoch dealer public private past =
-    past ≡ Did (OnDisk (Appends (epoch, event_spelling (Dealing dealer public)))) ∷ Did (Changes (PutDealing epoch dealer private)) ∷ []
+    past ≡ DidOperation (OnDisk (Appends (epoch, event_spelling (Dealing dealer public)))) ∷ DidOperation (Changes (PutDealing epoch dealer private)) ∷ []
 
 -- .. and that was told
 abbrev pub WasRecorded : {Dir : Type 0} → (epoch dealer : ℕ) → List ℕ → ℕ → List (Deed Dir) → Type 0
 WasRecorded epoch dealer public private [] = ⊥
-WasRecorded epoch dealer public private (deed ∷ past) = (deed ≡ Said (Recorded epoch dealer public private)) × WasPut epoch dealer public private past
+WasRecorded epoch dealer public private (deed ∷ past) = (deed ≡ SaidEntry (Recorded epoch dealer public private)) × WasPut epoch dealer public private past
 
 -- The acknowledgement is that of the dealing recorded for its dealer, and the first thing of the step; or of one that this step has recorded by
 -- then, and nothing else. (So a step has one at most.)
@@ -164,7 +164,7 @@ peer_law c st from = record { line = PeerLine c st from; operation = PeerOperati
 
 -- A peer's message records a valid dealing of its sender under a new key alone, and acknowledges what is recorded by then alone.
 abbrev pub PeersAreHeard : Type 0 → Type 0
-PeersAreHeard Dir = (c : Fixed Dir) (st : Live Dir) (from : ℕ) (bytes : List ℕ) → Holds (peer_law c st from) [] (step c (Sent (Peer from bytes)) st)
+PeersAreHeard Dir = (c : Fixed Dir) (st : Live Dir) (from : ℕ) (bytes : List ℕ) → Holds (peer_law c st from) [] (step c (Mailed (Peer from bytes)) st)
 
 -- WHATEVER ELSE HAPPENS
 
@@ -228,7 +228,7 @@ reach_of c message = 0
 
 -- A message that isn't a peer's.
 abbrev pub IsOther : {Dir : Type 0} → Message Dir → Type 0
-IsOther (Sent (Peer from bytes)) = ⊥
+IsOther (Mailed (Peer from bytes)) = ⊥
 IsOther message = Unit {0}
 
 -- Any other message acknowledges nothing, records this node's own dealing alone, offers what its dealer deals alone, and prunes nothing of the epoch of the
@@ -251,12 +251,12 @@ pub record IsDue {Dir : Type 0} (c : Fixed Dir) (st : Live Dir) (from : ℕ) (by
 
 -- The last thing of these deeds is an acknowledgement to this dealer.
 abbrev pub EndsInAck : {Dir : Type 0} → (epoch dealer : ℕ) → List (Deed Dir) → Type 0
-EndsInAck {Dir} epoch dealer deeds = (before : List (Deed Dir)) × (ack : List ℕ) × (deeds ≡ before ++ Said (Ack epoch dealer ack) ∷ [])
+EndsInAck {Dir} epoch dealer deeds = (before : List (Deed Dir)) × (ack : List ℕ) × (deeds ≡ before ++ SaidEntry (Ack epoch dealer ack) ∷ [])
 
 -- A due message is acknowledged, whatever the devices hold.
 abbrev pub DuesAreAnswered : Type 0 → Type 0
 DuesAreAnswered Dir = (c : Fixed Dir) (st : Live Dir) (from : ℕ) (bytes : List ℕ) (due : IsDue c st from bytes) (h : Held)
-    → EndsInAck (due.round.number) from (deeds_of (step c (Sent (Peer from bytes)) st) h)
+    → EndsInAck (due.round.number) from (deeds_of (step c (Mailed (Peer from bytes)) st) h)
 
 -- WHAT A SETUP LEAVES, under what a ceremony promises of rounds and of what this node deals to itself
 

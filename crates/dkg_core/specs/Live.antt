@@ -199,7 +199,7 @@ pub data Mail (Dir : Type 0) : Type 0 where
 
 -- .. and what it takes besides: finalized blocks
 pub data Message (Dir : Type 0) : Type 0 where
-  Sent : Mail Dir → Message Dir
+  Mailed : Mail Dir → Message Dir
   Finalized : Block Dir → Message Dir
 
 -- What a node takes. A finalized block goes to both halves. The ancestries come from the parent (or the tip) down.
@@ -213,7 +213,7 @@ pub data Event (Dir : Type 0) : Type 0 where
   Subscribe : Event Dir
   Unsubscribe : Event Dir
   Attach : Event Dir
-  ProbeReply : (from : ℕ) → List ℕ → Event Dir
+  PeerReply : (from : ℕ) → List ℕ → Event Dir
   Retry : Event Dir
 
 -- WORDS

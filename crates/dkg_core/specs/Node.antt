@@ -7,12 +7,12 @@ use Rattle.dkg_infos.specs.declared.entry.Entry.TheVariants.{Acked}
 use Rattle.dkg_infos.specs.declared.fault.Fault.{Fault}
 use Rattle.dkg_store.specs.Acts.{Held, World, Ended}
 use Rattle.dkg_core.specs.Courses.{Course, Say, Goes, bind, under, EndsSo}
-use Rattle.dkg_core.specs.Sources.{Source}
+use Rattle.dkg_core.specs.Sources.{SourceAnswers}
 use Rattle.dkg_core.specs.Fixed.{Fixed, lending}
-use Rattle.dkg_core.specs.Live.{Live, NodeStop, Faulted, Sent, Finalized, Event, Reshare, Delivers, Later, Prepare, Propose, Verify}
+use Rattle.dkg_core.specs.Live.{Live, NodeStop, Faulted, Mailed, Finalized, Event, Reshare, Delivers, Later, Prepare, Propose, Verify}
 use Rattle.dkg_core.specs.Setup.{looks}
 use Rattle.dkg_core.specs.Plans.{material_at}
-use Rattle.dkg_core.specs.Core.{opening, step, Reply, State, IsReplyOf, Answered}
+use Rattle.dkg_core.specs.Core.{opening, step, StepReply, State, IsReplyOf, Answered}
 use Rattle.dkg_core.specs.Entering.{acked_at, opens_half, asks_again, takes_delivered, hints}
 use Rattle.dkg_core.specs.Desk.{prepares, proposes, verifies_ancestry}
 use Rattle.dkg_core.specs.Probing.{probes}
@@ -43,7 +43,7 @@ then_again c course = bind (under Faulted course) (λ st. unless_once c (asks_ag
 -- A STEP
 abbrev pub node_step : {Dir : Type 0} → Fixed Dir → Event Dir → Live Dir → Course Dir NodeStop (Live Dir)
 node_step c (Delivers b) st = delivers_to_both c b st
-node_step c (Reshare mail) st = then_again c (step c (Sent mail) st)
+node_step c (Reshare mail) st = then_again c (step c (Mailed mail) st)
 node_step c (Later from epoch) st = unless_once c (hints c from epoch st) (Goes st)
 node_step c (Prepare ancestry) st = then_again c (prepares c ancestry st)
 node_step c (Propose ancestry) st = then_again c (proposes c ancestry st)
@@ -52,10 +52,10 @@ node_step c event st = bind (probes c event st) (λ st. unless_once c (asks_agai
 
 -- THE RELATIONS: of an opening, of a step, of a run of calls that were answered, and of a last step
 
-abbrev pub NodeOpens : {Dir : Type 0} → Fixed Dir → Held → Reply Dir → State (Live Dir) → Type 0
+abbrev pub NodeOpens : {Dir : Type 0} → Fixed Dir → Held → StepReply Dir → State (Live Dir) → Type 0
 NodeOpens c held reply new = IsReplyOf (node_opening c) held reply new
 
-abbrev pub NodeCore : {Dir : Type 0} → Fixed Dir → State (Live Dir) → Event Dir → Reply Dir → State (Live Dir) → Type 0
+abbrev pub NodeCore : {Dir : Type 0} → Fixed Dir → State (Live Dir) → Event Dir → StepReply Dir → State (Live Dir) → Type 0
 NodeCore c old event reply new = IsReplyOf (node_step c event old.live) old.held reply new
 
 abbrev pub NodeRun : {Dir : Type 0} → Fixed Dir → State (Live Dir) → List (Answered Dir (Event Dir)) → State (Live Dir) → Type 0
@@ -65,6 +65,6 @@ NodeRun {Dir} c start (call ∷ calls) end = (mid : State (Live Dir)) × NodeCor
 abbrev pub NodeEnds : {Dir : Type 0} → Fixed Dir → State (Live Dir) → Event Dir → Ended NodeStop (Live Dir) → (before now : World) → Type 0
 NodeEnds c old event ended before now = (before.held ≡ old.held) × EndsSo (node_step c event old.live) ended before now
 
-abbrev pub NodeRunEnds : {Dir : Type 0} → Fixed Dir → State (Live Dir) → List (Answered Dir (Event Dir)) → Source Dir → Event Dir → Ended NodeStop (Live Dir) → (before now : World) → Type 0
+abbrev pub NodeRunEnds : {Dir : Type 0} → Fixed Dir → State (Live Dir) → List (Answered Dir (Event Dir)) → SourceAnswers Dir → Event Dir → Ended NodeStop (Live Dir) → (before now : World) → Type 0
 NodeRunEnds {Dir} c start calls source event ended before now =
     (mid : State (Live Dir)) × NodeRun c start calls mid × NodeEnds (lending source c) mid event ended before now

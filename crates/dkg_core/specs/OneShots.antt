@@ -14,7 +14,7 @@ use Rattle.dkg_types.specs.BlockCodes.{info_of}
 use Rattle.dkg_types.specs.PayloadCodes.{its_log}
 use Rattle.dkg_infos.specs.Validation.{validation}
 use Rattle.dkg_store.specs.Acts.{Changes}
-use Rattle.dkg_core.specs.Courses.{Course, Do, Call, Stops, Tracks}
+use Rattle.dkg_core.specs.Courses.{Course, Do, CallOutside, Stops, Tracks}
 use Rattle.dkg_secrets.specs.declared.secrets.SecretOp.TheVariants.{PutSeed}
 use Rattle.dkg_core.specs.Fixed.{Fixed, OneShot}
 use Rattle.dkg_core.specs.Sources.{Tip, startup}
@@ -33,7 +33,7 @@ abbrev pub is_refused : {Dir : Type 0} → Fixed Dir → OneShot Dir → Bool
 is_refused c o = is_some (c.directories.lacking o.directory (peers_in o))
 
 abbrev pub tracks_once : {Dir S : Type 0} → Fixed Dir → OneShot Dir → Course Dir Fault S → Course Dir Fault S
-tracks_once c o course = if is_refused c o then course else Call (Tracks 0 (peers_in o) o.directory) course
+tracks_once c o course = if is_refused c o then course else CallOutside (Tracks 0 (peers_in o) o.directory) course
 
 -- A tip at or above the last height, or a stored share of epoch 0: the ceremony is over.
 abbrev pub is_finished : {Dir : Type 0} → Fixed Dir → Option Tip → Option ℕ → Bool

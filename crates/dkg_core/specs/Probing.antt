@@ -13,9 +13,9 @@ use Rattle.dkg_probe.specs.Probing.{Probes, steps, tracked_of}
 use Rattle.dkg_probe.specs.Sources as lent
 use Rattle.dkg_core.specs.Courses.{Course, Goes}
 use Rattle.dkg_core.specs.Fixed.{Fixed, Snapshot}
-use Rattle.dkg_core.specs.Joining.{joined}
-use Rattle.dkg_core.specs.Live.{Live, Probe, Awaited, Discovered, NodeStop, PeerSet, Event, Subscribe, Unsubscribe, Attach, ProbeReply, Retry}
-use Rattle.dkg_core.specs.Sources.{Source}
+use Rattle.dkg_core.specs.Joining.{joined_course}
+use Rattle.dkg_core.specs.Live.{Live, Probe, Awaited, Discovered, NodeStop, PeerSet, Event, Subscribe, Unsubscribe, Attach, PeerReply, Retry}
+use Rattle.dkg_core.specs.Sources.{SourceAnswers}
 
 -- WHAT IT IS GIVEN
 
@@ -33,7 +33,7 @@ given c s = record {
 abbrev pub lack_in : {Dir : Type 0} → Fixed Dir → Snapshot Dir → Option ℕ
 lack_in c s = c.directories.lacking s.directory (tracked_of s.participants)
 
-abbrev pub served_from : {Dir : Type 0} → Source Dir → lent.ProbeSource Dir
+abbrev pub served_from : {Dir : Type 0} → SourceAnswers Dir → lent.ProbeSource Dir
 served_from source = record { block = source.block; finalization = source.finalization; latest = source.latest }
 
 -- the least epoch of a reply that counts
@@ -48,8 +48,8 @@ awaiting_of a = record { height = a.height; floor = a.floor; asked = a.asked; ot
 abbrev pub awaited_view : Awaiting → Awaited
 awaited_view a = record { height = a.height; floor = a.floor; asked = a.asked; candidates = a.others }
 
-abbrev pub known_of : {Dir : Type 0} → Discovered Dir → Known Dir
-known_of found = record { finalization = found.finalization; info = found.info; floor = found.floor }
+abbrev pub known_of_discovered : {Dir : Type 0} → Discovered Dir → Known Dir
+known_of_discovered found = record { finalization = found.finalization; info = found.info; floor = found.floor }
 
 abbrev pub discovered_of : {Dir : Type 0} → Known Dir → Discovered Dir
 discovered_of known = record { finalization = known.finalization; info = known.info; floor = known.floor }
@@ -61,7 +61,7 @@ state_of minimum p = record {
   serving = p.serving;
   sample = record { minimum = minimum; replies = p.replies; chosen = p.chosen };
   awaited = option_map awaiting_of p.awaited;
-  known = option_map known_of p.known;
+  known = option_map known_of_discovered p.known;
 }
 
 abbrev pub probe_of : {Dir : Type 0} → State Dir → Probe Dir
@@ -85,14 +85,14 @@ abbrev pub steps_from : {Dir : Type 0} → Fixed Dir → Snapshot Dir → ProbeE
 steps_from c s event state = steps (given c s) (lack_in c s) (served_from c.source) event state
 
 abbrev pub probes_from : {Dir : Type 0} → Fixed Dir → Snapshot Dir → ProbeEvent → Live Dir → Course Dir NodeStop (Live Dir)
-probes_from c s event st = joined s.directory PeerSet (with_probe st) (steps_from c s event (state_of (least_epoch s) st.probe))
+probes_from c s event st = joined_course s.directory PeerSet (with_probe st) (steps_from c s event (state_of (least_epoch s) st.probe))
 
 -- the events that are a probe's, by its names
 abbrev pub probe_event : {Dir : Type 0} → Event Dir → Option ProbeEvent
 probe_event Subscribe = Some event_of.Subscribe
 probe_event Unsubscribe = Some event_of.Unsubscribe
 probe_event Attach = Some event_of.Attach
-probe_event (ProbeReply from bytes) = Some (event_of.Peer from bytes)
+probe_event (PeerReply from bytes) = Some (event_of.Peer from bytes)
 probe_event Retry = Some event_of.Retry
 probe_event event = None
 

@@ -14,10 +14,10 @@ use Rattle.dkg_infos.specs.declared.info.EpochInfo.{EpochInfo}
 use Rattle.dkg_infos.specs.NextInfos.{next_info}
 use Rattle.dkg_types.specs.PayloadCodes.{info_payload}
 use Rattle.dkg_store.specs.Acts.{Held, Ended}
-use Rattle.dkg_core.specs.Courses.{Course, Say, Do, Call, Ask, Goes, Stops, on_devices}
+use Rattle.dkg_core.specs.Courses.{Course, Say, Do, CallOutside, Ask, Goes, Stops, on_devices}
 use Rattle.dkg_core.specs.Said.{Said}
 use Rattle.dkg_core.specs.Fixed.{Fixed}
-use Rattle.dkg_core.specs.Live.{Live, Stage, Deals, Includes, Follows, Ends, Mail, Peer, NextLog, ReleaseLog, EpochInfoOf, Work, Message, Sent, Finalized, Request, Job, is_last_height}
+use Rattle.dkg_core.specs.Live.{Live, Stage, Deals, Includes, Follows, Ends, Mail, Peer, NextLog, ReleaseLog, EpochInfoOf, Work, Message, Mailed, Finalized, Request, Job, is_last_height}
 use Rattle.dkg_core.specs.Logs.{canonical, filled_by}
 use Rattle.dkg_core.specs.Including.{Found, Lacks, payload_bytes, read_of}
 use Rattle.dkg_core.specs.Core.{step}
@@ -30,7 +30,7 @@ use Rattle.dkg_core.specs.Through.{IsFormThrough, IsLiveThrough, IsTakenThrough,
 abbrev pub SaysSo : {Dir F S : Type 0} → (Entry → Type 0) → Course Dir F S → Type 0
 SaysSo P (Say line course) = P line × SaysSo P course
 SaysSo P (Do op course) = SaysSo P course
-SaysSo P (Call outer course) = SaysSo P course
+SaysSo P (CallOutside outer course) = SaysSo P course
 SaysSo P (Ask f) = (h : Held) → SaysSo P (f h)
 SaysSo P (Goes end) = Unit {0}
 SaysSo P (Stops fault) = Unit {0}
@@ -97,7 +97,7 @@ IsBlockLineThrough c stored st b line = Unit {0}
 
 abbrev pub IsLineThrough : {Dir : Type 0} → Fixed Dir → OfShares → Live Dir → Message Dir → Entry → Type 0
 IsLineThrough c stored st (Finalized b) line = IsBlockLineThrough c stored st b line
-IsLineThrough c stored st (Sent mail) line = IsMailLine c st mail line
+IsLineThrough c stored st (Mailed mail) line = IsMailLine c st mail line
 
 -- ANY STEP says such lines alone.
 abbrev pub StepsSayThroughAt : {Dir : Type 0} → Fixed Dir → OfShares → Type 0

@@ -39,7 +39,7 @@ use Rattle.dkg_infos.specs.Validation.{validation}
 use Rattle.dkg_store.specs.Acts.{OnDisk, Changes}
 use Rattle.dkg_store.specs.Dealer.{with_held, with_unsent}
 use Rattle.dkg_journal.specs.Operations.{Prunes}
-use Rattle.dkg_core.specs.Courses.{Course, Say, Do, Call, Ask, Goes, Stops, Marks, bind}
+use Rattle.dkg_core.specs.Courses.{Course, Say, Do, CallOutside, Ask, Goes, Stops, Marks, bind}
 use Rattle.dkg_store.specs.Recorded.{Pair, first_refused}
 use Rattle.dkg_secrets.specs.declared.secrets.SecretOp.TheVariants.{PutShare, PutSeed, Prune}
 use Rattle.dkg_core.specs.Seen.{Seen}
@@ -104,7 +104,7 @@ with_registered epoch scheme st =
 -- The epoch's scheme is registered, and the fence is marked.
 abbrev pub registers : {Dir : Type 0} → Fixed Dir → EpochInfo Dir → Option ℕ → Live Dir → Course Dir Fault (Live Dir)
 registers c info share st =
-    Say (Registered info.epoch (role_of (scheme_for c info share))) (Call (Marks info.epoch) (Goes (with_registered info.epoch (scheme_for c info share) st)))
+    Say (Registered info.epoch (role_of (scheme_for c info share))) (CallOutside (Marks info.epoch) (Goes (with_registered info.epoch (scheme_for c info share) st)))
 
 -- whether a setup's info was committed before
 pub data Standing : Type 0 where

@@ -20,7 +20,7 @@ pub record Anchor (Dir : Type 0) : Type 0 where
   pub block : Block Dir
 
 -- What a source answers: its anchor, the block of a height and of a digest, and the finalization of a height and of the highest block.
-pub record Source (Dir : Type 0) : Type 0 where
+pub record SourceAnswers (Dir : Type 0) : Type 0 where
   pub anchor : Option (Anchor Dir)
   pub block : (height : ℕ) → Option (Block Dir)
   pub by_digest : List ℕ → Option (Block Dir)
@@ -57,7 +57,7 @@ anchored (Some a) = a.block ∷ []
 abbrev pub highest_block : {Dir : Type 0} → List (Block Dir) → Option (Block Dir)
 highest_block blocks = fold (λ best b. if option_map_or (λ a. nat_lt a.height b.height) best true then Some b else best) None blocks
 
-abbrev pub source_over : {Dir : Type 0} → (sealed : Block Dir → Option Finalization) → Option (Anchor Dir) → List (Block Dir) → Source Dir
+abbrev pub source_over : {Dir : Type 0} → (sealed : Block Dir → Option Finalization) → Option (Anchor Dir) → List (Block Dir) → SourceAnswers Dir
 source_over sealed anchor blocks = record {
   anchor = anchor;
   block = λ height. find (λ b. b.height == height) blocks;
@@ -67,5 +67,5 @@ source_over sealed anchor blocks = record {
 }
 
 -- the blocks that a life holds, then its anchor's, and then those that were delivered to it, in their order
-abbrev pub source_of : {Dir : Type 0} → (sealed : Block Dir → Option Finalization) → Option (Anchor Dir) → (held delivered : List (Block Dir)) → Source Dir
+abbrev pub source_of : {Dir : Type 0} → (sealed : Block Dir → Option Finalization) → Option (Anchor Dir) → (held delivered : List (Block Dir)) → SourceAnswers Dir
 source_of sealed anchor held delivered = source_over sealed anchor (held ++ (anchored anchor ++ delivered))

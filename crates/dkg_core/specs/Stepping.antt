@@ -16,7 +16,7 @@ use Rattle.dkg_store.specs.Acts.{Held, World, Ended}
 use Rattle.dkg_core.specs.Courses.{on_devices, EndsSo}
 use Rattle.dkg_core.specs.Said.{Said}
 use Rattle.dkg_core.specs.Fixed.{Fixed}
-use Rattle.dkg_core.specs.Live.{Live, Dealer, NodeStop, Stage, Deals, Follows, Seat, Plays, Watches, Message, Sent, Peer, Finalized, recorded_at, is_last_height, with_tip, with_participation}
+use Rattle.dkg_core.specs.Live.{Live, Dealer, NodeStop, Stage, Deals, Follows, Seat, Plays, Watches, Message, Mailed, Peer, Finalized, recorded_at, is_last_height, with_tip, with_participation}
 use Rattle.dkg_core.specs.Setup.{Uncommitted, WasCommitted, is_past_range, scheme_for, with_registered, anew, unsent_of_round, begins_inclusion}
 use Rattle.dkg_core.specs.Dealing.{with_dealing_of, counts, with_ack}
 use Rattle.dkg_core.specs.Core.{step}
@@ -187,12 +187,12 @@ IsBlockEnd c b st h k Applied end = IsAppliedEnd c b st h k st.participation.sta
 -- what it stops by
 abbrev pub IsStepStop : {Dir : Type 0} → Fixed Dir → Live Dir → Message Dir → (h k : Held) → Fault → Type 0
 IsStepStop c st (Finalized b) h k fault = IsBlockStop c b st h k (judged_block c b st) fault
-IsStepStop c st (Sent mail) h k fault = ⊥
+IsStepStop c st (Mailed mail) h k fault = ⊥
 
 -- .. and what it leaves
 abbrev pub IsStepEnd : {Dir : Type 0} → Fixed Dir → Live Dir → Message Dir → (h k : Held) → Live Dir → Type 0
 IsStepEnd c st (Finalized b) h k end = IsBlockEnd c b st h k (judged_block c b st) end
-IsStepEnd c st (Sent (Peer from bytes)) h k end = IsHeardBy c st from end
+IsStepEnd c st (Mailed (Peer from bytes)) h k end = IsHeardBy c st from end
 IsStepEnd c st message h k end = ⊥
 
 -- A life of the form is left.
@@ -203,14 +203,14 @@ pub record IsNextIn {Dir : Type 0} (c : Fixed Dir) (st : Live Dir) (message : Me
 -- what the devices held as a message's info was set up, where they held h before
 abbrev pub held_at_setup : {Dir : Type 0} → Fixed Dir → Message Dir → Held → Held
 held_at_setup c (Finalized b) h = held_behind_commit c b h
-held_at_setup c (Sent mail) h = h
+held_at_setup c (Mailed mail) h = h
 
 -- what a last block while following leaves of the devices, which held k at the setup
 abbrev pub LeavesTaken : {Dir : Type 0} → Fixed Dir → Live Dir → Message Dir → (k now : Held) → Type 0
 LeavesTaken c st (Finalized b) k now =
     judged_block c b st ≡ Applied → st.participation.stage ≡ Follows → is_last_height c b.height ≡ true
     → IsSomeAnd (info_of b.payload) (λ info. now ≡ set_up_by WasCommitted (next_epoch c b) info (share_read c info k) (seed_read c info k) k)
-LeavesTaken c st (Sent mail) k now = Unit {0}
+LeavesTaken c st (Mailed mail) k now = Unit {0}
 
 -- A STEP stops by these faults alone, or leaves such a life, whatever is read.
 abbrev pub StepsLead : Type 0 → Type 0
@@ -242,7 +242,7 @@ pub record IsSameLife {Dir : Type 0} (st end : Live Dir) : Type 0 where
 -- no epoch's last block that is applied while following
 abbrev pub TakesNothingOver : {Dir : Type 0} → Fixed Dir → Live Dir → Message Dir → Type 0
 TakesNothingOver c st (Finalized b) = judged_block c b st ≡ Applied → st.participation.stage ≡ Follows → is_last_height c b.height ≡ true → ⊥
-TakesNothingOver c st (Sent mail) = Unit {0}
+TakesNothingOver c st (Mailed mail) = Unit {0}
 
 -- THE SAME LIFE GOES ON, where no epoch is taken over.
 abbrev pub NextLivesStay : Type 0 → Type 0

@@ -5,7 +5,7 @@ use Rattle.dkg_store.specs.Acts.{Held, World, Ended}
 use Rattle.dkg_core.specs.Courses.{Throughout, EndsSo}
 use Rattle.dkg_core.specs.Seen.{Seen, seen_in}
 use Rattle.dkg_core.specs.Fixed.{Fixed}
-use Rattle.dkg_core.specs.Live.{Live, NodeStop, Includes, Message, Sent, Finalized}
+use Rattle.dkg_core.specs.Live.{Live, NodeStop, Includes, Message, Mailed, Finalized}
 use Rattle.dkg_core.specs.Core.{opening, step}
 use Rattle.dkg_core.specs.Node.{node_opening, node_step}
 use Rattle.dkg_core.specs.Behind.{event_of}
@@ -27,7 +27,7 @@ KeepsShares min h w = (epoch share : ℕ) → min ≤ epoch → get h.secrets.sh
 -- Whatever is committed, its share is the one that is recovered: it takes no block while including, whose last one commits the share that it makes.
 abbrev pub CommitsRecovered : {Dir : Type 0} → Live Dir → Message Dir → Type 0
 CommitsRecovered st (Finalized b) = st.participation.stage ≡ Includes → ⊥
-CommitsRecovered st (Sent mail) = Unit {0}
+CommitsRecovered st (Mailed mail) = Unit {0}
 
 -- AN OPENING keeps the seeds, of the epoch that it starts in and of the one before on, at every exit,
 abbrev pub OpeningsKeepSeeds : Type 0 → Type 0

@@ -19,7 +19,7 @@ use Rattle.dkg_store.specs.Acts.{Held, World, Ended, OnDisk, held_after}
 use Rattle.dkg_core.specs.Courses.{on_devices, EndsSo}
 use Rattle.dkg_core.specs.Said.{Said}
 use Rattle.dkg_core.specs.Fixed.{Fixed}
-use Rattle.dkg_core.specs.Live.{Live, Stage, Deals, Includes, Follows, Ends, Mail, Peer, NextLog, ReleaseLog, EpochInfoOf, Feed, Over, Cancel, Work, Message, Sent, Finalized, Request, Job, Artifact, GaveNone, awaited_height, recorded_at, is_last_height, with_tip, with_inclusion, with_queue, with_used}
+use Rattle.dkg_core.specs.Live.{Live, Stage, Deals, Includes, Follows, Ends, Mail, Peer, NextLog, ReleaseLog, EpochInfoOf, Feed, Over, Cancel, Work, Message, Mailed, Finalized, Request, Job, Artifact, GaveNone, awaited_height, recorded_at, is_last_height, with_tip, with_inclusion, with_queue, with_used}
 use Rattle.dkg_core.specs.Logs.{canonical, is_accepted}
 use Rattle.dkg_core.specs.Setup.{Standing, Uncommitted, WasCommitted, is_past_range, with_info}
 use Rattle.dkg_core.specs.Including.{releases, queued, changed, is_of_job}
@@ -51,7 +51,7 @@ pub record IsLiveThrough {Dir : Type 0} (c : Fixed Dir) (stored : OfShares) (st 
 
 -- What is handed in as the result of the running verification is one, whoever found it.
 abbrev pub IsTakenThrough : {Dir : Type 0} → Fixed Dir → Message Dir → Live Dir → Type 0
-IsTakenThrough c (Sent (Work (Some r))) st = (job : Job) → st.inclusion.running ≡ Some job → is_of_job r job ≡ true → InRound st (λ round. IsResultIn c round st r)
+IsTakenThrough c (Mailed (Work (Some r))) st = (job : Job) → st.inclusion.running ≡ Some job → is_of_job r job ≡ true → InRound st (λ round. IsResultIn c round st r)
 IsTakenThrough c message st = Unit {0}
 
 -- A SETUP
@@ -212,21 +212,21 @@ WasAsked mail st = (st.participation.stage ≡ Includes) × ((st.inclusion.waite
 -- what it stops by, over what the devices hold where that is known
 abbrev pub IsStopThrough : {Dir : Type 0} → Fixed Dir → OfShares → Live Dir → Message Dir → Option Held → Fault → Type 0
 IsStopThrough c stored st (Finalized b) devices fault = IsBlockStopThrough c stored b st devices (judged_block c b st) fault
-IsStopThrough c stored st (Sent (Peer from bytes)) devices fault = ⊥
-IsStopThrough c stored st (Sent (NextLog request height)) devices fault = ⊥
-IsStopThrough c stored st (Sent (ReleaseLog height)) devices fault = ⊥
-IsStopThrough c stored st (Sent mail) devices fault = WasAsked mail st × IsAskStop c st fault
+IsStopThrough c stored st (Mailed (Peer from bytes)) devices fault = ⊥
+IsStopThrough c stored st (Mailed (NextLog request height)) devices fault = ⊥
+IsStopThrough c stored st (Mailed (ReleaseLog height)) devices fault = ⊥
+IsStopThrough c stored st (Mailed mail) devices fault = WasAsked mail st × IsAskStop c st fault
 
 -- .. and what it leaves, of the life and of the devices
 abbrev pub IsEndThrough : {Dir : Type 0} → Fixed Dir → OfShares → Live Dir → Message Dir → Option Held → Live Dir → Option Held → Type 0
 IsEndThrough c stored st (Finalized b) devices end left = IsBlockThrough c stored b st devices (judged_block c b st) end left
-IsEndThrough c stored st (Sent (Peer from bytes)) devices end left = IsHeardBy c st from end
-IsEndThrough c stored st (Sent mail) devices end left = IsReadFrom c (asked_by mail st) end × (left ≡ devices)
+IsEndThrough c stored st (Mailed (Peer from bytes)) devices end left = IsHeardBy c st from end
+IsEndThrough c stored st (Mailed mail) devices end left = IsReadFrom c (asked_by mail st) end × (left ≡ devices)
 
 -- A block that is applied while dealing goes on only where no recorded dealing of this node is another than its dealer deals.
 abbrev pub NoOwnDiffersAt : {Dir : Type 0} → Fixed Dir → Live Dir → Message Dir → Type 0
 NoOwnDiffersAt c st (Finalized b) = judged_block c b st ≡ Applied → st.participation.stage ≡ Deals → NoOwnDiffers c st
-NoOwnDiffersAt c st (Sent mail) = Unit {0}
+NoOwnDiffersAt c st (Mailed mail) = Unit {0}
 
 -- A life of the form is left.
 pub record IsNextThrough {Dir : Type 0} (c : Fixed Dir) (stored : OfShares) (st : Live Dir) (message : Message Dir) (devices : Option Held) (end : Live Dir) (left : Option Held) : Type 0 where
@@ -267,7 +267,7 @@ StepsLeadThroughOver Dir = (c : Fixed Dir) (stored : OfShares) (st : Live Dir) (
 -- no epoch's last block that is applied
 abbrev pub PassesNothingOn : {Dir : Type 0} → Fixed Dir → Live Dir → Message Dir → Type 0
 PassesNothingOn c st (Finalized b) = judged_block c b st ≡ Applied → is_last_height c b.height ≡ true → ⊥
-PassesNothingOn c st (Sent mail) = Unit {0}
+PassesNothingOn c st (Mailed mail) = Unit {0}
 
 -- The life awaits the same epoch, in the same round and seat, by the same info. Records and requests may be others, and so may the own dealer.
 pub record IsStillThrough {Dir : Type 0} (st end : Live Dir) : Type 0 where

@@ -5,8 +5,8 @@ use Rattle.dkg_infos.specs.declared.entry.Entry.{Entry}
 use Rattle.dkg_infos.specs.declared.entry.Entry.TheVariants.{Opened}
 use Rattle.dkg_infos.specs.declared.fault.Fault.{Fault}
 use Rattle.dkg_store.specs.Acts.{Acts, Held, World, Ended, went, stopped, broken, Runs}
-use Rattle.dkg_core.specs.Courses.{Course, on_devices, EndsSo, Deed, Said, Did, Called, deeds_of, end_of, fault_of}
-use Rattle.dkg_core.specs.Said.{Said as SaysBy}
+use Rattle.dkg_core.specs.Courses.{Course, on_devices, EndsSo, Deed, SaidEntry, DidOperation, CalledOutside, deeds_of, end_of, fault_of}
+use Rattle.dkg_core.specs.Said.{Said}
 use Rattle.dkg_core.specs.Laws.{Law, Holds, IsQuiet}
 use Rattle.dkg_core.specs.Fixed.{Fixed}
 use Rattle.dkg_core.specs.Live.{Live, Message}
@@ -25,9 +25,9 @@ TranscriptsMove F S = (acts : Acts F S) (ended : Ended F S) (w new : World) (oth
 
 abbrev pub deed_lines : {Dir : Type 0} → List (Deed Dir) → List Entry
 deed_lines [] = []
-deed_lines (Said line ∷ deeds) = line ∷ deed_lines deeds
-deed_lines (Did op ∷ deeds) = deed_lines deeds
-deed_lines (Called outer ∷ deeds) = deed_lines deeds
+deed_lines (SaidEntry line ∷ deeds) = line ∷ deed_lines deeds
+deed_lines (DidOperation op ∷ deeds) = deed_lines deeds
+deed_lines (CalledOutside outer ∷ deeds) = deed_lines deeds
 
 -- How it ended by itself: with all its lines, in its end, or by its fault.
 abbrev pub IsOwnEnd : {Dir F S : Type 0} → Course Dir F S → Ended F S → (held now : Held) → (rest : List Entry) → Type 0
@@ -52,9 +52,9 @@ RunsAddDeeds Dir F S = (course : Course Dir F S) (ended : Ended F S) (w new : Wo
 -- Deeds, one after another, each of which the law has behind those before it.
 abbrev pub Obeys : {Dir S : Type 0} → Law Dir S → (past deeds : List (Deed Dir)) → Type 0
 Obeys law past [] = Unit {0}
-Obeys law past (Said line ∷ deeds) = law.line past line × Obeys law (Said line ∷ past) deeds
-Obeys law past (Did op ∷ deeds) = law.operation past op × Obeys law (Did op ∷ past) deeds
-Obeys law past (Called outer ∷ deeds) = Obeys law (Called outer ∷ past) deeds
+Obeys law past (SaidEntry line ∷ deeds) = law.line past line × Obeys law (SaidEntry line ∷ past) deeds
+Obeys law past (DidOperation op ∷ deeds) = law.operation past op × Obeys law (DidOperation op ∷ past) deeds
+Obeys law past (CalledOutside outer ∷ deeds) = Obeys law (CalledOutside outer ∷ past) deeds
 
 -- all of them, the newest first
 abbrev pub deeds_behind : {Dir : Type 0} → (past deeds : List (Deed Dir)) → List (Deed Dir)
@@ -76,14 +76,14 @@ pub record LinesFront {Dir F S : Type 0} (law : Law Dir S) (past : List (Deed Di
 -- LINES THAT A COURSE SAYS keep its laws, whatever the devices tell.
 abbrev pub LinesObey : (Dir F S : Type 0) → Type 1
 LinesObey Dir F S = (law : Law Dir S) (past : List (Deed Dir)) (course : Course Dir F S) (ended : Ended F S) (old new : List Entry)
-    → Holds law past course → SaysBy (on_devices course) ended old new → LinesFront law past ended old new
+    → Holds law past course → Said (on_devices course) ended old new → LinesFront law past ended old new
 
 -- QUIET LINES
 
 -- A STEP says lines of the node's own alone: it neither opens, counts, cuts nor faults.
 abbrev pub StepsAreQuiet : Type 0 → Type 0
 StepsAreQuiet Dir = (c : Fixed Dir) (st : Live Dir) (message : Message Dir) (ended : Ended Fault (Live Dir)) (old new : List Entry)
-    → SaysBy (on_devices (step c message st)) ended old new → (added : List Entry) × (new ≡ old ++ added) × AllByRecursion IsQuiet added
+    → Said (on_devices (step c message st)) ended old new → (added : List Entry) × (new ≡ old ++ added) × AllByRecursion IsQuiet added
 
 -- The line of a life's opening stands first, and lines of the node's own behind it; only what was broken off may have said nothing.
 abbrev pub BeginsOpened : {F S : Type 0} → (life : ℕ) → List Entry → Ended F S → Type 0
@@ -94,4 +94,4 @@ BeginsOpened life lines ended = ⊥
 -- SO DOES AN OPENING, behind its first line.
 abbrev pub OpeningsAreQuiet : Type 0 → Type 0
 OpeningsAreQuiet Dir = (c : Fixed Dir) (ended : Ended Fault (Live Dir)) (old new : List Entry)
-    → SaysBy (on_devices (opening c)) ended old new → (added : List Entry) × (new ≡ old ++ added) × BeginsOpened c.life added ended
+    → Said (on_devices (opening c)) ended old new → (added : List Entry) × (new ≡ old ++ added) × BeginsOpened c.life added ended

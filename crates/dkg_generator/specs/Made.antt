@@ -105,31 +105,31 @@ blocks_of number shown = blocks_with (first_payload shown) (next_of number shown
 -- WHAT REACHES THE NODE
 
 -- a message and who sends it
-abbrev pub Sent : Type 0
-Sent = ℕ × List ℕ
+abbrev pub MessageFrom : Type 0
+MessageFrom = ℕ × List ℕ
 
-abbrev pub peer_of : Sent → Event
+abbrev pub peer_of : MessageFrom → Event
 peer_of sent = Peer sent.0 sent.1
 
 -- a dealing's message to this node
 abbrev pub halves_message : Halves → List ℕ
 halves_message halves = message_spelling (Dealer halves.0 (unwrap_or (lookup this_node halves.1) 0))
 
-abbrev pub dealing_from : (number : ℕ) → Shown → (key : ℕ) → Sent
+abbrev pub dealing_from : (number : ℕ) → Shown → (key : ℕ) → MessageFrom
 dealing_from number shown key = (key, halves_message (dealing_made number shown key))
 
 -- a player's acknowledgement of what this node deals
-abbrev pub ack_from : (number : ℕ) → Shown → (key : ℕ) → Sent
+abbrev pub ack_from : (number : ℕ) → Shown → (key : ℕ) → MessageFrom
 ack_from number shown key = (key, message_spelling (Ack (ack_of key (round_after shown) this_node (halves_of shown this_node (fresh_seed number shown.epoch)).0)))
 
 -- This node is given a share by the first ceremony that ends well, since it holds none before.
 abbrev pub holds_share : (number epoch : ℕ) → Bool
 holds_share number epoch = nat_lt (if failed number == 0 then 1 else 0) epoch
 
-unfoldable pub dealings_of : (number : ℕ) → Shown → List Sent
+unfoldable pub dealings_of : (number : ℕ) → Shown → List MessageFrom
 dealings_of number shown = map (dealing_from number shown) others
 
-unfoldable pub acks_to : (number : ℕ) → Shown → List Sent
+unfoldable pub acks_to : (number : ℕ) → Shown → List MessageFrom
 acks_to number shown = if holds_share number shown.epoch then map (ack_from number shown) others else []
 
 -- a request for what the last block has to carry, which is fed the block below it
@@ -137,7 +137,7 @@ abbrev pub info_request_events : (epoch : ℕ) → List Event
 info_request_events epoch = Info (2 * epoch + 1) ∷ Feed (2 * epoch + 1) (epoch * 64 + 62) ∷ Work ∷ []
 
 -- what follows the delivery of the block at an index of an epoch
-abbrev pub after_block : (dealings acks : List Sent) (epoch index : ℕ) → List Event
+abbrev pub after_block : (dealings acks : List MessageFrom) (epoch index : ℕ) → List Event
 after_block dealings acks epoch index =
     if index == 1 then map peer_of dealings
     else if index == 2 then map peer_of acks
@@ -146,11 +146,11 @@ after_block dealings acks epoch index =
     else if index == 62 then info_request_events epoch
     else []
 
-abbrev pub events_at : (dealings acks : List Sent) (epoch index : ℕ) → List Event
+abbrev pub events_at : (dealings acks : List MessageFrom) (epoch index : ℕ) → List Event
 events_at dealings acks epoch index = Final (epoch * 64 + index) ∷ after_block dealings acks epoch index
 
 -- what is delivered at so many indexes of an epoch from one on
-unfoldable pub events_with : (dealings acks : List Sent) (epoch index count : ℕ) → List Event
+unfoldable pub events_with : (dealings acks : List MessageFrom) (epoch index count : ℕ) → List Event
 events_with dealings acks epoch index count = flat_map (events_at dealings acks epoch) (range_with_len index count)
 
 abbrev pub events_from : (number : ℕ) → Shown → (index count : ℕ) → List Event

@@ -20,8 +20,8 @@ use Rattle.dkg_infos.specs.ParticipantsCodes.{ParticipantsFit, participants_spel
 pub record IsBound {A : Type 0} (fits : A → Type 0) (spelling : A → List ℕ) (bound : ℕ) : Type 0 where
   pub within : (a : A) → fits a → length (spelling a) ≤ bound
 
-pub longer : {A : Type 0} (fits : A → Type 0) (spelling : A → List ℕ) (bound more : ℕ) → IsBound fits spelling bound → bound ≤ more → IsBound fits spelling more
-longer fits spelling bound more b le = record { within = λ a fit. omega (arith, b.within a fit) }
+pub longer_bound : {A : Type 0} (fits : A → Type 0) (spelling : A → List ℕ) (bound more : ℕ) → IsBound fits spelling bound → bound ≤ more → IsBound fits spelling more
+longer_bound fits spelling bound more b le = record { within = λ a fit. omega (arith, b.within a fit) }
 
 pub set_bound : (most : ℕ) (keys : List ℕ) → SetFits most keys → length (set_spelling keys) ≤ 5 + 4 * most
 set_bound most keys fit = omega (arith, fit.in_bound, uint_narrow (length keys) fit.small, set_size keys (length (uint (length keys))) (length keys) refl refl)

@@ -14,9 +14,9 @@ pub struct Transcript {
 
 impl Model for Transcript {
     ghost use Rattle.std.specs.Prelude.{◌-◌, vec_len, vec_capacity};
-    ghost use Rattle.dkg_infos.specs.Told.{Told, coded_told};
+    ghost use Rattle.dkg_infos.specs.Told.{ToldEntries, coded_told};
 
-    ghost Value = { Told };
+    ghost Value = { ToldEntries };
 
     ghost coded = { coded_told };
 

@@ -3,7 +3,7 @@ use Rattle.std.proofs.Common.{◌≡◌, ◌⊎◌, inl, inr, ⊎_elim, ℕ, zer
 use Rattle.std.proofs.lemmas.List.{take_more, drop_more}
 use Rattle.std.specs.FinMap.{get, insert, remove}
 use Rattle.dkg_journal.specs.Names.{Files}
-use Rattle.dkg_journal.specs.Disk.{Allowed, Did, Follows, Inside, IsUnchanged, Lands, files_after}
+use Rattle.dkg_journal.specs.Disk.{Allowed, Did, ImagesFollow, Inside, IsUnchanged, Lands, files_after}
 use Rattle.dkg_journal.specs.Wholes.{Amid, AreOfWhole, Becomes, IsOfWhole, after_all}
 use Rattle.dkg_journal.specs.declared.disk.Op.{Op}
 use Rattle.dkg_journal.specs.declared.disk.Op.TheVariants.{WriteAt, Sync, Barrier, Install, Remove}
@@ -87,8 +87,8 @@ split_at ops i x is low = ap (λ (l : List Op). take i ops ++ l) (ap (λ (y : Op
 
 -- ONE MORE CALL
 
-module _ (ops : List Op) (op : Op) (image mid next : Files → Type 0) (whole : IsOfWhole op) (done : Follows (Becomes ops) image mid) (step : Follows (Inside op) mid next) where
-  pub follows_amid : (rest : List Op) → Follows (Amid (ops ++ op ∷ rest)) image next
+module _ (ops : List Op) (op : Op) (image mid next : Files → Type 0) (whole : IsOfWhole op) (done : ImagesFollow (Becomes ops) image mid) (step : ImagesFollow (Inside op) mid next) where
+  pub follows_amid : (rest : List Op) → ImagesFollow (Amid (ops ++ op ∷ rest)) image next
   follows_amid rest = compose (Becomes ops) (Inside op) (Amid (ops ++ op ∷ rest)) image mid next (λ x y z is inside. ⊎_elim
       (λ (same : z ≡ y). amid_front ops (op ∷ rest) x z (same ∙ is))
       (λ (new : z ≡ files_after op y). subst (λ (l : List Op). Amid l x z) (split rest) (amid_front (ops ++ op ∷ []) rest x z (new ∙ ap (files_after op) is ∙ sym (after_push ops op x))))
@@ -97,7 +97,7 @@ module _ (ops : List Op) (op : Op) (image mid next : Files → Type 0) (whole : 
       split : (rest : List Op) → (ops ++ op ∷ []) ++ rest ≡ ops ++ op ∷ rest
       split rest = append_assoc ops (op ∷ []) rest
 
-  pub follows_becomes : (old new : Files) → Did op old new next → Follows (Becomes (ops ++ op ∷ [])) image next
+  pub follows_becomes : (old new : Files) → Did op old new next → ImagesFollow (Becomes (ops ++ op ∷ [])) image next
   follows_becomes old new did = record {
     each = λ c now.
         let y = step.each c now in
@@ -105,15 +105,15 @@ module _ (ops : List Op) (op : Op) (image mid next : Files → Type 0) (whole : 
         (x.0, x.1, surely_after op old new y.0 c next whole y.2 did now ∙ ap (files_after op) x.2 ∙ sym (after_push ops op x.0));
   }
 
-pub becomes_none : (image : Files → Type 0) → Follows (Becomes []) image image
+pub becomes_none : (image : Files → Type 0) → ImagesFollow (Becomes []) image image
 becomes_none image = record { each = λ c now. (c, now, refl) }
 
-pub becomes_amid : (ops : List Op) (image next : Files → Type 0) → Follows (Becomes ops) image next → Follows (Amid ops) image next
+pub becomes_amid : (ops : List Op) (image next : Files → Type 0) → ImagesFollow (Becomes ops) image next → ImagesFollow (Amid ops) image next
 becomes_amid ops image next step = weaken (Becomes ops) (Amid ops) image next (λ x y now is. amid_all ops x y is) step
 
 -- nothing is loose before, and nothing behind
-pub becomes_lands : (ops : List Op) (old new : Files) (image next : Files → Type 0) → Lands old image → Follows (Becomes ops) image next → new ≡ after_all ops old → Lands new next
+pub becomes_lands : (ops : List Op) (old new : Files) (image next : Files → Type 0) → Lands old image → ImagesFollow (Becomes ops) image next → new ≡ after_all ops old → Lands new next
 becomes_lands ops old new image next lands step is = record { only = λ c now. let x = step.each c now in x.2 ∙ ap (after_all ops) (lands.only x.0 x.1) ∙ sym is }
 
-pub from_same : {D : Type 0} (files : D → Files) (image : D → Files → Type 0) (a b : D) (P : Files → Files → Type 0) (next : Files → Type 0) → IsUnchanged files image a b → Follows P (image b) next → Follows P (image a) next
+pub from_same : {D : Type 0} (files : D → Files) (image : D → Files → Type 0) (a b : D) (P : Files → Files → Type 0) (next : Files → Type 0) → IsUnchanged files image a b → ImagesFollow P (image b) next → ImagesFollow P (image a) next
 from_same files image a b P next same step = record { each = λ c now. let from = step.each c now in (from.0, same.same_images from.0 from.1, from.2) }

@@ -7,7 +7,7 @@ use Rattle.std.specs.Option.{unwrap_or}
 use Rattle.std.specs.Ordering.{eq_by_cmp, nat_cmp}
 use Rattle.std.proofs.lemmas.Bool.Decides.{nat_tests}
 use Rattle.dkg_journal.specs.Names.{Files, name_number}
-use Rattle.dkg_journal.specs.Disk.{Torn, written, SameElse, HasFile, Inside, Follows, Did}
+use Rattle.dkg_journal.specs.Disk.{Torn, written, SameElse, HasFile, Inside, ImagesFollow, Did}
 use Rattle.dkg_journal.specs.Places.{Places, flat_place, place_at}
 use Rattle.dkg_journal.specs.Records.{SectionEntry, entries, placed, IsShut, IsBody, Staged, spelled, behind_gate}
 use Rattle.dkg_journal.specs.Steps.{Firm, IsNextAppend, IsOpenAt, IsSegmentAt, SegmentAt, Into, KeepsBut, AddsEntry, MayAdd, Grows, place_or_start}
@@ -65,20 +65,20 @@ staged_shut bs body place x staged = record { gate = staged.gate; junk = _; is =
 abbrev pub IsParted : (Files → Type 0) → Type 0
 IsParted image = (c : Files) → image c → get c Flat ≡ None
 
-pub keeps_parted : (section : ℕ) (a b : Files → Type 0) → IsParted a → Follows (KeepsBut (Segment section)) a b → IsParted b
+pub keeps_parted : (section : ℕ) (a b : Files → Type 0) → IsParted a → ImagesFollow (KeepsBut (Segment section)) a b → IsParted b
 keeps_parted section a b parted step c now = let d = step.each c now in d.2.others Flat (flat_apart section) ∙ parted d.0 d.1
 
-pub into_parted : (section : ℕ) (P : List ℕ → Type 0) (a b : Files → Type 0) → IsParted a → Follows (Into (Segment section) P) a b → IsParted b
+pub into_parted : (section : ℕ) (P : List ℕ → Type 0) (a b : Files → Type 0) → IsParted a → ImagesFollow (Into (Segment section) P) a b → IsParted b
 into_parted section P a b parted step c now = let d = step.each c now in d.2.0 Flat (flat_apart section) ∙ parted d.0 d.1
 
-pub keeps_behind : (section place n : ℕ) (files : Files) (image next : Files → Type 0) (at : SegmentAt section place files image) → IsParted image → Follows (Into (Segment section) (Torn (place + 1) n at.bytes)) image next → Follows (KeepsBut (Segment section)) image next
+pub keeps_behind : (section place n : ℕ) (files : Files) (image next : Files → Type 0) (at : SegmentAt section place files image) → IsParted image → ImagesFollow (Into (Segment section) (Torn (place + 1) n at.bytes)) image next → ImagesFollow (KeepsBut (Segment section)) image next
 keeps_behind section place n files image next at parted step = weaken _ _ image next (λ d c now into. record {
   others = into.0;
   same = same_at section d c (parted d now) into.0 (bodies_shut at.bs place into.1.bytes _ into.1.there (torn_behind 0 at.bs place n at.bytes into.1.bytes at.shut into.1.so)
       ∙ sym (bodies_shut at.bs place at.bytes _ (at.firm.only d now) at.shut));
 }) step
 
-pub may_add_gate : (section : ℕ) (bs : List (List ℕ)) (body y : List ℕ) (place : ℕ) (files : Files) (image next : Files → Type 0) → Staged 0 bs body place y → Firm (Segment section) y files image → IsParted image → Follows (Into (Segment section) (Torn place 1 y)) image next → Follows (MayAdd (section, body)) image next
+pub may_add_gate : (section : ℕ) (bs : List (List ℕ)) (body y : List ℕ) (place : ℕ) (files : Files) (image next : Files → Type 0) → Staged 0 bs body place y → Firm (Segment section) y files image → IsParted image → ImagesFollow (Into (Segment section) (Torn place 1 y)) image next → ImagesFollow (MayAdd (section, body)) image next
 may_add_gate section bs body y place files image next staged firm parted step = weaken _ _ image next (λ d c now into.
     let before : bodies_at (get d (Segment section)) ≡ bs = bodies_shut bs place y _ (firm.only d now) (staged_shut bs body place y staged) in
     record {
@@ -89,7 +89,7 @@ may_add_gate section bs body y place files image next staged firm parted step = 
           (torn_gate 0 bs body place y into.1.bytes staged into.1.so);
     }) step
 
-pub adds_gate : (section : ℕ) (bs : List (List ℕ)) (body y : List ℕ) (place : ℕ) (files last : Files) (image next : Files → Type 0) → Staged 0 bs body place y → Firm (Segment section) y files image → IsParted image → Firm (Segment section) (written place (1 ∷ []) y) last next → Follows (Into (Segment section) (Torn place 1 y)) image next → Follows (AddsEntry (section, body)) image next
+pub adds_gate : (section : ℕ) (bs : List (List ℕ)) (body y : List ℕ) (place : ℕ) (files last : Files) (image next : Files → Type 0) → Staged 0 bs body place y → Firm (Segment section) y files image → IsParted image → Firm (Segment section) (written place (1 ∷ []) y) last next → ImagesFollow (Into (Segment section) (Torn place 1 y)) image next → ImagesFollow (AddsEntry (section, body)) image next
 adds_gate section bs body y place files last image next staged firm parted firm_last step = record {
   each = λ c now.
       let from = step.each c now in
@@ -103,25 +103,25 @@ adds_gate section bs body y place files last image next staged firm parted firm_
       );
 }
 
-pub same_may_add : (e : SectionEntry) (image : Files → Type 0) → Follows (MayAdd e) image image
+pub same_may_add : (e : SectionEntry) (image : Files → Type 0) → ImagesFollow (MayAdd e) image image
 same_may_add e image = record { each = λ c now. (c, now, record { others = λ q ne. refl; either = inl refl }) }
 
-pub keeps_none : (name : Name) (image : Files → Type 0) → Follows (KeepsBut name) image image
+pub keeps_none : (name : Name) (image : Files → Type 0) → ImagesFollow (KeepsBut name) image image
 keeps_none name image = record { each = λ c now. (c, now, record { others = λ q ne. refl; same = refl }) }
 
-pub keeps_keeps : (name : Name) (a b c : Files → Type 0) → Follows (KeepsBut name) a b → Follows (KeepsBut name) b c → Follows (KeepsBut name) a c
+pub keeps_keeps : (name : Name) (a b c : Files → Type 0) → ImagesFollow (KeepsBut name) a b → ImagesFollow (KeepsBut name) b c → ImagesFollow (KeepsBut name) a c
 keeps_keeps name a b c = compose (KeepsBut name) (KeepsBut name) (KeepsBut name) a b c (λ x y z p q. record { others = λ n ne. q.others n ne ∙ p.others n ne; same = q.same ∙ p.same })
 
-pub keeps_may_add : (e : SectionEntry) (a b : Files → Type 0) → Follows (KeepsBut (Segment e.0)) a b → Follows (MayAdd e) a b
+pub keeps_may_add : (e : SectionEntry) (a b : Files → Type 0) → ImagesFollow (KeepsBut (Segment e.0)) a b → ImagesFollow (MayAdd e) a b
 keeps_may_add e a b step = weaken (KeepsBut (Segment e.0)) (MayAdd e) a b (λ x y now k. record { others = k.others; either = inl k.same }) step
 
-pub then_may_add : (e : SectionEntry) (a b c : Files → Type 0) → Follows (KeepsBut (Segment e.0)) a b → Follows (MayAdd e) b c → Follows (MayAdd e) a c
+pub then_may_add : (e : SectionEntry) (a b c : Files → Type 0) → ImagesFollow (KeepsBut (Segment e.0)) a b → ImagesFollow (MayAdd e) b c → ImagesFollow (MayAdd e) a c
 then_may_add e a b c = compose (KeepsBut (Segment e.0)) (MayAdd e) (MayAdd e) a b c (λ x y z p q. record {
   others = λ name ne. q.others name ne ∙ p.others name ne;
   either = ⊎_elim (λ s. inl (s ∙ p.same)) (λ s. inr (s ∙ ap (λ (l : List SectionEntry). placed l e) p.same)) q.either;
 })
 
-pub then_adds : (e : SectionEntry) (a b c : Files → Type 0) → Follows (KeepsBut (Segment e.0)) a b → Follows (AddsEntry e) b c → Follows (AddsEntry e) a c
+pub then_adds : (e : SectionEntry) (a b c : Files → Type 0) → ImagesFollow (KeepsBut (Segment e.0)) a b → ImagesFollow (AddsEntry e) b c → ImagesFollow (AddsEntry e) a c
 then_adds e a b c = compose (KeepsBut (Segment e.0)) (AddsEntry e) (AddsEntry e) a b c (λ x y z p q. record {
   others = λ name ne. q.others name ne ∙ p.others name ne;
   added = q.added ∙ ap (λ (l : List SectionEntry). placed l e) p.same;
@@ -143,7 +143,7 @@ made_segment section files last next did = record {
 }
 
 -- a section that has no file
-pub made_keeps : (section : ℕ) (files : Files) (image next : Files → Type 0) → IsNextAppend section None files image → Follows (Inside (Install (Segment section) (0 ∷ []))) image next → Follows (KeepsBut (Segment section)) image next
+pub made_keeps : (section : ℕ) (files : Files) (image next : Files → Type 0) → IsNextAppend section None files image → ImagesFollow (Inside (Install (Segment section) (0 ∷ []))) image next → ImagesFollow (KeepsBut (Segment section)) image next
 made_keeps section files image next at step = weaken _ _ image next (λ d c now into. record {
   others = into.0;
   same = ⊎_elim
@@ -176,15 +176,15 @@ module _ (place section : ℕ) (body : List ℕ) (short : length body < 2 ^ 32) 
   is_staged bs x shut = written_behind 0 bs body place x shut short_body
 
   module _ (files1 files2 : Files) (image0 image1 image2 image3 : Files → Type 0) (at : SegmentAt section place files1 image1) (parted : IsParted image0) where
-    pub gate_images : Follows (KeepsBut (Segment section)) image0 image1 → Follows (Into (Segment section) (Torn (place + 1) (length (behind_gate body)) at.bytes)) image1 image2 → Firm (Segment section) (written (place + 1) (behind_gate body) at.bytes) files2 image2
-        → Follows (Into (Segment section) (Torn place 1 (written (place + 1) (behind_gate body) at.bytes))) image2 image3 → Follows (MayAdd (section, body)) image0 image3
+    pub gate_images : ImagesFollow (KeepsBut (Segment section)) image0 image1 → ImagesFollow (Into (Segment section) (Torn (place + 1) (length (behind_gate body)) at.bytes)) image1 image2 → Firm (Segment section) (written (place + 1) (behind_gate body) at.bytes) files2 image2
+        → ImagesFollow (Into (Segment section) (Torn place 1 (written (place + 1) (behind_gate body) at.bytes))) image2 image3 → ImagesFollow (MayAdd (section, body)) image0 image3
     gate_images kept torn firm opened =
         let parted1 = keeps_parted section image0 image1 parted kept in
         let keeps = keeps_keeps _ _ _ _ kept (keeps_behind section place _ files1 image1 image2 at parted1 torn) in
         then_may_add (section, body) _ _ _ keeps (may_add_gate section at.bs body _ place files2 image2 image3 (is_staged at.bs at.bytes at.shut) firm (into_parted section _ image1 image2 parted1 torn) opened)
 
-    pub gate_adds : (last : Files) → Follows (KeepsBut (Segment section)) image0 image1 → Follows (Into (Segment section) (Torn (place + 1) (length (behind_gate body)) at.bytes)) image1 image2 → Firm (Segment section) (written (place + 1) (behind_gate body) at.bytes) files2 image2
-        → Firm (Segment section) (written place (1 ∷ []) (written (place + 1) (behind_gate body) at.bytes)) last image3 → Follows (Into (Segment section) (Torn place 1 (written (place + 1) (behind_gate body) at.bytes))) image2 image3 → Follows (AddsEntry (section, body)) image0 image3
+    pub gate_adds : (last : Files) → ImagesFollow (KeepsBut (Segment section)) image0 image1 → ImagesFollow (Into (Segment section) (Torn (place + 1) (length (behind_gate body)) at.bytes)) image1 image2 → Firm (Segment section) (written (place + 1) (behind_gate body) at.bytes) files2 image2
+        → Firm (Segment section) (written place (1 ∷ []) (written (place + 1) (behind_gate body) at.bytes)) last image3 → ImagesFollow (Into (Segment section) (Torn place 1 (written (place + 1) (behind_gate body) at.bytes))) image2 image3 → ImagesFollow (AddsEntry (section, body)) image0 image3
     gate_adds last kept torn firm done opened =
         let parted1 = keeps_parted section image0 image1 parted kept in
         let keeps = keeps_keeps _ _ _ _ kept (keeps_behind section place _ files1 image1 image2 at parted1 torn) in
@@ -211,7 +211,7 @@ start_is None n is = is
 start_is (Some p) n is = is
 
 -- one file has grown
-pub opened_more : (places places' : Places) (section end n : ℕ) (body : List ℕ) (old new : Files) (image next : Files → Type 0) → IsOpenAt places old image → SegmentAt section end new next → Follows (AddsEntry (section, body)) image next → next new → n ≡ end → places' ≡ insert places section (Some n) → IsOpenAt places' new next
+pub opened_more : (places places' : Places) (section end n : ℕ) (body : List ℕ) (old new : Files) (image next : Files → Type 0) → IsOpenAt places old image → SegmentAt section end new next → ImagesFollow (AddsEntry (section, body)) image next → next new → n ≡ end → places' ≡ insert places section (Some n) → IsOpenAt places' new next
 opened_more places places' section end n body old new image next at segment step now count put =
     let back = step.each new now in
     let others : SameElse (Segment section) back.0 new = back.2.others in
@@ -239,8 +239,8 @@ opened_more places places' section end n body old new image next at segment step
     other_number a b ne = grind (arith, nat_tests)
 
 -- an append that came to its end, and one that did not
-pub grows_ok : {T E : Type 0} (e : SectionEntry) (x : T) (a b : Files → Type 0) → Follows (MayAdd e) a b → Follows (AddsEntry e) a b → Grows {E = E} e (Ok x) a b
+pub grows_ok : {T E : Type 0} (e : SectionEntry) (x : T) (a b : Files → Type 0) → ImagesFollow (MayAdd e) a b → ImagesFollow (AddsEntry e) a b → Grows {E = E} e (Ok x) a b
 grows_ok e x a b may added = record { may = may; added = added }
 
-pub grows_err : {T E : Type 0} (e : SectionEntry) (r : Result T E) (x : E) (a b : Files → Type 0) → r ≡ Err x → Follows (MayAdd e) a b → Grows e r a b
-grows_err {T = T} {E = E} e r x a b is may = record { may = may; added = subst (λ (q : Result T E). OnOk q (Follows (AddsEntry e) a b)) (sym is) tt }
+pub grows_err : {T E : Type 0} (e : SectionEntry) (r : Result T E) (x : E) (a b : Files → Type 0) → r ≡ Err x → ImagesFollow (MayAdd e) a b → Grows e r a b
+grows_err {T = T} {E = E} e r x a b is may = record { may = may; added = subst (λ (q : Result T E). OnOk q (ImagesFollow (AddsEntry e) a b)) (sym is) tt }

@@ -3,7 +3,7 @@ use Rattle.std.proofs.Common.{Bool, cond, ◌≡◌, ◌≢◌, ℕ, zero, suc, 
 use Rattle.std.proofs.lemmas.List.{take_at, drop_at, append-nil, drop-drop}
 use Rattle.std.proofs.lemmas.Bool.Decides.{nat_tests}
 use Rattle.std.proofs.lemmas.Nat.{from_be_bytes-to_be_bytes_4, from_be_bytes-to_be_bytes_8}
-use Rattle.dkg_journal.specs.Records.{number32, number64, read32, read64, bodies, left_over, IsBody, Stops, record_of, spelled, AreBodies}
+use Rattle.dkg_journal.specs.Records.{number32, number64, read32, read64, bodies, left_over, IsBody, HasNoWholeRecord, record_of, spelled, AreBodies}
 
 pub length-number32 : (n : ℕ) → length (number32 n) ≡ 4
 unfolding number32
@@ -38,7 +38,7 @@ next_body least m b more short =
     (one.0 ∙ (λ i. body i ∷ bodies least m (left i)), one.1 ∙ ap (left_over least m) left)
 
 -- where no whole record stands in front, none is read
-no_body : (least n : ℕ) (rest : List ℕ) → Stops least rest → (bodies least n rest ≡ []) × (left_over least n rest ≡ rest)
+no_body : (least n : ℕ) (rest : List ℕ) → HasNoWholeRecord least rest → (bodies least n rest ≡ []) × (left_over least n rest ≡ rest)
 no_body least zero rest stops = (refl, refl)
 no_body least (suc n) [] stops = (refl, refl)
 no_body least (suc n) (gate ∷ rest) stops = (
@@ -47,7 +47,7 @@ no_body least (suc n) (gate ∷ rest) stops = (
 )
 
 -- the records in front, and what stands behind them
-pub read_spelled : (least : ℕ) (bs : List (List ℕ)) (n : ℕ) (rest : List ℕ) → AreBodies least bs → Stops least rest → length (spelled bs) ≤ n → (bodies least n (spelled bs ++ rest) ≡ bs) × (left_over least n (spelled bs ++ rest) ≡ rest)
+pub read_spelled : (least : ℕ) (bs : List (List ℕ)) (n : ℕ) (rest : List ℕ) → AreBodies least bs → HasNoWholeRecord least rest → length (spelled bs) ≤ n → (bodies least n (spelled bs ++ rest) ≡ bs) × (left_over least n (spelled bs ++ rest) ≡ rest)
 read_spelled least [] n rest short stops fits = no_body least n rest stops
 read_spelled least (b ∷ bs) zero rest short stops fits = absurd (omega arith)
 read_spelled least (b ∷ bs) (suc n) rest short stops fits =
@@ -59,7 +59,7 @@ read_spelled least (b ∷ bs) (suc n) rest short stops fits =
     )
 
 -- a gate that isn't open
-pub shut_stops : (least gate : ℕ) (rest : List ℕ) → gate ≢ 1 → Stops least (gate ∷ rest)
+pub shut_stops : (least gate : ℕ) (rest : List ℕ) → gate ≢ 1 → HasNoWholeRecord least (gate ∷ rest)
 shut_stops least gate rest shut = grind (arith, nat_tests)
 
 pub spelled-push : (bs : List (List ℕ)) (b : List ℕ) → spelled (bs ++ b ∷ []) ≡ spelled bs ++ record_of b

@@ -16,7 +16,7 @@ use Rattle.dkg_journal.specs.Records.{Whole, broken_at}
 use Rattle.dkg_journal.specs.Gated.{gated, gated_from}
 use Rattle.dkg_journal.specs.Places.{Places, place_at, flat_place}
 use Rattle.dkg_journal.specs.Found.{EndsAtPlace, FindsSegments, IsWholeFlat, Takes, gated_row}
-use Rattle.dkg_journal.specs.Opening.{broken, broken_rows, broken_with, first_place, mend_at, mend_of, mends, open_calls_with, removes, is_unnamed}
+use Rattle.dkg_journal.specs.Opening.{first_break, broken_rows, broken_with, first_place, mend_at, mend_of, mends, open_calls_with, removes, is_unnamed}
 use Rattle.dkg_journal.specs.Segments.{Segments, parted, segment_rows, segments, segments_with}
 use Rattle.dkg_journal.specs.declared.call.JournalError.{JournalError}
 use Rattle.dkg_journal.specs.declared.call.JournalError.TheVariants.{Corrupt, NoMemory}
@@ -181,7 +181,7 @@ module _ (es : List (Name × List ℕ)) (name : Name) (names : List Name) (waiti
 
       -- .. or isn't whole
       pub along_broken : (place : ℕ) → broken_at 0 bytes ≡ Some place → broken_rows (segment_rows es) ≡ Some (Segment section, place)
-      along_broken place broken = ap (λ (l : List (Name × List ℕ)). broken_rows (segment_rows l)) row.split ∙ ap broken_rows (split_rows row.rest) ∙ broken_found (segment_rows along.done) section bytes place (segment_rows row.rest) along.takes.unbroken broken
+      along_broken place first_break = ap (λ (l : List (Name × List ℕ)). broken_rows (segment_rows l)) row.split ∙ ap broken_rows (split_rows row.rest) ∙ broken_found (segment_rows along.done) section bytes place (segment_rows row.rest) along.takes.unbroken first_break
 
 pub along_all : (es : List (Name × List ℕ)) (waiting : List JournalEntry) (places : Places) (mending : List Op) → Along es [] waiting places mending → Takes [] (segment_rows es) waiting places mending
 along_all es waiting places mending along = by_rest along.rest along.split along.left
@@ -206,7 +206,7 @@ module _ (before : List Op) (es : List (ℕ × List ℕ)) (section : ℕ) (bytes
   }
 
   pub parts_broken : (place : ℕ) → broken_at 0 bytes ≡ Some place → broken_rows es ≡ Some (Segment section, place)
-  parts_broken place broken = ap broken_rows along.split ∙ broken_found along.done section bytes place left along.takes.unbroken broken
+  parts_broken place first_break = ap broken_rows along.split ∙ broken_found along.done section bytes place left along.takes.unbroken first_break
 
 -- FOUND
 

@@ -7,9 +7,9 @@ use Rattle.std.proofs.lemmas.Bool.Decides.{nat_tests}
 use Rattle.dkg_values.specs.declared.name.Name.{Name}
 use Rattle.dkg_values.specs.declared.name.Name.TheVariants.{Plan, Flat, Segment}
 use Rattle.dkg_journal.specs.Names.{Files}
-use Rattle.dkg_journal.specs.Disk.{Follows, IsUnchanged}
+use Rattle.dkg_journal.specs.Disk.{ImagesFollow, IsUnchanged}
 use Rattle.dkg_journal.specs.Gated.{OpensAlike}
-use Rattle.dkg_journal.specs.Opening.{broken}
+use Rattle.dkg_journal.specs.Opening.{first_break}
 use Rattle.dkg_journal.specs.Journals.{IsOpen, append_calls, has_file}
 use Rattle.dkg_journal.specs.Places.{place_at}
 use Rattle.dkg_journal.specs.Pruning.{LeavesAbove, is_below}
@@ -52,7 +52,7 @@ any_of section [] = refl
 any_of section (e ∷ es) = elim (e.0 == section) as (λ (b : Bool). (b || list_any (λ (y : SectionEntry). y.0 == section) es) ≡ nonempty (cond b (e ∷ of_section section es) (of_section section es))) [ true ↦ refl | false ↦ any_of section es ]
 
 -- the file of an entry that was added is there
-pub added_there : (journal : Journal) (files : Files) (e : SectionEntry) (image next : Files → Type 0) → IsOpen journal files next → Follows (AddsEntry e) image next → (c : Files) → next c → is_some (get c (Segment e.0)) ≡ true
+pub added_there : (journal : Journal) (files : Files) (e : SectionEntry) (image next : Files → Type 0) → IsOpen journal files next → ImagesFollow (AddsEntry e) image next → (c : Files) → next c → is_some (get c (Segment e.0)) ≡ true
 added_there journal files e image next at adds c here =
     let from = adds.each c here in
     let no_flat : get c Flat ≡ None = at.only c here Flat flat_plan ∙ at.no_flat in
@@ -80,4 +80,4 @@ leaves_names least old c left = some_keys (λ n. not (is_below least n)) c old (
 
 -- where nothing changed, another opening finds the same
 pub unchanged_alike : {D : Type 0} (files : D → Files) (image : D → Files → Type 0) (a b : D) → IsUnchanged files image a b → OpensAlike (files a) (files b)
-unchanged_alike files image a b same = record { same_broken = ap broken same.same_files; same_entries = ap entries same.same_files }
+unchanged_alike files image a b same = record { same_broken = ap first_break same.same_files; same_entries = ap entries same.same_files }

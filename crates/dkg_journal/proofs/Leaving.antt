@@ -15,10 +15,10 @@ use Rattle.dkg_values.specs.declared.name.Name.TheVariants.{Plan, Flat, Segment}
 use Rattle.dkg_journal.specs.Burn.{Burn}
 use Rattle.dkg_journal.specs.DeviceCall.{DeviceCall}
 use Rattle.dkg_journal.specs.Names.{Files}
-use Rattle.dkg_journal.specs.Disk.{Follows, Lands}
+use Rattle.dkg_journal.specs.Disk.{ImagesFollow, Lands}
 use Rattle.dkg_journal.specs.Fuse.{Ran, RanAll}
 use Rattle.dkg_journal.specs.Opening.{AreUnbroken, removes}
-use Rattle.dkg_journal.specs.Operations.{Prunes, Tried, Finished, after_operation, changing_calls, journaled}
+use Rattle.dkg_journal.specs.Operations.{Prunes, Tried, FinishedOperation, after_operation, changing_calls, journaled}
 use Rattle.dkg_journal.specs.Places.{Places, flat_place, place_at, remove_of, removes_below}
 use Rattle.dkg_journal.specs.Pruning.{LeavesAbove, MayLeave, Thins, is_below, prune_calls}
 use Rattle.dkg_journal.specs.Segments.{segment_rows}
@@ -304,7 +304,7 @@ module _ (min : ℕ) (places : Places) (files : Files) (image : Files → Type 0
       let g = amid_gone min 0 d d c (λ t. is_some (get files (Segment t))) (same_test d now) (gone_start d) (subst (λ (l : List Op). Amid l d c) (file_calls min files) amid) in
       record { least = g.0; low = omega (arith, g.1); leaves = gone_leaves g.0 d c (no_flat d now) g.2 }
 
-  pub may_none : Follows (MayLeave min) image image
+  pub may_none : ImagesFollow (MayLeave min) image image
   may_none = record { each = λ c now. (c, now, record { least = 0; low = omega arith; leaves = gone_leaves 0 c c (no_flat c now) (gone_start c) }) }
 
   zero_and : 0 + min ≡ min
@@ -316,13 +316,13 @@ module _ (min : ℕ) (places : Places) (files : Files) (image : Files → Type 0
       gone_leaves min d c (no_flat d now) (subst (λ (f : Files). Gone min d f) (sym (is ∙ ap (λ (l : List Op). after_all l d) (file_calls min files))) g)
 
   module _ (next : Files → Type 0) where
-    pub prune_may : Follows (Amid (prune_calls min (keys files))) image next → Follows (MayLeave min) image next
+    pub prune_may : ImagesFollow (Amid (prune_calls min (keys files))) image next → ImagesFollow (MayLeave min) image next
     prune_may step = record { each = λ c now. let from = step.each c now in (from.0, from.1, may from.0 c from.1 from.2) }
 
-    pub prune_leaves : Follows (Becomes (prune_calls min (keys files))) image next → Follows (LeavesAbove min) image next
+    pub prune_leaves : ImagesFollow (Becomes (prune_calls min (keys files))) image next → ImagesFollow (LeavesAbove min) image next
     prune_leaves step = record { each = λ c now. let from = step.each c now in (from.0, from.1, does from.0 c from.1 from.2) }
 
-    pub prune_unbroken : Follows (Amid (prune_calls min (keys files))) image next → AreUnbroken next
+    pub prune_unbroken : ImagesFollow (Amid (prune_calls min (keys files))) image next → AreUnbroken next
     prune_unbroken step = record {
       each = λ c now.
           let from = step.each c now in
@@ -335,7 +335,7 @@ module _ (min : ℕ) (places : Places) (files : Files) (image : Files → Type 0
     }
 
     -- the journal is open behind it
-    pub prune_open : (new : Files) (places' : Places) → Follows (Becomes (prune_calls min (keys files))) image next → next new → places' ≡ retain_keys places (nat_le min) → IsOpenAt places' new next
+    pub prune_open : (new : Files) (places' : Places) → ImagesFollow (Becomes (prune_calls min (keys files))) image next → next new → places' ≡ retain_keys places (nat_le min) → IsOpenAt places' new next
     prune_open new places' step now pruned =
         let back = step.each new now in
         let left = does back.0 new back.1 back.2 in
@@ -380,7 +380,7 @@ module _ (min : ℕ) (places : Places) (files : Files) (image : Files → Type 0
       size : length (prune_calls min (keys files)) ≡ changing_calls (Prunes min) (journaled files)
       size = length-map (filter (is_below min) (keys files)) (λ name. Remove name)
 
-      pub prune_tried : {D : Type 0} (made : D → D → List (DeviceCall Op) → Type 0) (a b : D) (f h : Burn) → Follows (Amid (prune_calls min (keys files))) image next → Ran made a b f h (prune_calls min (keys files)) → Tried (Prunes min) files next f h
+      pub prune_tried : {D : Type 0} (made : D → D → List (DeviceCall Op) → Type 0) (a b : D) (f h : Burn) → ImagesFollow (Amid (prune_calls min (keys files))) image next → Ran made a b f h (prune_calls min (keys files)) → Tried (Prunes min) files next f h
       prune_tried made a b f h step ran = record {
         each = λ c now.
             let from = step.each c now in
@@ -389,7 +389,7 @@ module _ (min : ℕ) (places : Places) (files : Files) (image : Files → Type 0
         spent = ran_spent made a b f h (prune_calls min (keys files)) (changing_calls (Prunes min) (journaled files)) size ran;
       }
 
-      pub prune_finished : {D : Type 0} (made : D → D → List (DeviceCall Op) → Type 0) (a b : D) (f h : Burn) (new : Files) → image files → Follows (Becomes (prune_calls min (keys files))) image next → new ≡ after_all (prune_calls min (keys files)) files → RanAll made a b f h (prune_calls min (keys files)) → Finished (Prunes min) files new next f h
+      pub prune_finished : {D : Type 0} (made : D → D → List (DeviceCall Op) → Type 0) (a b : D) (f h : Burn) (new : Files) → image files → ImagesFollow (Becomes (prune_calls min (keys files))) image next → new ≡ after_all (prune_calls min (keys files)) files → RanAll made a b f h (prune_calls min (keys files)) → FinishedOperation (Prunes min) files new next f h
       prune_finished made a b f h new here step is all = record {
         after = standing min new (does files new here is);
         settled = becomes_lands (prune_calls min (keys files)) files new image next lands step is;
@@ -397,8 +397,8 @@ module _ (min : ℕ) (places : Places) (files : Files) (image : Files → Type 0
       }
 
 -- a prune that came to its end, and one that did not
-pub thins_ok : {T E : Type 0} (min : ℕ) (x : T) (a b : Files → Type 0) → Follows (MayLeave min) a b → Follows (LeavesAbove min) a b → Thins {E = E} min (Ok x) a b
+pub thins_ok : {T E : Type 0} (min : ℕ) (x : T) (a b : Files → Type 0) → ImagesFollow (MayLeave min) a b → ImagesFollow (LeavesAbove min) a b → Thins {E = E} min (Ok x) a b
 thins_ok min x a b may left = record { may = may; left = left }
 
-pub thins_err : {T E : Type 0} (min : ℕ) (r : Result T E) (x : E) (a b : Files → Type 0) → r ≡ Err x → Follows (MayLeave min) a b → Thins min r a b
-thins_err {T = T} {E = E} min r x a b is may = record { may = may; left = subst (λ (q : Result T E). OnOk q (Follows (LeavesAbove min) a b)) (sym is) tt }
+pub thins_err : {T E : Type 0} (min : ℕ) (r : Result T E) (x : E) (a b : Files → Type 0) → r ≡ Err x → ImagesFollow (MayLeave min) a b → Thins min r a b
+thins_err {T = T} {E = E} min r x a b is may = record { may = may; left = subst (λ (q : Result T E). OnOk q (ImagesFollow (LeavesAbove min) a b)) (sym is) tt }

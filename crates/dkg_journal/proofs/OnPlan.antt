@@ -12,10 +12,10 @@ use Rattle.dkg_values.specs.declared.name.Name.TheVariants.{Plan, Flat, Segment}
 use Rattle.dkg_journal.specs.Burn.{Burn}
 use Rattle.dkg_journal.specs.DeviceCall.{DeviceCall}
 use Rattle.dkg_journal.specs.Names.{Files, name_cmp, name_number}
-use Rattle.dkg_journal.specs.Disk.{SameElse, Follows, Inside, Did, Lands}
+use Rattle.dkg_journal.specs.Disk.{SameElse, ImagesFollow, Inside, Did, Lands}
 use Rattle.dkg_journal.specs.Fuse.{RanAll}
 use Rattle.dkg_journal.specs.Records.{SectionEntry, entries, entries_with, segment_entries}
-use Rattle.dkg_journal.specs.Operations.{journaled, PutsPlan, ClearsPlan, after_operation, changing_calls, Tried, Finished}
+use Rattle.dkg_journal.specs.Operations.{journaled, PutsPlan, ClearsPlan, after_operation, changing_calls, Tried, FinishedOperation}
 use Rattle.dkg_journal.specs.declared.disk.Op.{Op}
 use Rattle.dkg_journal.specs.declared.disk.Op.TheVariants.{Install, Remove}
 use Rattle.dkg_journal.proofs.Steps.{names_total, exact_names, get_here, weaken, ran_all}
@@ -76,7 +76,7 @@ pub cleared_standing : (old c : Files) → SameElse Plan old c → get c Plan �
 cleared_standing old c others is = stands_for c (after_operation ClearsPlan (journaled old)) (plan_entries old c others) is (unnamed Plan old c others is)
 
 -- one call, whatever it answered
-pub tried_put : {D : Type 0} (made : D → D → List (DeviceCall Op) → Type 0) (a b : D) (f g : Burn) (bytes : List ℕ) (old : Files) (image next : Files → Type 0) → Lands old image → Follows (Inside (Install Plan bytes)) image next → RanAll made a b f g (Install Plan bytes ∷ []) → Tried (PutsPlan bytes) old next f g
+pub tried_put : {D : Type 0} (made : D → D → List (DeviceCall Op) → Type 0) (a b : D) (f g : Burn) (bytes : List ℕ) (old : Files) (image next : Files → Type 0) → Lands old image → ImagesFollow (Inside (Install Plan bytes)) image next → RanAll made a b f g (Install Plan bytes ∷ []) → Tried (PutsPlan bytes) old next f g
 tried_put made a b f g bytes old image next lands step all = record {
   each = λ c now.
       let from = step.each c now in
@@ -89,7 +89,7 @@ tried_put made a b f g bytes old image next lands step all = record {
   spent = ran_spent made a b f g (Install Plan bytes ∷ []) (changing_calls (PutsPlan bytes) (journaled old)) refl (ran_all made a b f g (Install Plan bytes ∷ []) all);
 }
 
-pub tried_clear : {D : Type 0} (made : D → D → List (DeviceCall Op) → Type 0) (a b : D) (f g : Burn) (old : Files) (image next : Files → Type 0) → Lands old image → Follows (Inside (Remove Plan)) image next → RanAll made a b f g (Remove Plan ∷ []) → Tried ClearsPlan old next f g
+pub tried_clear : {D : Type 0} (made : D → D → List (DeviceCall Op) → Type 0) (a b : D) (f g : Burn) (old : Files) (image next : Files → Type 0) → Lands old image → ImagesFollow (Inside (Remove Plan)) image next → RanAll made a b f g (Remove Plan ∷ []) → Tried ClearsPlan old next f g
 tried_clear made a b f g old image next lands step all = record {
   each = λ c now.
       let from = step.each c now in
@@ -102,17 +102,17 @@ tried_clear made a b f g old image next lands step all = record {
   spent = ran_spent made a b f g (Remove Plan ∷ []) (changing_calls ClearsPlan (journaled old)) refl (ran_all made a b f g (Remove Plan ∷ []) all);
 }
 
-pub put_others : (bytes : List ℕ) (a b : Files → Type 0) → Follows (Inside (Install Plan bytes)) a b → Follows (SameElse Plan) a b
+pub put_others : (bytes : List ℕ) (a b : Files → Type 0) → ImagesFollow (Inside (Install Plan bytes)) a b → ImagesFollow (SameElse Plan) a b
 put_others bytes a b step = weaken (Inside (Install Plan bytes)) (SameElse Plan) a b (λ x y now k. k.0) step
 
-pub clear_others : (a b : Files → Type 0) → Follows (Inside (Remove Plan)) a b → Follows (SameElse Plan) a b
+pub clear_others : (a b : Files → Type 0) → ImagesFollow (Inside (Remove Plan)) a b → ImagesFollow (SameElse Plan) a b
 clear_others a b step = weaken (Inside (Remove Plan)) (SameElse Plan) a b (λ x y now k. k.0) step
 
-pub none_others : (a : Files → Type 0) → Follows (SameElse Plan) a a
+pub none_others : (a : Files → Type 0) → ImagesFollow (SameElse Plan) a a
 none_others a = record { each = λ c now. (c, now, λ q ne. refl) }
 
 -- it is done, and a crash leaves what a read gives
-one_file_lands : (name : Name) (old new : Files) (image next : Files → Type 0) → Lands old image → Follows (SameElse name) image next → next new → ((c : Files) → next c → get c name ≡ get new name) → Lands new next
+one_file_lands : (name : Name) (old new : Files) (image next : Files → Type 0) → Lands old image → ImagesFollow (SameElse name) image next → next new → ((c : Files) → next c → get c name ≡ get new name) → Lands new next
 one_file_lands name old new image next lands step now here = record {
   only = λ c is.
       let from = step.each c is in
@@ -128,7 +128,7 @@ put_read bytes old new next did = ap (λ (f : Files). get f Plan) did.reads ∙ 
 pub clear_read : (old new : Files) (next : Files → Type 0) → Did (Remove Plan) old new next → get new Plan ≡ None
 clear_read old new next did = ap (λ (f : Files). get f Plan) did.reads ∙ gone_here old Plan
 
-pub finished_put : {D : Type 0} (made : D → D → List (DeviceCall Op) → Type 0) (a b : D) (f g : Burn) (bytes : List ℕ) (old new : Files) (image next : Files → Type 0) → Lands old image → Follows (Inside (Install Plan bytes)) image next → Did (Install Plan bytes) old new next → next new → RanAll made a b f g (Install Plan bytes ∷ []) → Finished (PutsPlan bytes) old new next f g
+pub finished_put : {D : Type 0} (made : D → D → List (DeviceCall Op) → Type 0) (a b : D) (f g : Burn) (bytes : List ℕ) (old new : Files) (image next : Files → Type 0) → Lands old image → ImagesFollow (Inside (Install Plan bytes)) image next → Did (Install Plan bytes) old new next → next new → RanAll made a b f g (Install Plan bytes ∷ []) → FinishedOperation (PutsPlan bytes) old new next f g
 finished_put made a b f g bytes old new image next lands step did now all =
     let back = step.each new now in
     let rest : SameElse Plan old new = subst (λ (d : Files). SameElse Plan d new) (lands.only back.0 back.1) back.2.0 in
@@ -139,7 +139,7 @@ finished_put made a b f g bytes old new image next lands step did now all =
       spent = all_burnt made a b f g (Install Plan bytes ∷ []) (changing_calls (PutsPlan bytes) (journaled old)) refl all;
     }
 
-pub finished_clear : {D : Type 0} (made : D → D → List (DeviceCall Op) → Type 0) (a b : D) (f g : Burn) (old new : Files) (image next : Files → Type 0) → Lands old image → Follows (Inside (Remove Plan)) image next → Did (Remove Plan) old new next → next new → RanAll made a b f g (Remove Plan ∷ []) → Finished ClearsPlan old new next f g
+pub finished_clear : {D : Type 0} (made : D → D → List (DeviceCall Op) → Type 0) (a b : D) (f g : Burn) (old new : Files) (image next : Files → Type 0) → Lands old image → ImagesFollow (Inside (Remove Plan)) image next → Did (Remove Plan) old new next → next new → RanAll made a b f g (Remove Plan ∷ []) → FinishedOperation ClearsPlan old new next f g
 finished_clear made a b f g old new image next lands step did now all =
     let back = step.each new now in
     let rest : SameElse Plan old new = subst (λ (d : Files). SameElse Plan d new) (lands.only back.0 back.1) back.2.0 in

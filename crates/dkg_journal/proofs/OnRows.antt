@@ -10,11 +10,11 @@ use Rattle.std.proofs.Math.Dec.{T}
 use Rattle.std.proofs.lemmas.Cmp.{tied_itself}
 use Rattle.dkg_values.specs.declared.name.Name.{Name}
 use Rattle.dkg_journal.specs.Names.{Files, name_cmp, name_number, name_at, name_at-name_number}
-use Rattle.dkg_journal.specs.Disk.{Inside, Follows, Did, HasFile, Torn, Lands as Left, after_write}
+use Rattle.dkg_journal.specs.Disk.{Inside, ImagesFollow, Did, HasFile, Torn, Lands as Left, after_write}
 use Rattle.dkg_journal.specs.Kept.{KeptBytes, FileImage, settled, wrote}
 use Rattle.dkg_journal.specs.Table.{Rows, file_at, IsUpdate, made_sure, FileLands, row_bytes, contents, file_bytes, get_contents, matches, MatchFile, RowsImage, reads_image}
 use Rattle.dkg_journal.specs.Fuse.{counted}
-use Rattle.dkg_journal.specs.DeviceCall.{Makes}
+use Rattle.dkg_journal.specs.DeviceCall.{CallMade}
 use Rattle.dkg_journal.specs.Made.{Made, made_one, made_nothing}
 use Rattle.dkg_journal.specs.declared.sure.SureDisk.{SureDisk}
 use Rattle.dkg_journal.specs.declared.disk.Op.{Op}
@@ -142,7 +142,7 @@ replaced_image name o old new update c image = record {
 pub update_only : (name : Name) (o : Option KeptBytes) (old new : Rows) → IsUpdate name (made_sure o) old new → (c : Files) → RowsImage new c → get c name ≡ file_bytes o
 update_only name o old new update c image = sure_only o (get c name) (subst (λ (p : Option KeptBytes). MatchFile p (get c name)) (update_here name (made_sure o) old new update) (image.each name))
 
-pub install_inside : (name : Name) (bytes : List ℕ) (old new : Rows) → IsUpdate name (Some (settled bytes)) old new → Follows (Inside (Install name bytes)) (RowsImage old) (RowsImage new)
+pub install_inside : (name : Name) (bytes : List ℕ) (old new : Rows) → IsUpdate name (Some (settled bytes)) old new → ImagesFollow (Inside (Install name bytes)) (RowsImage old) (RowsImage new)
 install_inside name bytes old new update = record {
   each = λ c image. (
     put_back name (file_bytes (file_at name old)) c,
@@ -151,7 +151,7 @@ install_inside name bytes old new update = record {
   );
 }
 
-pub remove_inside : (name : Name) (old new : Rows) → IsUpdate name None old new → Follows (Inside (Remove name)) (RowsImage old) (RowsImage new)
+pub remove_inside : (name : Name) (old new : Rows) → IsUpdate name None old new → ImagesFollow (Inside (Remove name)) (RowsImage old) (RowsImage new)
 remove_inside name old new update = record {
   each = λ c image. (
     put_back name (file_bytes (file_at name old)) c,
@@ -165,7 +165,7 @@ held_image : (f : KeptBytes) (o : Option (List ℕ)) → MatchFile (Some f) o �
 held_image f (Some x) image = (x, refl, image)
 held_image f None none = absurd none
 
-pub write_inside : (name : Name) (place : ℕ) (bytes : List ℕ) (f : KeptBytes) (old new : Rows) → file_at name old ≡ Some f → place ≤ length f.bytes → f.synced ≤ length f.bytes → IsUpdate name (Some (wrote place bytes f)) old new → Follows (Inside (WriteAt name place bytes)) (RowsImage old) (RowsImage new)
+pub write_inside : (name : Name) (place : ℕ) (bytes : List ℕ) (f : KeptBytes) (old new : Rows) → file_at name old ≡ Some f → place ≤ length f.bytes → f.synced ≤ length f.bytes → IsUpdate name (Some (wrote place bytes f)) old new → ImagesFollow (Inside (WriteAt name place bytes)) (RowsImage old) (RowsImage new)
 write_inside name place bytes f old new was fits synced update = record {
   each = λ c image.
       let here = held_image (wrote place bytes f) (get c name) (subst (λ (o : Option KeptBytes). MatchFile o (get c name)) (update_here name _ old new update) (image.each name)) in
@@ -183,7 +183,7 @@ write_inside name place bytes f old new was fits synced update = record {
 }
 
 -- nothing was done
-pub none_inside : (op : Op) (image : Files → Type 0) → Follows (Inside op) image image
+pub none_inside : (op : Op) (image : Files → Type 0) → ImagesFollow (Inside op) image image
 none_inside op image = record { each = λ c now. (c, now, inside_none op c) }
 
 -- a file that is there, as a disk and as rows
@@ -204,13 +204,13 @@ did_write name place bytes f old new was update = record {
 pub did_sync : (name : Name) (old new : Rows) → IsUpdate name (made_sure (file_at name old)) old new → Did (Sync name) (contents old) (contents new) (RowsImage new)
 did_sync name old new update = record { reads = sync_contents name old new update; durable = λ c image. (sync_image name old new update c image).1 }
 
-pub sync_inside : (name : Name) (old new : Rows) → IsUpdate name (made_sure (file_at name old)) old new → Follows (Inside (Sync name)) (RowsImage old) (RowsImage new)
+pub sync_inside : (name : Name) (old new : Rows) → IsUpdate name (made_sure (file_at name old)) old new → ImagesFollow (Inside (Sync name)) (RowsImage old) (RowsImage new)
 sync_inside name old new update = record { each = λ c image. (c, (sync_image name old new update c image).0, refl) }
 
 pub did_barrier : (old new : Rows) → ((q : Name) → file_at q new ≡ made_sure (file_at q old)) → Did Barrier (contents old) (contents new) (RowsImage new)
 did_barrier old new sure = record { reads = barrier_contents old new sure; durable = λ c image. barrier_only old new sure c image }
 
-pub barrier_inside : (old new : Rows) → ((q : Name) → file_at q new ≡ made_sure (file_at q old)) → Follows (Inside Barrier) (RowsImage old) (RowsImage new)
+pub barrier_inside : (old new : Rows) → ((q : Name) → file_at q new ≡ made_sure (file_at q old)) → ImagesFollow (Inside Barrier) (RowsImage old) (RowsImage new)
 barrier_inside old new sure = record {
   each = λ c image. (c, subst (RowsImage old) (sym (barrier_only old new sure c image)) (reads_image old), refl);
 }
@@ -231,16 +231,16 @@ pub landed : (old new : Rows) → ((q : Name) → FileLands (file_at q old) (fil
 landed old new lands = record { only = λ c image. landed_only old new lands c image }
 
 -- a call that was begun, and then the crash
-pub cut_inside : (op : Op) (old mid new : Rows) → Follows (Inside op) (RowsImage old) (RowsImage mid) → ((q : Name) → FileLands (file_at q mid) (file_at q new)) → Follows (Inside op) (RowsImage old) (RowsImage new)
+pub cut_inside : (op : Op) (old mid new : Rows) → ImagesFollow (Inside op) (RowsImage old) (RowsImage mid) → ((q : Name) → FileLands (file_at q mid) (file_at q new)) → ImagesFollow (Inside op) (RowsImage old) (RowsImage new)
 cut_inside op old mid new begun lands = record { each = λ c image. begun.each c (landed_image mid new lands c image) }
 
 -- nothing was done
-pub same_inside : (op : Op) (old new : Rows) → new ≡ old → Follows (Inside op) (RowsImage old) (RowsImage new)
-same_inside op old new same = subst (λ (r : Rows). Follows (Inside op) (RowsImage old) (RowsImage r)) (sym same) (none_inside op (RowsImage old))
+pub same_inside : (op : Op) (old new : Rows) → new ≡ old → ImagesFollow (Inside op) (RowsImage old) (RowsImage new)
+same_inside op old new same = subst (λ (r : Rows). ImagesFollow (Inside op) (RowsImage old) (RowsImage r)) (sym same) (none_inside op (RowsImage old))
 
 -- the same operation by another name
-pub as_op : (op call : Op) (old new : Rows) → call ≡ op → Follows (Inside op) (RowsImage old) (RowsImage new) → Follows (Inside call) (RowsImage old) (RowsImage new)
-as_op op call old new same step = subst (λ (o : Op). Follows (Inside o) (RowsImage old) (RowsImage new)) (sym same) step
+pub as_op : (op call : Op) (old new : Rows) → call ≡ op → ImagesFollow (Inside op) (RowsImage old) (RowsImage new) → ImagesFollow (Inside call) (RowsImage old) (RowsImage new)
+as_op op call old new same step = subst (λ (o : Op). ImagesFollow (Inside o) (RowsImage old) (RowsImage new)) (sym same) step
 
 -- the names of rows in order are those of the files
 bytes_below : (n : Name) (rows : Rows) → below_all name_cmp n (map row_bytes rows) ≡ below_all name_cmp n rows
@@ -263,10 +263,10 @@ listed_names rows names sorted is =
     is ∙ sym (names_of rows) ∙ ap (λ (l : List (Name × List ℕ)). map (λ e. e.0) l) (sym (ap (λ (m : Files). entries m) same ∙ entries-from_sorted name_cmp es ordered))
 
 -- a call that failed, and changed nothing
-pub failed_inside : (op : Op) (old mid new : SureDisk) → mid ≡ old → new.files ≡ mid.files → Follows (Inside op) (RowsImage old.files) (RowsImage new.files)
+pub failed_inside : (op : Op) (old mid new : SureDisk) → mid ≡ old → new.files ≡ mid.files → ImagesFollow (Inside op) (RowsImage old.files) (RowsImage new.files)
 failed_inside op old mid new same kept = same_inside op old.files new.files (kept ∙ ap (λ (d : SureDisk). d.files) same)
 
-pub failed_made : (op : Op) (old mid new : SureDisk) → mid ≡ old → new.files ≡ mid.files → new.changes ≡ counted mid.changes → Made (Makes op ∷ []) old.changes new.changes old.files new.files
+pub failed_made : (op : Op) (old mid new : SureDisk) → mid ≡ old → new.files ≡ mid.files → new.changes ≡ counted mid.changes → Made (CallMade op ∷ []) old.changes new.changes old.files new.files
 failed_made op old mid new same kept count = made_one op old.changes new.changes old.files new.files (count ∙ ap (λ (d : SureDisk). counted d.changes) same) (failed_inside op old mid new same kept)
 
 pub unmade : (old new : SureDisk) → new ≡ old → Made [] old.changes new.changes old.files new.files

@@ -14,11 +14,11 @@ use Rattle.std.proofs.lemmas.Option.{same_Some, none-some}
 use Rattle.dkg_values.specs.declared.name.Name.{Name}
 use Rattle.dkg_values.specs.declared.name.Name.TheVariants.{Plan, Flat, Segment}
 use Rattle.dkg_journal.specs.Names.{Files, name_cmp, name_number}
-use Rattle.dkg_journal.specs.Disk.{Follows, IsUnchanged, Lands, files_after}
+use Rattle.dkg_journal.specs.Disk.{ImagesFollow, IsUnchanged, Lands, files_after}
 use Rattle.dkg_journal.specs.Records.{Whole, IsShut, broken_at, left_over, entries, entries_with, in_sections}
 use Rattle.dkg_journal.specs.Places.{Places, place_at}
 use Rattle.dkg_journal.specs.Found.{EndsAtPlace, FindsSegments, IsWholeFlat}
-use Rattle.dkg_journal.specs.Opening.{AreUnbroken, broken, broken_with, mend_at, mend_of, mends, open_calls, open_calls_with, removes, is_unnamed}
+use Rattle.dkg_journal.specs.Opening.{AreUnbroken, first_break, broken_with, mend_at, mend_of, mends, open_calls, open_calls_with, removes, is_unnamed}
 use Rattle.dkg_journal.specs.Segments.{Segments, parted, segment_rows, segments, segments_with}
 use Rattle.dkg_journal.specs.Steps.{IsOpenAt, IsSegmentAt, Keeps}
 use Rattle.dkg_journal.specs.Gated.{OpensAlike}
@@ -271,7 +271,7 @@ module _ (f : Files) (none : get f Flat ≡ None) where
       pub keeps_none : Keeps f c
       keeps_none = record { plan = plan_still; same = same_entries c f flat_still none (λ s. (seg_each s).0) }
 
-      pub unbroken_none : broken c ≡ None
+      pub unbroken_none : first_break c ≡ None
       unbroken_none = unbroken_by c flat_still (λ s x is. (seg_each s).1 x is)
 
 -- OVER A FLAT FILE
@@ -315,7 +315,7 @@ removed p q passing (n ∷ names) h is = elim (same_name q n) [
       ]
 ]
 
-module _ (f : Files) (file : List ℕ) (there : get f Flat ≡ Some file) (flat_whole : broken f ≡ None) (bs : List (List ℕ)) (flat_place : ℕ) (whole : Whole 8 bs flat_place file) where
+module _ (f : Files) (file : List ℕ) (there : get f Flat ≡ Some file) (flat_whole : first_break f ≡ None) (bs : List (List ℕ)) (flat_place : ℕ) (whole : Whole 8 bs flat_place file) where
   are : segments f ≡ parted bs
   are = ap (λ (o : Option (List ℕ)). segments_with o f) there ∙ ap parted (whole_bodies 8 bs flat_place file whole)
 
@@ -404,16 +404,16 @@ module _ (f : Files) (file : List ℕ) (there : get f Flat ≡ Some file) (flat_
 
   -- what a stop leaves
   module _ (c : Files) (amid : Amid (open_calls f) f c) where
-    early : get c Flat ≡ Some file → get c Plan ≡ get f Plan → Keeps f c × (broken c ≡ None)
+    early : get c Flat ≡ Some file → get c Plan ≡ get f Plan → Keeps f c × (first_break c ≡ None)
     early flat plan = (
       record { plan = plan; same = ap (λ (o : Option (List ℕ)). entries_with o c) flat ∙ sym (ap (λ (o : Option (List ℕ)). entries_with o f) there) },
       ap (λ (o : Option (List ℕ)). broken_with o c) flat ∙ sym (ap (λ (o : Option (List ℕ)). broken_with o f) there) ∙ flat_whole,
     )
 
-    at_end : c ≡ last → Keeps f c × (broken c ≡ None)
+    at_end : c ≡ last → Keeps f c × (first_break c ≡ None)
     at_end is = (
       record { plan = ap (λ (d : Files). get d Plan) is ∙ plan_last; same = ap entries is ∙ entries_last },
-      ap broken is ∙ unbroken_by last flat_last (λ s x here. by_there s x (get (segments f) s) refl here),
+      ap first_break is ∙ unbroken_by last flat_last (λ s x here. by_there s x (get (segments f) s) refl here),
     )
       where
         by_there : (s : ℕ) (x : List ℕ) (o : Option (List ℕ)) → get (segments f) s ≡ o → get last (Segment s) ≡ Some x → broken_at 0 x ≡ None
@@ -422,7 +422,7 @@ module _ (f : Files) (file : List ℕ) (there : get f Flat ≡ Some file) (flat_
             let at = (seg_last s (Some (length y)) (Some y) is (of_one s bs, y, refl, part_whole s bs y whole.front.short (sym (ap (λ (m : Segments). get m s) are) ∙ is))).0 in
             ap (broken_at 0) (same_Some x at.1 (sym here ∙ at.2)) ∙ shut_unbroken at.0 (length y) at.1 at.3
 
-    pub keeps_some : Keeps f c × (broken c ≡ None)
+    pub keeps_some : Keeps f c × (first_break c ≡ None)
     keeps_some = ⊎_elim
         (λ a. early (amid_else Flat first f c (remove_else Flat flat_apart (segments f) (keys f)) a ∙ there) (amid_else Plan first f c (remove_else Plan plan_no_segment (segments f) (keys f)) a))
         (λ later. ⊎_elim
@@ -454,10 +454,10 @@ open_whole f = by_flat (get f Flat)
 
 module _ (f : Files) (waiting : List JournalEntry) (places : Places) (calls : List Op) (finds : FindsSegments f waiting places calls) where
   -- wherever the calls are stopped
-  pub finds_keeps : (c : Files) → Amid calls f c → Keeps f c × (broken c ≡ None)
+  pub finds_keeps : (c : Files) → Amid calls f c → Keeps f c × (first_break c ≡ None)
   finds_keeps c amid = by_flat (get f Flat) refl finds.flat (subst (λ (l : List Op). Amid l f c) finds.made amid)
     where
-      by_flat : (o : Option (List ℕ)) → get f Flat ≡ o → IsWholeFlat o → Amid (open_calls f) f c → Keeps f c × (broken c ≡ None)
+      by_flat : (o : Option (List ℕ)) → get f Flat ≡ o → IsWholeFlat o → Amid (open_calls f) f c → Keeps f c × (first_break c ≡ None)
       by_flat None is flat amid = (keeps_none f is places finds.ends c amid, unbroken_none f is places finds.ends c amid)
       by_flat (Some file) is flat amid = keeps_some f file is finds.unbroken flat.0 flat.1 flat.2 c amid
 
@@ -485,16 +485,16 @@ module _ (f : Files) (waiting : List JournalEntry) (places : Places) (calls : Li
 
   module _ (image next : Files → Type 0) (lands : Lands f image) where
     -- where nothing was loose
-    amid_here : Follows (Amid calls) image next → (c : Files) → next c → Amid calls f c
+    amid_here : ImagesFollow (Amid calls) image next → (c : Files) → next c → Amid calls f c
     amid_here step c now = let from = step.each c now in subst (λ (d : Files). Amid calls d c) (lands.only from.0 from.1) from.2
 
-    pub follows_keeps : Follows (Amid calls) image next → Follows Keeps image next
+    pub follows_keeps : ImagesFollow (Amid calls) image next → ImagesFollow Keeps image next
     follows_keeps step = record { each = λ c now. let from = step.each c now in (from.0, from.1, subst (λ (d : Files). Keeps d c) (sym (lands.only from.0 from.1)) (finds_keeps c (amid_here step c now)).0) }
 
-    pub follows_unbroken : Follows (Amid calls) image next → AreUnbroken next
+    pub follows_unbroken : ImagesFollow (Amid calls) image next → AreUnbroken next
     follows_unbroken step = record { each = λ c now. (finds_keeps c (amid_here step c now)).1 }
 
-    pub follows_tries : (n : ℕ) → Follows (Amid calls) image next → (c : Files) → next c → TriesOperation (Opens n) f c
+    pub follows_tries : (n : ℕ) → ImagesFollow (Amid calls) image next → (c : Files) → next c → TriesOperation (Opens n) f c
     follows_tries n step c now = let keeps = (finds_keeps c (amid_here step c now)).0 in inr (inr (keeps.same, keeps.plan))
 
   pub finds_alike : (g : Files) → g ≡ after_all calls f → OpensAlike f g
@@ -504,5 +504,5 @@ module _ (f : Files) (waiting : List JournalEntry) (places : Places) (calls : Li
   pub opened_standing : (g : Files) → g ≡ after_all calls f → keys (after_all calls f) ≡ opened_names (entries f) (keys f) → (n : ℕ) → journaled g ≡ after_operation (Opens n) (journaled f)
   opened_standing g is names n = let kept = (finds_keeps g (amid_all calls f g is)).0 in stands_for g (after_operation (Opens n) (journaled f)) kept.same kept.plan (ap (λ (m : Files). keys m) is ∙ names)
 
-pub unchanged_keeps : {D : Type 0} (files : D → Files) (image : D → Files → Type 0) (a b : D) → IsUnchanged files image a b → Follows Keeps (image a) (image b)
+pub unchanged_keeps : {D : Type 0} (files : D → Files) (image : D → Files → Type 0) (a b : D) → IsUnchanged files image a b → ImagesFollow Keeps (image a) (image b)
 unchanged_keeps files image a b same = record { each = λ c now. (c, same.same_images c now, record { plan = refl; same = refl }) }

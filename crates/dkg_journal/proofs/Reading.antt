@@ -5,7 +5,7 @@ use Rattle.std.proofs.lemmas.List.{get_or_past, length-take-le, get_or-take, app
 use Rattle.std.proofs.lemmas.Nat.{be_bytes_4}
 use Rattle.std.proofs.lemmas.Bool.{cases_lt}
 use Rattle.std.proofs.lemmas.Bool.Decides.{nat_tests}
-use Rattle.dkg_journal.specs.Records.{SectionEntry, number32, read32, record_of, spelled, IsBody, Ends, Stops, RecordsFront, Whole, bodies, left_over, open_gate, broken_at, IsShut}
+use Rattle.dkg_journal.specs.Records.{SectionEntry, number32, read32, record_of, spelled, IsBody, HasNoOpenGate, HasNoWholeRecord, RecordsFront, Whole, bodies, left_over, open_gate, broken_at, IsShut}
 use Rattle.dkg_journal.specs.Gated.{gated, gated_from, FrontGated}
 use Rattle.dkg_journal.specs.declared.opening.JournalEntry.{JournalEntry}
 use Rattle.dkg_journal.proofs.Bytes.{spelled-push, short-push, read_spelled, shut_stops, length-number32, read32-number32}
@@ -103,21 +103,21 @@ module _ (least : ℕ) (bs : List (List ℕ)) (place : ℕ) (bytes : List ℕ) (
   pub gated_shut : place < length bytes → IsShut least bs place bytes
   gated_shut gated = by_rest whole.rest refl whole.ends
     where
-      by_rest : (rest : List ℕ) → whole.rest ≡ rest → Ends rest → IsShut least bs place bytes
+      by_rest : (rest : List ℕ) → whole.rest ≡ rest → HasNoOpenGate rest → IsShut least bs place bytes
       by_rest [] is ends = absurd (omega (arith, ap length whole.front.split, length-append (spelled bs) whole.rest, whole.front.size, ap length is))
       by_rest (gate ∷ junk) is ends = whole_shut least bs place bytes whole.rest gate junk whole.front is ends
 
 -- what the definitions read of a front
-pub read_front : (least : ℕ) (bs : List (List ℕ)) (place : ℕ) (bytes rest : List ℕ) → RecordsFront least bs place bytes rest → Stops least rest → (bodies least (length bytes) bytes ≡ bs) × (left_over least (length bytes) bytes ≡ rest)
+pub read_front : (least : ℕ) (bs : List (List ℕ)) (place : ℕ) (bytes rest : List ℕ) → RecordsFront least bs place bytes rest → HasNoWholeRecord least rest → (bodies least (length bytes) bytes ≡ bs) × (left_over least (length bytes) bytes ≡ rest)
 read_front least bs place bytes rest front stops =
     let read = read_spelled least bs (length bytes) rest front.short stops (omega (arith, ap length front.split, length-append (spelled bs) rest)) in
     (ap (bodies least (length bytes)) front.split ∙ read.0, ap (left_over least (length bytes)) front.split ∙ read.1)
 
-ends_stops : (least : ℕ) (rest : List ℕ) → Ends rest → Stops least rest
+ends_stops : (least : ℕ) (rest : List ℕ) → HasNoOpenGate rest → HasNoWholeRecord least rest
 ends_stops least [] ends = tt
 ends_stops least (gate ∷ rest) ends = shut_stops least gate rest ends
 
-no_gate : (n : ℕ) (rest : List ℕ) → Ends rest → open_gate n rest ≡ None
+no_gate : (n : ℕ) (rest : List ℕ) → HasNoOpenGate rest → open_gate n rest ≡ None
 no_gate n [] ends = refl
 no_gate n (gate ∷ rest) ends = grind (arith, nat_tests)
 
@@ -139,9 +139,9 @@ module _ (least : ℕ) (bs : List (List ℕ)) (place : ℕ) (bytes : List ℕ) (
   rest_size = ap length whole.front.split ∙ length-append (spelled bs) whole.rest ∙ ap (λ (n : ℕ). n + length whole.rest) whole.front.size
 
 -- an open gate before what is no whole record
-broken_front : (least : ℕ) (bs : List (List ℕ)) (place : ℕ) (bytes rest after : List ℕ) → RecordsFront least bs place bytes rest → rest ≡ 1 ∷ after → Stops least (1 ∷ after) → broken_at least bytes ≡ Some place
+broken_front : (least : ℕ) (bs : List (List ℕ)) (place : ℕ) (bytes rest after : List ℕ) → RecordsFront least bs place bytes rest → rest ≡ 1 ∷ after → HasNoWholeRecord least (1 ∷ after) → broken_at least bytes ≡ Some place
 broken_front least bs place bytes rest after front is_open stops =
-    let read = read_front least bs place bytes rest front (subst (Stops least) (sym is_open) stops) in
+    let read = read_front least bs place bytes rest front (subst (HasNoWholeRecord least) (sym is_open) stops) in
     let long : length bytes ≡ place + suc (length after) = ap length front.split ∙ length-append (spelled bs) rest ∙ (λ i. front.size i + ap length is_open i) in
     ap (open_gate (length bytes)) (read.1 ∙ is_open) ∙ ap (λ (n : ℕ). Some n) (omega (arith, long))
 
@@ -153,5 +153,5 @@ broken_body least bs place bytes rest after body next front is_open is fits shor
     let counts : read32 after ≡ length body = ap read32 is ∙ read32-number32 (length body) (body ++ next) fits in
     broken_front least bs place bytes rest after front is_open (few (omega (arith, counts, short)))
   where
-    few : read32 after < least → Stops least (1 ∷ after)
+    few : read32 after < least → HasNoWholeRecord least (1 ∷ after)
     few low = grind (arith, nat_tests)

@@ -6,11 +6,11 @@ use Rattle.dkg_values.specs.declared.name.Name.TheVariants.{Plan, Segment}
 use Rattle.dkg_journal.specs.Burn.{Burn}
 use Rattle.dkg_journal.specs.DeviceCall.{DeviceCall}
 use Rattle.dkg_journal.specs.Names.{Files, name_number}
-use Rattle.dkg_journal.specs.Disk.{SameElse, HasFile, Follows, Lands, IsUnchanged}
+use Rattle.dkg_journal.specs.Disk.{SameElse, HasFile, ImagesFollow, Lands, IsUnchanged}
 use Rattle.dkg_journal.specs.Fuse.{Ran, RanAll}
 use Rattle.dkg_journal.specs.Records.{SectionEntry, entries, placed}
 use Rattle.dkg_journal.specs.Steps.{Firm, IsNextAppend, SegmentAt, KeepsBut, AddsEntry, MayAdd, Into, append_calls_at}
-use Rattle.dkg_journal.specs.Operations.{Journaled, journaled, with_name, JournalOperation, Appends, after_operation, changing_calls, InPart, TriesOperation, Tried, Finished, TriedOn, FinishedOn, Does}
+use Rattle.dkg_journal.specs.Operations.{Journaled, journaled, with_name, JournalOperation, Appends, after_operation, changing_calls, InPart, TriesOperation, Tried, FinishedOperation, TriedOn, FinishedOn, Does}
 use Rattle.dkg_journal.specs.declared.disk.Op.{Op}
 use Rattle.dkg_journal.proofs.Steps.{weaken}
 use Rattle.dkg_journal.proofs.SameFiles.{same_files, named, has_key}
@@ -41,11 +41,11 @@ pub tried_none : (op : JournalOperation) (old : Files) (image : Files → Type 0
 tried_none op old image f lands = record { each = tries_none op old image lands; spent = none_spent (changing_calls op (journaled old)) f }
 
 -- the file is in each image
-pub into_has : (name : Name) (P : List ℕ → Type 0) (a b : Files → Type 0) → Follows (Into name P) a b → (c : Files) → b c → HasFile c name (λ file. Unit {0})
+pub into_has : (name : Name) (P : List ℕ → Type 0) (a b : Files → Type 0) → ImagesFollow (Into name P) a b → (c : Files) → b c → HasFile c name (λ file. Unit {0})
 into_has name P a b step c now = let from = step.each c now in record { bytes = from.2.1.bytes; there = from.2.1.there; so = tt }
 
 -- an append behind the first of its calls
-pub tries_append : (e : SectionEntry) (old : Files) (image next : Files → Type 0) → Lands old image → Follows (MayAdd e) image next → ((c : Files) → next c → HasFile c (Segment e.0) (λ file. Unit {0})) → (c : Files) → next c → TriesOperation (Appends e) old c
+pub tries_append : (e : SectionEntry) (old : Files) (image next : Files → Type 0) → Lands old image → ImagesFollow (MayAdd e) image next → ((c : Files) → next c → HasFile c (Segment e.0) (λ file. Unit {0})) → (c : Files) → next c → TriesOperation (Appends e) old c
 tries_append e old image next lands step has c now =
     let from = step.each c now in
     let is : from.0 ≡ old = lands.only from.0 from.1 in
@@ -53,7 +53,7 @@ tries_append e old image next lands step has c now =
     inr (⊎_elim (λ same. inr (appended_in_part e old c may.others (has c now) same)) (λ added. inl (appended e old c may.others (has c now) added)) may.either)
 
 -- .. and before or in it
-pub tries_make : (e : SectionEntry) (place : Option ℕ) (old : Files) (image next : Files → Type 0) → IsNextAppend e.0 place old image → Lands old image → Follows (KeepsBut (Segment e.0)) image next → ((p : ℕ) → place ≡ Some p → (c : Files) → next c → image c) → (c : Files) → next c → TriesOperation (Appends e) old c
+pub tries_make : (e : SectionEntry) (place : Option ℕ) (old : Files) (image next : Files → Type 0) → IsNextAppend e.0 place old image → Lands old image → ImagesFollow (KeepsBut (Segment e.0)) image next → ((p : ℕ) → place ≡ Some p → (c : Files) → next c → image c) → (c : Files) → next c → TriesOperation (Appends e) old c
 tries_make e (Some p) old image next at lands step same c now = tries_none (Appends e) old image lands c (same p refl c now)
 tries_make e None old image next at lands step same c now =
     let from = step.each c now in
@@ -66,7 +66,7 @@ tries_make e None old image next at lands step same c now =
     by_file keeps None is = inl (ap journaled (same_files (Segment e.0) old c keeps.others (is ∙ sym at.at)))
 
 -- nothing is loose then
-pub settled_file : (name : Name) (x : List ℕ) (old new : Files) (image next : Files → Type 0) → Lands old image → Firm name x new next → Follows (SameElse name) image next → next new → Lands new next
+pub settled_file : (name : Name) (x : List ℕ) (old new : Files) (image next : Files → Type 0) → Lands old image → Firm name x new next → ImagesFollow (SameElse name) image next → next new → Lands new next
 settled_file name x old new image next lands firm step now = record {
   only = λ c here.
       let from = step.each c here in
@@ -76,7 +76,7 @@ settled_file name x old new image next lands firm step now = record {
       same_files name new c (λ q ne. apart q ne ∙ sym (rest q ne)) (firm.only c here ∙ sym firm.there);
 }
 
-adds_else : (e : SectionEntry) (a b : Files → Type 0) → Follows (AddsEntry e) a b → Follows (SameElse (Segment e.0)) a b
+adds_else : (e : SectionEntry) (a b : Files → Type 0) → ImagesFollow (AddsEntry e) a b → ImagesFollow (SameElse (Segment e.0)) a b
 adds_else e a b step = weaken (AddsEntry e) (SameElse (Segment e.0)) a b (λ x y now k. k.others) step
 
 -- the calls of an append, of what the files are
@@ -87,7 +87,7 @@ append_size None e old image at = sym (ap (λ (b : Bool). cond b 4 5) (has_key o
 pub tried_append : {D : Type 0} (made : D → D → List (DeviceCall Op) → Type 0) (a b : D) (f g : Burn) (place : Option ℕ) (e : SectionEntry) (old : Files) (image next : Files → Type 0) → IsNextAppend e.0 place old image → Ran made a b f g (append_calls_at place e) → ((c : Files) → next c → TriesOperation (Appends e) old c) → Tried (Appends e) old next f g
 tried_append made a b f g place e old image next at ran each = record { each = each; spent = ran_spent made a b f g (append_calls_at place e) (changing_calls (Appends e) (journaled old)) (append_size place e old image at) ran }
 
-pub finished_append : {D : Type 0} (made : D → D → List (DeviceCall Op) → Type 0) (a b : D) (f g : Burn) (place : Option ℕ) (end : ℕ) (e : SectionEntry) (old new : Files) (image next : Files → Type 0) → IsNextAppend e.0 place old image → Lands old image → SegmentAt e.0 end new next → Follows (AddsEntry e) image next → next new → RanAll made a b f g (append_calls_at place e) → Finished (Appends e) old new next f g
+pub finished_append : {D : Type 0} (made : D → D → List (DeviceCall Op) → Type 0) (a b : D) (f g : Burn) (place : Option ℕ) (end : ℕ) (e : SectionEntry) (old new : Files) (image next : Files → Type 0) → IsNextAppend e.0 place old image → Lands old image → SegmentAt e.0 end new next → ImagesFollow (AddsEntry e) image next → next new → RanAll made a b f g (append_calls_at place e) → FinishedOperation (Appends e) old new next f g
 finished_append made a b f g place end e old new image next at lands segment step now all =
     let from = step.each new now in
     let adds : AddsEntry e old new = subst (λ (d : Files). AddsEntry e d new) (lands.only from.0 from.1) from.2 in

@@ -8,7 +8,7 @@ use Rattle.std.specs.FinMap.{nat_cmp-IsAntisymmetric, IsAntisymmetric}
 use Rattle.std.specs.Ordering.{eq_by_cmp, nat_cmp, on}
 use Rattle.std.proofs.lemmas.Cmp.{on_total, tied_itself}
 use Rattle.dkg_journal.specs.Names.{Files, name_cmp, name_number, name_at, name_at-name_number}
-use Rattle.dkg_journal.specs.Disk.{Torn, written, Inside, Follows, Did, after_write}
+use Rattle.dkg_journal.specs.Disk.{Torn, written, Inside, ImagesFollow, Did, after_write}
 use Rattle.dkg_journal.specs.Steps.{Firm, Into}
 use Rattle.dkg_journal.specs.Burn.{Burn}
 use Rattle.dkg_journal.specs.DeviceCall.{DeviceCall, call_at}
@@ -26,21 +26,21 @@ exact_names a b tied = sym (name_at-name_number a) ∙ ap name_at (nat_cmp-IsAnt
 pub get_here : (f : Files) (name : Name) (bytes : List ℕ) → get (insert f name bytes) name ≡ Some bytes
 get_here f name bytes = get-insert names_total f name bytes name ∙ ap (λ r. cond (Rattle.std.specs.Ordering.is_eq r) (Some bytes) (get f name)) (tied_itself names_total name)
 
-pub compose : (P Q R : Files → Files → Type 0) (a b c : Files → Type 0) → ((x y z : Files) → P x y → Q y z → R x z) → Follows P a b → Follows Q b c → Follows R a c
+pub compose : (P Q R : Files → Files → Type 0) (a b c : Files → Type 0) → ((x y z : Files) → P x y → Q y z → R x z) → ImagesFollow P a b → ImagesFollow Q b c → ImagesFollow R a c
 compose P Q R a b c joins first second = record {
   each = λ z now.
       let y = second.each z now in
       let x = first.each y.0 y.1 in (x.0, x.1, joins x.0 y.0 z x.2 y.2);
 }
 
-pub weaken : (P Q : Files → Files → Type 0) (a b : Files → Type 0) → ((x y : Files) → a x → P x y → Q x y) → Follows P a b → Follows Q a b
+pub weaken : (P Q : Files → Files → Type 0) (a b : Files → Type 0) → ((x y : Files) → a x → P x y → Q x y) → ImagesFollow P a b → ImagesFollow Q a b
 weaken P Q a b so step = record { each = λ y now. let x = step.each y now in (x.0, x.1, so x.0 y x.1 x.2) }
 
 -- a write to a firm file
-pub torn_into : (name : Name) (x bytes : List ℕ) (place : ℕ) (files : Files) (image next : Files → Type 0) → Firm name x files image → Follows (Inside (WriteAt name place bytes)) image next → Follows (Into name (Torn place (length bytes) x)) image next
+pub torn_into : (name : Name) (x bytes : List ℕ) (place : ℕ) (files : Files) (image next : Files → Type 0) → Firm name x files image → ImagesFollow (Inside (WriteAt name place bytes)) image next → ImagesFollow (Into name (Torn place (length bytes) x)) image next
 torn_into name x bytes place files image next firm step = weaken _ _ image next (λ d c now into. (into.0, into.1 x (firm.only d now))) step
 
-pub synced_into : (name : Name) (P : List ℕ → Type 0) (a b c : Files → Type 0) → Follows (Into name P) a b → Follows (Inside (Sync name)) b c → Follows (Into name P) a c
+pub synced_into : (name : Name) (P : List ℕ → Type 0) (a b c : Files → Type 0) → ImagesFollow (Into name P) a b → ImagesFollow (Inside (Sync name)) b c → ImagesFollow (Into name P) a c
 synced_into name P a b c first second = compose _ _ _ a b c (λ x y z into same. subst (λ (f : Files). Into name P x f) (sym same) into) first second
 
 pub firm_write : (name : Name) (x bytes : List ℕ) (place : ℕ) (files mid last : Files) (image between next : Files → Type 0) → Firm name x files image → Did (WriteAt name place bytes) files mid between → Did (Sync name) mid last next → Firm name (written place bytes x) last next

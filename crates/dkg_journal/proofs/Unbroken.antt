@@ -9,8 +9,8 @@ use Rattle.std.proofs.lemmas.Bool.{cases_eq}
 use Rattle.std.proofs.lemmas.Bool.Decides.{nat_tests}
 use Rattle.std.proofs.lemmas.Option.{same_Some, none-some}
 use Rattle.dkg_journal.specs.Names.{Files, name_cmp, name_number}
-use Rattle.dkg_journal.specs.Disk.{Torn, Inside, Follows, IsUnchanged, SameElse}
-use Rattle.dkg_journal.specs.Opening.{AreUnbroken, broken, broken_with, broken_rows, first_place}
+use Rattle.dkg_journal.specs.Disk.{Torn, Inside, ImagesFollow, IsUnchanged, SameElse}
+use Rattle.dkg_journal.specs.Opening.{AreUnbroken, first_break, broken_with, broken_rows, first_place}
 use Rattle.dkg_journal.specs.Places.{Places, place_at}
 use Rattle.dkg_journal.specs.Records.{IsShut, Staged, broken_at}
 use Rattle.dkg_journal.specs.Segments.{segment_rows}
@@ -126,20 +126,20 @@ pub file_rows_sorted : (f : Files) → T (is_sorted nat_cmp (segment_rows (map_o
 file_rows_sorted f = rows_sorted (map_of.entries f) (entries_sorted f)
 
 module _ (f : Files) (none : get f Flat ≡ None) where
-  is_rows : broken f ≡ broken_rows (segment_rows (map_of.entries f))
+  is_rows : first_break f ≡ broken_rows (segment_rows (map_of.entries f))
   is_rows = ap (λ (o : Option (List ℕ)). broken_with o f) none
 
   found : (s : ℕ) → find nat_cmp s (segment_rows (map_of.entries f)) ≡ get f (Segment s)
   found s = rows_find s (map_of.entries f) ∙ sym (get-entries f (Segment s))
 
-  pub whole_at : broken f ≡ None → (s : ℕ) (x : List ℕ) → get f (Segment s) ≡ Some x → broken_at 0 x ≡ None
+  pub whole_at : first_break f ≡ None → (s : ℕ) (x : List ℕ) → get f (Segment s) ≡ Some x → broken_at 0 x ≡ None
   whole_at unbroken s x is = rows_whole (segment_rows (map_of.entries f)) (sym is_rows ∙ unbroken) s x (found s ∙ is)
 
-  pub unbroken_by : ((s : ℕ) (x : List ℕ) → get f (Segment s) ≡ Some x → broken_at 0 x ≡ None) → broken f ≡ None
+  pub unbroken_by : ((s : ℕ) (x : List ℕ) → get f (Segment s) ≡ Some x → broken_at 0 x ≡ None) → first_break f ≡ None
   unbroken_by each = is_rows ∙ rows_unbroken (segment_rows (map_of.entries f)) (file_rows_sorted f) (λ s x is. each s x (sym (found s) ∙ is))
 
 -- one segment is another
-pub unbroken_change : (section : ℕ) (d c : Files) → get d Flat ≡ None → SameElse (Segment section) d c → broken d ≡ None → ((x : List ℕ) → get c (Segment section) ≡ Some x → broken_at 0 x ≡ None) → broken c ≡ None
+pub unbroken_change : (section : ℕ) (d c : Files) → get d Flat ≡ None → SameElse (Segment section) d c → first_break d ≡ None → ((x : List ℕ) → get c (Segment section) ≡ Some x → broken_at 0 x ≡ None) → first_break c ≡ None
 unbroken_change section d c no_flat others unbroken whole = unbroken_by c (others Flat (flat_apart section) ∙ no_flat) (λ s x is. elim (cases_eq s section) [
   | inl at ↦ whole x (ap (λ (n : ℕ). get c (Segment n)) (sym at) ∙ is)
   | inr ne ↦ whole_at d no_flat unbroken s x (sym (others (Segment s) (segments_apart s section ne)) ∙ is)
@@ -165,7 +165,7 @@ pub unchanged_unbroken : {D : Type 0} (files : D → Files) (image : D → Files
 unchanged_unbroken files image a b same sound = record { each = λ c now. sound.each c (same.same_images c now) }
 
 -- the install of a new segment
-pub made_unbroken : (section : ℕ) (image next : Files → Type 0) → IsParted image → AreUnbroken image → Follows (Inside (Install (Segment section) (0 ∷ []))) image next → AreUnbroken next
+pub made_unbroken : (section : ℕ) (image next : Files → Type 0) → IsParted image → AreUnbroken image → ImagesFollow (Inside (Install (Segment section) (0 ∷ []))) image next → AreUnbroken next
 made_unbroken section image next parted sound step = record {
   each = λ c now.
       let from = step.each c now in
@@ -176,7 +176,7 @@ made_unbroken section image next parted sound step = record {
 }
 
 -- the write behind the closed gate
-pub behind_unbroken : (section place n : ℕ) (files : Files) (image next : Files → Type 0) (at : SegmentAt section place files image) → IsParted image → AreUnbroken image → Follows (Into (Segment section) (Torn (place + 1) n at.bytes)) image next → AreUnbroken next
+pub behind_unbroken : (section place n : ℕ) (files : Files) (image next : Files → Type 0) (at : SegmentAt section place files image) → IsParted image → AreUnbroken image → ImagesFollow (Into (Segment section) (Torn (place + 1) n at.bytes)) image next → AreUnbroken next
 behind_unbroken section place n files image next at parted sound step = record {
   each = λ c now.
       let from = step.each c now in
@@ -186,7 +186,7 @@ behind_unbroken section place n files image next at parted sound step = record {
 }
 
 -- .. and of the gate
-pub gate_unbroken : (section : ℕ) (bs : List (List ℕ)) (body y : List ℕ) (place : ℕ) (image next : Files → Type 0) → Staged 0 bs body place y → IsParted image → AreUnbroken image → Follows (Into (Segment section) (Torn place 1 y)) image next → AreUnbroken next
+pub gate_unbroken : (section : ℕ) (bs : List (List ℕ)) (body y : List ℕ) (place : ℕ) (image next : Files → Type 0) → Staged 0 bs body place y → IsParted image → AreUnbroken image → ImagesFollow (Into (Segment section) (Torn place 1 y)) image next → AreUnbroken next
 gate_unbroken section bs body y place image next staged parted sound step = record {
   each = λ c now.
       let from = step.each c now in

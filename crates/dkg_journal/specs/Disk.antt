@@ -37,7 +37,7 @@ Inside (Install name bytes) old new = SameElse name old new × ((get new name �
 Inside (Remove name) old new = SameElse name old new × ((get new name ≡ get old name) ⊎ (get new name ≡ None))
 
 -- each new image is an old image after a step
-pub record Follows (step : Files → Files → Type 0) (old new : Files → Type 0) : Type 0 where
+pub record ImagesFollow (step : Files → Files → Type 0) (old new : Files → Type 0) : Type 0 where
   pub each : (c : Files) → new c → (d : Files) × old d × step d c
 
 -- A write wants a file that is there, and a place in it or at its end.

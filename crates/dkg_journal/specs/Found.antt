@@ -8,7 +8,7 @@ use Rattle.dkg_journal.specs.Records.{Whole, bodies}
 use Rattle.dkg_journal.specs.Gated.{gated, gated_from}
 use Rattle.dkg_journal.specs.Places.{Places, place_at}
 use Rattle.dkg_journal.specs.Segments.{segments}
-use Rattle.dkg_journal.specs.Opening.{broken, broken_rows, mends, open_calls}
+use Rattle.dkg_journal.specs.Opening.{first_break, broken_rows, mends, open_calls}
 use Rattle.dkg_values.specs.declared.name.Name.TheVariants.{Flat}
 use Rattle.dkg_journal.specs.declared.disk.Op.{Op}
 use Rattle.dkg_journal.specs.declared.opening.JournalEntry.{JournalEntry}
@@ -39,5 +39,5 @@ pub record FindsSegments (files : Files) (waiting : List JournalEntry) (places :
   pub listed : map gated waiting ≡ flat_map gated_row (map_of.entries (segments files))
   pub ends : (section : ℕ) → EndsAtPlace (place_at places section) (get (segments files) section)
   pub made : calls ≡ open_calls files
-  pub unbroken : broken files ≡ None
+  pub unbroken : first_break files ≡ None
   pub flat : IsWholeFlat (get files Flat)

@@ -1,7 +1,7 @@
 -- Entries with the places of their gates.
 use Rattle.std.specs.Prelude.{◌≡◌, ℕ, ◌+◌, ◌==◌, if◌then◌else◌, List, [], ◌∷◌, ◌++◌, map, length}
 use Rattle.dkg_journal.specs.Names.{Files}
-use Rattle.dkg_journal.specs.Opening.{broken}
+use Rattle.dkg_journal.specs.Opening.{first_break}
 use Rattle.dkg_journal.specs.Records.{SectionEntry, RecordsFront, entries}
 use Rattle.dkg_journal.specs.declared.opening.JournalEntry.{JournalEntry}
 
@@ -28,7 +28,7 @@ gated_entries files = gated_of (entries files)
 
 -- An opening finds the same in both: the record that is not whole, and the entries.
 pub record OpensAlike (old new : Files) : Type 0 where
-  pub same_broken : broken new ≡ broken old
+  pub same_broken : first_break new ≡ first_break old
   pub same_entries : entries new ≡ entries old
 
 -- The bytes are whole records with these entries up to this place, each with the place of its gate, and a rest. Others stood before.

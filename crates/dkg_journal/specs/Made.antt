@@ -2,8 +2,8 @@
 use Rattle.std.specs.Prelude.{◌≡◌, ◌⊎◌, ℕ, List, [], ◌∷◌, ◌++◌, None, refl}
 use Rattle.std.proofs.Common.{sym, ◌∙◌, ap, subst}
 use Rattle.dkg_journal.specs.Names.{Files}
-use Rattle.dkg_journal.specs.DeviceCall.{DeviceCall, Makes, CutIn, Crashes}
-use Rattle.dkg_journal.specs.Disk.{Inside, Follows}
+use Rattle.dkg_journal.specs.DeviceCall.{DeviceCall, CallMade, CutIn, Crashes}
+use Rattle.dkg_journal.specs.Disk.{Inside, ImagesFollow}
 use Rattle.dkg_journal.specs.Fuse.{counted}
 use Rattle.dkg_journal.specs.Table.{Rows, RowsImage, CutBy, CrashedBy}
 use Rattle.dkg_journal.specs.declared.disk.Op.{Op}
@@ -11,13 +11,13 @@ use Rattle.dkg_journal.specs.declared.disk.Op.{Op}
 -- A count of changing calls after these. A cut is one, and a crash is none.
 abbrev pub count_of : List (DeviceCall Op) → ℕ → ℕ
 count_of [] n = n
-count_of (Makes op ∷ calls) n = count_of calls (counted n)
+count_of (CallMade op ∷ calls) n = count_of calls (counted n)
 count_of (CutIn op pick ∷ calls) n = count_of calls (counted n)
 count_of (Crashes pick ∷ calls) n = count_of calls n
 
 -- what a crash inside or after it makes of an image from before it
 abbrev pub Within : DeviceCall Op → Files → Files → Type 0
-Within (Makes op) old new = Inside op old new
+Within (CallMade op) old new = Inside op old new
 Within (CutIn op pick) old new = Inside op old new
 Within (Crashes pick) old new = new ≡ old
 
@@ -28,12 +28,12 @@ Withins (call ∷ calls) old new = (mid : Files) × Within call old mid × Withi
 
 -- What its pick leaves. A cut that found no memory has changed nothing.
 abbrev pub LeftBy : DeviceCall Op → Rows → Rows → Type 0
-LeftBy (Makes op) old new = Unit {0}
+LeftBy (CallMade op) old new = Unit {0}
 LeftBy (CutIn op pick) old new = CutBy op pick old new ⊎ (new ≡ old)
 LeftBy (Crashes pick) old new = CrashedBy pick None old new
 
 pub record Stepped (call : DeviceCall Op) (old new : Rows) : Type 0 where
-  pub images : Follows (Within call) (RowsImage old) (RowsImage new)
+  pub images : ImagesFollow (Within call) (RowsImage old) (RowsImage new)
   pub picked : LeftBy call old new
 
 -- one behind the other
@@ -48,7 +48,7 @@ pub record Made (calls : List (DeviceCall Op)) (before now : ℕ) (old new : Row
 
 count_append : (xs ys : List (DeviceCall Op)) (n : ℕ) → count_of (xs ++ ys) n ≡ count_of ys (count_of xs n)
 count_append [] ys n = refl
-count_append (Makes op ∷ xs) ys n = count_append xs ys (counted n)
+count_append (CallMade op ∷ xs) ys n = count_append xs ys (counted n)
 count_append (CutIn op pick ∷ xs) ys n = count_append xs ys (counted n)
 count_append (Crashes pick ∷ xs) ys n = count_append xs ys n
 
@@ -66,11 +66,11 @@ made_both xs ys a b c old mid new first second = record {
 }
 
 -- a call that was made
-pub made_one : (op : Op) (a b : ℕ) (old new : Rows) → b ≡ counted a → Follows (Inside op) (RowsImage old) (RowsImage new) → Made (Makes op ∷ []) a b old new
+pub made_one : (op : Op) (a b : ℕ) (old new : Rows) → b ≡ counted a → ImagesFollow (Inside op) (RowsImage old) (RowsImage new) → Made (CallMade op ∷ []) a b old new
 made_one op a b old new count step = record { count = count; steps = (new, record { images = step; picked = tt }, refl) }
 
 -- .. that was cut
-pub made_cut : (op : Op) (pick a b : ℕ) (old new : Rows) → b ≡ counted a → Follows (Inside op) (RowsImage old) (RowsImage new) → CutBy op pick old new ⊎ (new ≡ old) → Made (CutIn op pick ∷ []) a b old new
+pub made_cut : (op : Op) (pick a b : ℕ) (old new : Rows) → b ≡ counted a → ImagesFollow (Inside op) (RowsImage old) (RowsImage new) → CutBy op pick old new ⊎ (new ≡ old) → Made (CutIn op pick ∷ []) a b old new
 made_cut op pick a b old new count step picked = record { count = count; steps = (new, record { images = step; picked = picked }, refl) }
 
 -- .. and a crash
@@ -80,7 +80,7 @@ made_crash pick a b old new count narrows picked = record {
   steps = (new, record { images = record { each = λ c now. (c, narrows c now, refl) }; picked = picked }, refl);
 }
 
-all_images : (calls : List (DeviceCall Op)) (old new : Rows) → AllStepped calls old new → Follows (Withins calls) (RowsImage old) (RowsImage new)
+all_images : (calls : List (DeviceCall Op)) (old new : Rows) → AllStepped calls old new → ImagesFollow (Withins calls) (RowsImage old) (RowsImage new)
 all_images [] old new same = record { each = λ c now. (c, subst (λ (r : Rows). RowsImage r c) same now, refl) }
 all_images (call ∷ calls) old new steps = record {
   each = λ c now.
@@ -89,5 +89,5 @@ all_images (call ∷ calls) old new steps = record {
 }
 
 -- WHAT A CRASH NOW LEAVES is what one left before, after these.
-pub made_images : (calls : List (DeviceCall Op)) (a b : ℕ) (old new : Rows) → Made calls a b old new → Follows (Withins calls) (RowsImage old) (RowsImage new)
+pub made_images : (calls : List (DeviceCall Op)) (a b : ℕ) (old new : Rows) → Made calls a b old new → ImagesFollow (Withins calls) (RowsImage old) (RowsImage new)
 made_images calls a b old new made = all_images calls old new made.steps

@@ -25,12 +25,12 @@ broken_with (Some file) f = first_place Flat (broken_at 8 file) None
 broken_with None f = broken_rows (segment_rows (map_of.entries f))
 
 -- The file and the place of the first record that isn't whole: in the flat file, or where that isn't there in the segments, rising.
-abbrev pub broken : Files → Option (Name × ℕ)
-broken f = broken_with (get f Flat) f
+abbrev pub first_break : Files → Option (Name × ℕ)
+first_break f = broken_with (get f Flat) f
 
 -- in whatever a crash now leaves, each record is whole
 pub record AreUnbroken (image : Files → Type 0) : Type 0 where
-  pub each : (c : Files) → image c → broken c ≡ None
+  pub each : (c : Files) → image c → first_break c ≡ None
 
 -- a file that ends without a gate gets a closed one
 abbrev pub mend_at : ℕ → List ℕ → List ℕ → List Op

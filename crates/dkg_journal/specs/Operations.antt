@@ -93,7 +93,7 @@ pub record Tried (op : JournalOperation) (old : Files) (image : Files → Type 0
   pub spent : SpentUpTo (changing_calls op (journaled old)) before now
 
 -- .. It is done, and nothing is loose.
-pub record Finished (op : JournalOperation) (old new : Files) (image : Files → Type 0) (before now : Burn) : Type 0 where
+pub record FinishedOperation (op : JournalOperation) (old new : Files) (image : Files → Type 0) (before now : Burn) : Type 0 where
   pub after : journaled new ≡ after_operation op (journaled old)
   pub settled : Lands new image
   pub spent : now ≡ burnt (changing_calls op (journaled old)) before
@@ -102,7 +102,7 @@ abbrev pub TriedOn : {D : Type 0} → (D → Files) → (D → Files → Type 0)
 TriedOn files image op old new before now = Lands (files old) (image old) → Tried op (files old) (image new) before now
 
 abbrev pub FinishedOn : {D : Type 0} → (D → Files) → (D → Files → Type 0) → JournalOperation → D → D → Burn → Burn → Type 0
-FinishedOn files image op old new before now = Lands (files old) (image old) → Finished op (files old) (files new) (image new) before now
+FinishedOn files image op old new before now = Lands (files old) (image old) → FinishedOperation op (files old) (files new) (image new) before now
 
 -- A call that does an operation: it is tried at every exit, and finished at Ok.
 pub record Does {D T E : Type 0} (files : D → Files) (image : D → Files → Type 0) (op : JournalOperation) (result : Result T E) (old new : D) (before now : Burn) : Type 0 where

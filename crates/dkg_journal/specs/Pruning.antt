@@ -1,7 +1,7 @@
 -- What a prune leaves of a journal's files.
 use Rattle.std.specs.Prelude.{◌≡◌, ◌<◌, ◌≤◌, ℕ, nat_lt, List, filter, Bool, false, None, Result, OnOk}
 use Rattle.std.specs.FinMap.{get}
-use Rattle.dkg_journal.specs.Disk.{Follows}
+use Rattle.dkg_journal.specs.Disk.{ImagesFollow}
 use Rattle.dkg_journal.specs.Names.{Files}
 use Rattle.dkg_journal.specs.Opening.{removes}
 use Rattle.dkg_journal.specs.Records.{entries, from_section}
@@ -32,5 +32,5 @@ pub record MayLeave (min : ℕ) (old new : Files) : Type 0 where
 
 -- A prune that gave this answer: each image is so, and at Ok the minimum is this one.
 pub record Thins {T E : Type 0} (min : ℕ) (result : Result T E) (old new : Files → Type 0) : Type 0 where
-  pub may : Follows (MayLeave min) old new
-  pub left : OnOk result (Follows (LeavesAbove min) old new)
+  pub may : ImagesFollow (MayLeave min) old new
+  pub left : OnOk result (ImagesFollow (LeavesAbove min) old new)

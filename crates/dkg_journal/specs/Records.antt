@@ -114,14 +114,14 @@ pub record Staged (least : ℕ) (bs : List (List ℕ)) (body : List ℕ) (place 
   pub short_body : IsBody least body
 
 -- no whole record stands in front
-abbrev pub Stops : ℕ → List ℕ → Type 0
-Stops least [] = Unit {0}
-Stops least (gate ∷ rest) = ((gate == 1) && is_whole least rest) ≡ false
+abbrev pub HasNoWholeRecord : ℕ → List ℕ → Type 0
+HasNoWholeRecord least [] = Unit {0}
+HasNoWholeRecord least (gate ∷ rest) = ((gate == 1) && is_whole least rest) ≡ false
 
 -- no open gate stands in front
-abbrev pub Ends : List ℕ → Type 0
-Ends [] = Unit {0}
-Ends (gate ∷ rest) = gate ≢ 1
+abbrev pub HasNoOpenGate : List ℕ → Type 0
+HasNoOpenGate [] = Unit {0}
+HasNoOpenGate (gate ∷ rest) = gate ≢ 1
 
 -- the bytes are records of these bodies up to this place, and a rest
 pub record RecordsFront (least : ℕ) (bs : List (List ℕ)) (place : ℕ) (bytes rest : List ℕ) : Type 0 where
@@ -133,7 +133,7 @@ pub record RecordsFront (least : ℕ) (bs : List (List ℕ)) (place : ℕ) (byte
 pub record Whole (least : ℕ) (bs : List (List ℕ)) (place : ℕ) (bytes : List ℕ) : Type 0 where
   pub rest : List ℕ
   pub front : RecordsFront least bs place bytes rest
-  pub ends : Ends rest
+  pub ends : HasNoOpenGate rest
 
 -- the place of an open gate, where one stands in front of these last bytes of n
 abbrev pub open_gate : ℕ → List ℕ → Option ℕ

@@ -2,7 +2,7 @@
 use Rattle.std.specs.Prelude.{◌≡◌, ◌≢◌, ◌⊎◌, ℕ, ◌+◌, List, [], ◌∷◌, ◌++◌, Option, Some, None, Result, OnOk}
 use Rattle.std.specs.FinMap.{get}
 use Rattle.dkg_journal.specs.Names.{Files}
-use Rattle.dkg_journal.specs.Disk.{SameElse, HasFile, Follows}
+use Rattle.dkg_journal.specs.Disk.{SameElse, HasFile, ImagesFollow}
 use Rattle.dkg_journal.specs.Records.{SectionEntry, entries, placed, IsShut, behind_gate}
 use Rattle.dkg_journal.specs.Places.{Places, place_at}
 use Rattle.dkg_values.specs.declared.name.Name.{Name}
@@ -65,8 +65,8 @@ pub record MayAdd (e : SectionEntry) (old new : Files) : Type 0 where
 
 -- An append that gave this answer: each image has the entries from before, with the new one or without, and at Ok with it.
 pub record Grows {T E : Type 0} (e : SectionEntry) (result : Result T E) (old new : Files → Type 0) : Type 0 where
-  pub may : Follows (MayAdd e) old new
-  pub added : OnOk result (Follows (AddsEntry e) old new)
+  pub may : ImagesFollow (MayAdd e) old new
+  pub added : OnOk result (ImagesFollow (AddsEntry e) old new)
 
 abbrev pub place_or_start : Option ℕ → ℕ
 place_or_start None = 0

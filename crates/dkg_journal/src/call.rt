@@ -2,9 +2,9 @@
 //!
 //! The journal makes all its changing calls through `perform`, and so do the crates above it.
 ghost use Rattle.std.specs.Prelude.{◌≡◌, ◌⊎◌, ◌≤◌, [], ◌∷◌, OnOk, IsErrOf, IsTrue, IfErr, ◌+◌, None};
-ghost use Rattle.dkg_journal.specs.DeviceCall.{Makes};
+ghost use Rattle.dkg_journal.specs.DeviceCall.{CallMade};
 ghost use Rattle.dkg_journal.specs.Counts.{Caused};
-ghost use Rattle.dkg_journal.specs.Disk.{Inside, Follows, Allowed, Did, IsUnchanged, HasCause, HasWant, Rose};
+ghost use Rattle.dkg_journal.specs.Disk.{Inside, ImagesFollow, Allowed, Did, IsUnchanged, HasCause, HasWant, Rose};
 ghost use Rattle.dkg_journal.specs.Fuse.{calls_in, spent_once, RanAll};
 ghost use Rattle.dkg_journal.specs.Errors.{IsOfDevice};
 ghost use Rattle.dkg_journal.specs.declared.call.JournalError.TheVariants.{NoMemory as WantOfMemory};
@@ -60,11 +60,11 @@ impl<T: Drop> From<AllocFailed<T>> for JournalError {
 fn made_call<D: Disk>(alloc: Global, disk: &mut D, op: &Op) -> Result<(), DiskError>
     requires { IsTrue D.tells → Allowed (D.files disk.old) op.now }
     ensures done { OnOk result (IsTrue D.tells → Did op.now (D.files disk.old) (D.files disk.new) (D.image disk.new)) }
-    ensures crash { Follows (Inside op.now) (D.image disk.old) (D.image disk.new) }
+    ensures crash { ImagesFollow (Inside op.now) (D.image disk.old) (D.image disk.new) }
     ensures memory { IsErrOf result DiskError.NoMemory → IsUnchanged D.files D.image disk.old disk.new }
     ensures cause { HasCause (D.faults disk.old) (D.faults disk.new) result }
     ensures want { HasWant (D.wants disk.old) (D.wants disk.new) result }
-    ensures calls { D.made disk.old disk.new (Makes op.now ∷ []) }
+    ensures calls { D.made disk.old disk.new (CallMade op.now ∷ []) }
 {
     match op {
         Op::WriteAt { name, place, bytes } => disk.write_at(alloc, *name, *place, bytes.as_slice()),
@@ -84,7 +84,7 @@ pub fn perform<D: Disk>(
 ) -> Result<(), JournalError>
     requires { IsTrue D.tells → Allowed (D.files disk.old) op.now }
     ensures done { OnOk result (IsTrue D.tells → Did op.now (D.files disk.old) (D.files disk.new) (D.image disk.new)) }
-    ensures crash { Follows (Inside op.now) (D.image disk.old) (D.image disk.new) }
+    ensures crash { ImagesFollow (Inside op.now) (D.image disk.old) (D.image disk.new) }
     ensures memory { IsErrOf result JournalError.NoMemory → IsUnchanged D.files D.image disk.old disk.new }
     ensures caused { Caused (IsTrue D.tells) D.files D.image D.faults D.wants result disk.old disk.new fuse.old fuse.new }
     ensures wanted { IsErrOf result JournalError.NoMemory → Rose (D.wants disk.old) (D.wants disk.new) }
@@ -115,7 +115,7 @@ pub(crate) fn perform_own<D: Disk>(
 ) -> Result<(), JournalError>
     requires { IsTrue D.tells → Allowed (D.files disk.old) op }
     ensures done { OnOk result (IsTrue D.tells → Did op (D.files disk.old) (D.files disk.new) (D.image disk.new)) }
-    ensures crash { Follows (Inside op) (D.image disk.old) (D.image disk.new) }
+    ensures crash { ImagesFollow (Inside op) (D.image disk.old) (D.image disk.new) }
     ensures memory { IsErrOf result JournalError.NoMemory → IsUnchanged D.files D.image disk.old disk.new }
     ensures caused { Caused (IsTrue D.tells) D.files D.image D.faults D.wants result disk.old disk.new fuse.old fuse.new }
     ensures wanted { IsErrOf result JournalError.NoMemory → Rose (D.wants disk.old) (D.wants disk.new) }

@@ -4,8 +4,8 @@
 ghost use Rattle.std.specs.Prelude.{◌≡◌, ◌≤◌, ◌++◌, [], ◌∷◌, List, ℕ, Option, Some, length, IfOk, OnOk, OnErr, IsErrOf, IsTrue, Bool, option_map};
 ghost use Rattle.std.specs.FinMap as map;
 ghost use Rattle.dkg_journal.specs.Names.{Files};
-ghost use Rattle.dkg_journal.specs.Disk.{Inside, Follows, Allowed, Did, Lands, IsUnchanged, HasCause, HasWant, Rose};
-ghost use Rattle.dkg_journal.specs.DeviceCall.{DeviceCall, Makes, CutIn, Crashes};
+ghost use Rattle.dkg_journal.specs.Disk.{Inside, ImagesFollow, Allowed, Did, Lands, IsUnchanged, HasCause, HasWant, Rose};
+ghost use Rattle.dkg_journal.specs.DeviceCall.{DeviceCall, CallMade, CutIn, Crashes};
 ghost use Rattle.dkg_journal.specs.declared.disk.Op.{Op};
 
 use dkg_values::{Blob, Mem, Name};
@@ -81,56 +81,56 @@ pub trait Disk {
     ) -> Result<(), DiskError>
         requires { IsTrue tells → Allowed (files self.old) (Op.WriteAt name place bytes.now) }
         ensures done { OnOk result (IsTrue tells → Did (Op.WriteAt name place bytes.now) (files self.old) (files self.new) (image self.new)) }
-        ensures crash { Follows (Inside (Op.WriteAt name place bytes.now)) (image self.old) (image self.new) }
+        ensures crash { ImagesFollow (Inside (Op.WriteAt name place bytes.now)) (image self.old) (image self.new) }
         ensures memory { IsErrOf result DiskError.NoMemory → IsUnchanged files image self.old self.new }
         ensures cause { HasCause (faults self.old) (faults self.new) result }
         ensures want { HasWant (wants self.old) (wants self.new) result }
-        ensures calls { made self.old self.new (Makes (Op.WriteAt name place bytes.now) ∷ []) };
+        ensures calls { made self.old self.new (CallMade (Op.WriteAt name place bytes.now) ∷ []) };
 
     /// After it, a crash leaves of this file what a read gives. An absent name is Ok.
     fn sync(&mut self, alloc: Global, name: Name) -> Result<(), DiskError>
         requires { IsTrue tells → Allowed (files self.old) (Op.Sync name) }
         ensures done { OnOk result (IsTrue tells → Did (Op.Sync name) (files self.old) (files self.new) (image self.new)) }
         ensures failed { files self.new ≡ files self.old }
-        ensures crash { Follows (Inside (Op.Sync name)) (image self.old) (image self.new) }
+        ensures crash { ImagesFollow (Inside (Op.Sync name)) (image self.old) (image self.new) }
         ensures memory { IsErrOf result DiskError.NoMemory → IsUnchanged files image self.old self.new }
         ensures cause { HasCause (faults self.old) (faults self.new) result }
         ensures want { HasWant (wants self.old) (wants self.new) result }
-        ensures calls { made self.old self.new (Makes (Op.Sync name) ∷ []) };
+        ensures calls { made self.old self.new (CallMade (Op.Sync name) ∷ []) };
 
     /// That for all files.
     fn barrier(&mut self, alloc: Global) -> Result<(), DiskError>
         ensures done { OnOk result (IsTrue tells → Did Op.Barrier (files self.old) (files self.new) (image self.new)) }
         ensures failed { files self.new ≡ files self.old }
-        ensures crash { Follows (Inside Op.Barrier) (image self.old) (image self.new) }
+        ensures crash { ImagesFollow (Inside Op.Barrier) (image self.old) (image self.new) }
         ensures memory { IsErrOf result DiskError.NoMemory → IsUnchanged files image self.old self.new }
         ensures cause { HasCause (faults self.old) (faults self.new) result }
         ensures want { HasWant (wants self.old) (wants self.new) result }
-        ensures calls { made self.old self.new (Makes Op.Barrier ∷ []) };
+        ensures calls { made self.old self.new (CallMade Op.Barrier ∷ []) };
 
     /// Makes or replaces a whole file. It is durable at once, and all or nothing at a crash.
     fn install(&mut self, alloc: Global, name: Name, bytes: &[u8]) -> Result<(), DiskError>
         ensures done { OnOk result (IsTrue tells → Did (Op.Install name bytes.now) (files self.old) (files self.new) (image self.new)) }
-        ensures crash { Follows (Inside (Op.Install name bytes.now)) (image self.old) (image self.new) }
+        ensures crash { ImagesFollow (Inside (Op.Install name bytes.now)) (image self.old) (image self.new) }
         ensures memory { IsErrOf result DiskError.NoMemory → IsUnchanged files image self.old self.new }
         ensures cause { HasCause (faults self.old) (faults self.new) result }
         ensures want { HasWant (wants self.old) (wants self.new) result }
-        ensures calls { made self.old self.new (Makes (Op.Install name bytes.now) ∷ []) };
+        ensures calls { made self.old self.new (CallMade (Op.Install name bytes.now) ∷ []) };
 
     /// Takes a file away, if it is there. It is durable at once, and all or nothing at a crash.
     fn remove(&mut self, alloc: Global, name: Name) -> Result<(), DiskError>
         ensures done { OnOk result (IsTrue tells → Did (Op.Remove name) (files self.old) (files self.new) (image self.new)) }
-        ensures crash { Follows (Inside (Op.Remove name)) (image self.old) (image self.new) }
+        ensures crash { ImagesFollow (Inside (Op.Remove name)) (image self.old) (image self.new) }
         ensures memory { IsErrOf result DiskError.NoMemory → IsUnchanged files image self.old self.new }
         ensures cause { HasCause (faults self.old) (faults self.new) result }
         ensures want { HasWant (wants self.old) (wants self.new) result }
-        ensures calls { made self.old self.new (Makes (Op.Remove name) ∷ []) };
+        ensures calls { made self.old self.new (CallMade (Op.Remove name) ∷ []) };
 
     /// Begins the call and stops in it. Then the disk reads as one of the images of that moment.
     fn cut(&mut self, alloc: Global, op: &Op, pick: u64) -> Mem<()>
         requires { IsTrue tells → Allowed (files self.old) op.now }
         ensures cut { OnOk result (IsTrue tells → Lands (files self.new) (image self.new)) }
-        ensures crash { Follows (Inside op.now) (image self.old) (image self.new) }
+        ensures crash { ImagesFollow (Inside op.now) (image self.old) (image self.new) }
         ensures memory { OnErr result (IsUnchanged files image self.old self.new) }
         ensures cause { faults self.new ≡ faults self.old }
         ensures later { wants self.old ≤ wants self.new }

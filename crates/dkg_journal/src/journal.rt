@@ -7,7 +7,7 @@ ghost use Rattle.dkg_journal.specs.Names.{Files};
 ghost use Rattle.dkg_journal.specs.Opening.{AreUnbroken};
 ghost use Rattle.dkg_journal.specs.Journals.{IsOpen, append_calls};
 ghost use Rattle.dkg_journal.specs.Counts.{Caused};
-ghost use Rattle.dkg_journal.specs.Disk.{Follows, Allowed, Torn, Rose, written};
+ghost use Rattle.dkg_journal.specs.Disk.{ImagesFollow, Allowed, Torn, Rose, written};
 ghost use Rattle.dkg_journal.specs.Fuse.{HasRun};
 ghost use Rattle.dkg_journal.specs.Operations.{Does, Appends};
 ghost use Rattle.dkg_journal.specs.Places.{has_room, place_at};
@@ -45,7 +45,7 @@ fn write_segment<D: Disk>(
         → Firm (Name.Segment section) (written place bytes x) (D.files disk.new) (D.image disk.new)) }
     ensures images { (x bytes : List ℕ) (place : ℕ) → write.now ≡ Op.WriteAt (Name.Segment section) place bytes
         → Firm (Name.Segment section) x (D.files disk.old) (D.image disk.old)
-        → Follows (Into (Name.Segment section) (Torn place (length bytes) x)) (D.image disk.old) (D.image disk.new) }
+        → ImagesFollow (Into (Name.Segment section) (Torn place (length bytes) x)) (D.image disk.old) (D.image disk.new) }
     ensures caused { Caused (IsTrue D.tells) D.files D.image D.faults D.wants result disk.old disk.new fuse.old fuse.new }
     ensures wanted { IsErrOf result JournalError.NoMemory → Rose (D.wants disk.old) (D.wants disk.new) }
     ensures error_kinds { IfErr result IsOfDevice }
@@ -76,7 +76,7 @@ fn make_file<D: Disk>(
     ensures open { OnOk result (IsTrue D.tells → IsNextAppend section place (D.files disk.old) (D.image disk.old)
         → SegmentAt section (place_or_start place) (D.files disk.new) (D.image disk.new)) }
     ensures images { IsNextAppend section place (D.files disk.old) (D.image disk.old)
-        → Follows (KeepsBut (Name.Segment section)) (D.image disk.old) (D.image disk.new) }
+        → ImagesFollow (KeepsBut (Name.Segment section)) (D.image disk.old) (D.image disk.new) }
     ensures sound { IsNextAppend section place (D.files disk.old) (D.image disk.old) → AreUnbroken (D.image disk.old) → AreUnbroken (D.image disk.new) }
     ensures same { (p : ℕ) → place ≡ Some p → disk.new ≡ disk.old }
     ensures caused { Caused (IsTrue D.tells) D.files D.image D.faults D.wants result disk.old disk.new fuse.old fuse.new }

@@ -5,8 +5,8 @@ ghost use Rattle.std.specs.Prelude.{◌≡◌, ◌≤◌, ◌%◌, ◌↔◌, []
 ghost use Rattle.std.specs.FinMap as map;
 ghost use Rattle.dkg_journal.specs.Fuse.{counted};
 ghost use Rattle.dkg_journal.specs.Failing.{files_of, images_of, FailsByNumber};
-ghost use Rattle.dkg_journal.specs.Disk.{Allowed, Did, Rose, Lands, Follows, Inside, IsUnchanged, HasCause, HasWant};
-ghost use Rattle.dkg_journal.specs.DeviceCall.{Makes, CutIn, Crashes};
+ghost use Rattle.dkg_journal.specs.Disk.{Allowed, Did, Rose, Lands, ImagesFollow, Inside, IsUnchanged, HasCause, HasWant};
+ghost use Rattle.dkg_journal.specs.DeviceCall.{CallMade, CutIn, Crashes};
 ghost use Rattle.dkg_journal.specs.Made.{Made};
 ghost use Rattle.dkg_journal.specs.Names.{Files};
 ghost use Rattle.dkg_journal.specs.Table.{CrashedBy, CutBy, KeepsSynced, synced_at};
@@ -136,11 +136,11 @@ impl Disk for MemoryDisk {
     ) -> Result<(), DiskError>
         requires { Allowed (files_of self.old) (Op.WriteAt name place bytes.now) }
         ensures done { OnOk result (Did (Op.WriteAt name place bytes.now) (files_of self.old) (files_of self.new) (images_of self.new)) }
-        ensures crash { Follows (Inside (Op.WriteAt name place bytes.now)) (images_of self.old) (images_of self.new) }
+        ensures crash { ImagesFollow (Inside (Op.WriteAt name place bytes.now)) (images_of self.old) (images_of self.new) }
         ensures memory { IsErrOf result DiskError.NoMemory → IsUnchanged files_of images_of self.old self.new }
         ensures cause { HasCause self.old.faults self.new.faults result }
         ensures want { HasWant self.old.disk.wants self.new.disk.wants result }
-        ensures calls { Made (Makes (Op.WriteAt name place bytes.now) ∷ []) self.old.disk.changes self.new.disk.changes
+        ensures calls { Made (CallMade (Op.WriteAt name place bytes.now) ∷ []) self.old.disk.changes self.new.disk.changes
             self.old.disk.files self.new.disk.files }
         // What the last sync left is not touched.
         ensures synced { KeepsSynced self.old.disk.files self.new.disk.files }
@@ -158,11 +158,11 @@ impl Disk for MemoryDisk {
     fn sync(&mut self, alloc: Global, name: Name) -> Result<(), DiskError>
         ensures done { OnOk result (Did (Op.Sync name) (files_of self.old) (files_of self.new) (images_of self.new)) }
         ensures failed { files_of self.new ≡ files_of self.old }
-        ensures crash { Follows (Inside (Op.Sync name)) (images_of self.old) (images_of self.new) }
+        ensures crash { ImagesFollow (Inside (Op.Sync name)) (images_of self.old) (images_of self.new) }
         ensures memory { IsErrOf result DiskError.NoMemory → IsUnchanged files_of images_of self.old self.new }
         ensures cause { HasCause self.old.faults self.new.faults result }
         ensures want { HasWant self.old.disk.wants self.new.disk.wants result }
-        ensures calls { Made (Makes (Op.Sync name) ∷ []) self.old.disk.changes self.new.disk.changes self.old.disk.files self.new.disk.files }
+        ensures calls { Made (CallMade (Op.Sync name) ∷ []) self.old.disk.changes self.new.disk.changes self.old.disk.files self.new.disk.files }
         // Exactly the calls of these numbers fail.
         ensures number { FailsByNumber DiskError.Failed self.old.failing.items self.old.calls self.new.calls result }
         ensures numbers { self.new.failing ≡ self.old.failing }
@@ -177,11 +177,11 @@ impl Disk for MemoryDisk {
     fn barrier(&mut self, alloc: Global) -> Result<(), DiskError>
         ensures done { OnOk result (Did Op.Barrier (files_of self.old) (files_of self.new) (images_of self.new)) }
         ensures failed { files_of self.new ≡ files_of self.old }
-        ensures crash { Follows (Inside Op.Barrier) (images_of self.old) (images_of self.new) }
+        ensures crash { ImagesFollow (Inside Op.Barrier) (images_of self.old) (images_of self.new) }
         ensures memory { IsErrOf result DiskError.NoMemory → IsUnchanged files_of images_of self.old self.new }
         ensures cause { HasCause self.old.faults self.new.faults result }
         ensures want { HasWant self.old.disk.wants self.new.disk.wants result }
-        ensures calls { Made (Makes Op.Barrier ∷ []) self.old.disk.changes self.new.disk.changes self.old.disk.files self.new.disk.files }
+        ensures calls { Made (CallMade Op.Barrier ∷ []) self.old.disk.changes self.new.disk.changes self.old.disk.files self.new.disk.files }
         // Exactly the calls of these numbers fail.
         ensures number { FailsByNumber DiskError.Failed self.old.failing.items self.old.calls self.new.calls result }
         ensures numbers { self.new.failing ≡ self.old.failing }
@@ -195,11 +195,11 @@ impl Disk for MemoryDisk {
 
     fn install(&mut self, alloc: Global, name: Name, bytes: &[u8]) -> Result<(), DiskError>
         ensures done { OnOk result (Did (Op.Install name bytes.now) (files_of self.old) (files_of self.new) (images_of self.new)) }
-        ensures crash { Follows (Inside (Op.Install name bytes.now)) (images_of self.old) (images_of self.new) }
+        ensures crash { ImagesFollow (Inside (Op.Install name bytes.now)) (images_of self.old) (images_of self.new) }
         ensures memory { IsErrOf result DiskError.NoMemory → IsUnchanged files_of images_of self.old self.new }
         ensures cause { HasCause self.old.faults self.new.faults result }
         ensures want { HasWant self.old.disk.wants self.new.disk.wants result }
-        ensures calls { Made (Makes (Op.Install name bytes.now) ∷ []) self.old.disk.changes self.new.disk.changes self.old.disk.files self.new.disk.files }
+        ensures calls { Made (CallMade (Op.Install name bytes.now) ∷ []) self.old.disk.changes self.new.disk.changes self.old.disk.files self.new.disk.files }
         // Exactly the calls of these numbers fail.
         ensures number { FailsByNumber DiskError.Failed self.old.failing.items self.old.calls self.new.calls result }
         ensures numbers { self.new.failing ≡ self.old.failing }
@@ -213,11 +213,11 @@ impl Disk for MemoryDisk {
 
     fn remove(&mut self, alloc: Global, name: Name) -> Result<(), DiskError>
         ensures done { OnOk result (Did (Op.Remove name) (files_of self.old) (files_of self.new) (images_of self.new)) }
-        ensures crash { Follows (Inside (Op.Remove name)) (images_of self.old) (images_of self.new) }
+        ensures crash { ImagesFollow (Inside (Op.Remove name)) (images_of self.old) (images_of self.new) }
         ensures memory { IsErrOf result DiskError.NoMemory → IsUnchanged files_of images_of self.old self.new }
         ensures cause { HasCause self.old.faults self.new.faults result }
         ensures want { HasWant self.old.disk.wants self.new.disk.wants result }
-        ensures calls { Made (Makes (Op.Remove name) ∷ []) self.old.disk.changes self.new.disk.changes self.old.disk.files self.new.disk.files }
+        ensures calls { Made (CallMade (Op.Remove name) ∷ []) self.old.disk.changes self.new.disk.changes self.old.disk.files self.new.disk.files }
         // Exactly the calls of these numbers fail.
         ensures number { FailsByNumber DiskError.Failed self.old.failing.items self.old.calls self.new.calls result }
         ensures numbers { self.new.failing ≡ self.old.failing }
@@ -232,7 +232,7 @@ impl Disk for MemoryDisk {
     fn cut(&mut self, alloc: Global, op: &Op, pick: u64) -> Mem<()>
         requires { Allowed (files_of self.old) op.now }
         ensures cut { OnOk result (Lands (files_of self.new) (images_of self.new)) }
-        ensures crash { Follows (Inside op.now) (images_of self.old) (images_of self.new) }
+        ensures crash { ImagesFollow (Inside op.now) (images_of self.old) (images_of self.new) }
         ensures memory { OnErr result (IsUnchanged files_of images_of self.old self.new) }
         ensures cause { self.new.faults ≡ self.old.faults }
         ensures later { self.old.disk.wants ≤ self.new.disk.wants }

@@ -13,7 +13,7 @@ ghost use Rattle.dkg_journal.specs.Disk.{Rose, IsUnchanged, Lands};
 ghost use Rattle.dkg_journal.specs.Found.{Takes, FindsSegments};
 ghost use Rattle.dkg_journal.specs.Fuse.{HasRun};
 ghost use Rattle.dkg_journal.specs.Operations.{Does, Opens};
-ghost use Rattle.dkg_journal.specs.Opening.{broken, broken_rows, is_unnamed, mend_of, open_calls, removes};
+ghost use Rattle.dkg_journal.specs.Opening.{first_break, broken_rows, is_unnamed, mend_of, open_calls, removes};
 ghost use Rattle.dkg_journal.specs.Records.{SectionEntry, Whole, broken_at, entries};
 ghost use Rattle.dkg_journal.specs.Gated.{gated, gated_entries};
 ghost use Rattle.dkg_journal.specs.Segments.{Segments, parted, segment_rows, segments};
@@ -238,7 +238,7 @@ fn migrate(alloc: Global, names: &[Name], bytes: &[u8]) -> Result<Found, Journal
 fn find<D: Disk>(alloc: Global, disk: &mut D) -> Result<Found, JournalError>
     ensures found { IfOk result (λ f. IsTrue D.tells → FindsSegments (D.files disk.old) f.waiting.items f.places f.mending.items) }
     ensures broken { (name : Name) (place : ℕ) → IsErrOf result (JournalError.Corrupt name place) → IsTrue D.tells
-        → broken (D.files disk.old) ≡ Some (name, place) }
+        → first_break (D.files disk.old) ≡ Some (name, place) }
     ensures same { IsUnchanged D.files D.image disk.old disk.new }
     ensures counts { Counts D.faults D.wants result disk.old disk.new }
     ensures not_cut { IsErrOf result JournalError.Cut → ⊥ }

@@ -3,7 +3,7 @@
 //! Opening a journal calls this on what the disk read.
 ghost use Rattle.std.specs.Prelude.{◌≡◌, ◌⊎◌, ◌<◌, ◌≤◌, ◌^◌, ◌+◌, ◌++◌, ◌∷◌, List, ℕ, Some, length, drop, map, IfOk, IfSome, IfNone, IfErr};
 ghost use Rattle.dkg_values.specs.declared.name.Name.{Name};
-ghost use Rattle.dkg_journal.specs.Records.{Ends, Whole, number32, read32, read64, broken_at};
+ghost use Rattle.dkg_journal.specs.Records.{HasNoOpenGate, Whole, number32, read32, read64, broken_at};
 ghost use Rattle.dkg_journal.specs.Gated.{gated, gated_from};
 
 use crate::JournalError;
@@ -64,7 +64,7 @@ pub fn split_record(after: &[u8]) -> Option<(&[u8], &[u8])>
 /// What stands behind an open gate.
 pub fn behind_gate(rest: &[u8]) -> Option<&[u8]>
     ensures open { IfSome result (λ after. rest.now ≡ 1 ∷ after.now) }
-    ensures shut { IfNone result (Ends rest.now) }
+    ensures shut { IfNone result (HasNoOpenGate rest.now) }
 {
     match rest {
         [1, after @ ..] => Some(after),

@@ -5,7 +5,7 @@ ghost use Rattle.std.specs.Prelude.{◌≡◌, ◌⊎◌, ◌<◌, ◌≤◌, �
 ghost use Rattle.std.specs.FinMap.{get};
 ghost use Rattle.dkg_journal.specs.Errors.{IsOfDevice, IsOfDisk};
 ghost use Rattle.dkg_journal.specs.Counts.{Caused, Counts};
-ghost use Rattle.dkg_journal.specs.Disk.{Follows, IsUnchanged, Rose, SameElse};
+ghost use Rattle.dkg_journal.specs.Disk.{ImagesFollow, IsUnchanged, Rose, SameElse};
 ghost use Rattle.dkg_journal.specs.Fuse.{HasRun, RanAll};
 ghost use Rattle.dkg_journal.specs.Operations.{FinishedOn, TriedOn, PutsPlan, ClearsPlan};
 ghost use Rattle.dkg_values.specs.declared.name.Name.TheVariants.{Plan};
@@ -27,7 +27,7 @@ impl Record {
         bytes: &[u8],
     ) -> Result<(), JournalError>
         ensures put { OnOk result (IsTrue D.tells → get (D.files disk.new) Plan ≡ Some bytes.now) }
-        ensures others { Follows (SameElse Plan) (D.image disk.old) (D.image disk.new) }
+        ensures others { ImagesFollow (SameElse Plan) (D.image disk.old) (D.image disk.new) }
         ensures done { OnOk result (IsTrue D.tells → FinishedOn D.files D.image (PutsPlan bytes.now) disk.old disk.new fuse.old fuse.new) }
         ensures tried { TriedOn D.files D.image (PutsPlan bytes.now) disk.old disk.new fuse.old fuse.new }
         ensures caused { Caused (IsTrue D.tells) D.files D.image D.faults D.wants result disk.old disk.new fuse.old fuse.new }
@@ -62,7 +62,7 @@ impl Record {
     /// Takes the value away, if there is one, by one call of the disk.
     pub fn clear<D: Disk>(alloc: Global, disk: &mut D, fuse: &mut Fuse) -> Result<(), JournalError>
         ensures cleared { OnOk result (IsTrue D.tells → get (D.files disk.new) Plan ≡ None) }
-        ensures others { Follows (SameElse Plan) (D.image disk.old) (D.image disk.new) }
+        ensures others { ImagesFollow (SameElse Plan) (D.image disk.old) (D.image disk.new) }
         ensures done { OnOk result (IsTrue D.tells → FinishedOn D.files D.image ClearsPlan disk.old disk.new fuse.old fuse.new) }
         ensures tried { TriedOn D.files D.image ClearsPlan disk.old disk.new fuse.old fuse.new }
         ensures caused { Caused (IsTrue D.tells) D.files D.image D.faults D.wants result disk.old disk.new fuse.old fuse.new }

@@ -3,9 +3,9 @@
 //! The memory disk that may fail stands on it.
 ghost use Rattle.std.specs.Prelude.{◌≡◌, ◌≤◌, ℕ, [], ◌∷◌, None, OnOk, OnErr, IsErrOf};
 ghost use Rattle.dkg_journal.specs.declared.sure.SureDisk.{SureDisk};
-ghost use Rattle.dkg_journal.specs.Disk.{Allowed, Did, Rose, Lands, Follows, Inside, IsUnchanged, HasCause, HasWant};
+ghost use Rattle.dkg_journal.specs.Disk.{Allowed, Did, Rose, Lands, ImagesFollow, Inside, IsUnchanged, HasCause, HasWant};
 ghost use Rattle.dkg_journal.specs.Fuse.{counted};
-ghost use Rattle.dkg_journal.specs.DeviceCall.{Makes, CutIn, Crashes};
+ghost use Rattle.dkg_journal.specs.DeviceCall.{CallMade, CutIn, Crashes};
 ghost use Rattle.dkg_journal.specs.Made.{Made};
 ghost use Rattle.dkg_journal.specs.Names.{Files};
 ghost use Rattle.dkg_journal.specs.Table.{contents, RowsImage, CrashedBy, CutBy, spared_by, KeepsSynced};
@@ -122,12 +122,12 @@ impl Disk for SureDisk {
     ) -> Result<(), DiskError>
         requires { Allowed (contents self.old.files) (Op.WriteAt name place bytes.now) }
         ensures done { OnOk result (Did (Op.WriteAt name place bytes.now) (contents self.old.files) (contents self.new.files) (RowsImage self.new.files)) }
-        ensures crash { Follows (Inside (Op.WriteAt name place bytes.now)) (RowsImage self.old.files) (RowsImage self.new.files) }
+        ensures crash { ImagesFollow (Inside (Op.WriteAt name place bytes.now)) (RowsImage self.old.files) (RowsImage self.new.files) }
         ensures memory { IsErrOf result DiskError.NoMemory
             → IsUnchanged (λ (d : SureDisk). contents d.files) (λ (d : SureDisk). RowsImage d.files) self.old self.new }
         ensures cause { HasCause 0 0 result }
         ensures want { HasWant self.old.wants self.new.wants result }
-        ensures calls { Made (Makes (Op.WriteAt name place bytes.now) ∷ []) self.old.changes self.new.changes self.old.files self.new.files }
+        ensures calls { Made (CallMade (Op.WriteAt name place bytes.now) ∷ []) self.old.changes self.new.changes self.old.files self.new.files }
         // What the last sync left is not touched.
         ensures synced { KeepsSynced self.old.files self.new.files }
     {
@@ -173,7 +173,7 @@ impl Disk for SureDisk {
     fn cut(&mut self, alloc: Global, op: &Op, pick: u64) -> Mem<()>
         requires { Allowed (contents self.old.files) op.now }
         ensures cut { OnOk result (Lands (contents self.new.files) (RowsImage self.new.files)) }
-        ensures crash { Follows (Inside op.now) (RowsImage self.old.files) (RowsImage self.new.files) }
+        ensures crash { ImagesFollow (Inside op.now) (RowsImage self.old.files) (RowsImage self.new.files) }
         ensures memory { OnErr result (IsUnchanged (λ (d : SureDisk). contents d.files) (λ (d : SureDisk). RowsImage d.files) self.old self.new) }
         ensures cause { ◌≡◌ {A = ℕ} 0 0 }
         ensures later { self.old.wants ≤ self.new.wants }

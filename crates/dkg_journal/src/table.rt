@@ -3,7 +3,7 @@
 //! A tree in the order of the names, so that what is listed, and what a crash counts, comes in that order. To find a file, to add one and to take
 //! one away each costs the tree's height.
 ghost use Rattle.std.specs.Prelude.{◌≡◌, ◌≤◌, [], Some, None, length, IsTrue, IfOk, OnOk, OnErr, map, option_map};
-ghost use Rattle.dkg_journal.specs.Disk.{Allowed, Inside, Follows};
+ghost use Rattle.dkg_journal.specs.Disk.{Allowed, Inside, ImagesFollow};
 ghost use Rattle.std.specs.FinMap.Entries.{is_sorted};
 ghost use Rattle.dkg_journal.specs.Names.{name_cmp};
 ghost use Rattle.dkg_journal.specs.Kept.{KeptBytes, FileImage, settled, wrote};
@@ -171,7 +171,7 @@ impl Table {
     /// Begins a call and stops in it: a write is made, and a file is made or taken away where the pick is even.
     pub fn begin(&mut self, alloc: Global, op: &Op, pick: u64) -> Mem<()>
         requires { Allowed (contents self.old) op.now }
-        ensures inside { Follows (Inside op.now) (RowsImage self.old) (RowsImage self.new) }
+        ensures inside { ImagesFollow (Inside op.now) (RowsImage self.old) (RowsImage self.new) }
         ensures begun { OnOk result (Begun op.now pick self.old self.new) }
         ensures kept { OnErr result (self.new ≡ self.old) }
     {

@@ -10,7 +10,7 @@ use Rattle.dkg_store.specs.Pairs.{IsWhole}
 use Rattle.dkg_store.proofs.Acts.{along_runs}
 use Rattle.dkg_core.specs.Courses.{Deed, on_devices}
 use Rattle.dkg_core.specs.Fixed.{Fixed}
-use Rattle.dkg_core.specs.Live.{Live, Message, Sent, Peer, Finalized, NextLog, ReleaseLog, EpochInfoOf, Feed, Over, Cancel, Work}
+use Rattle.dkg_core.specs.Live.{Live, Message, Mailed, Peer, Finalized, NextLog, ReleaseLog, EpochInfoOf, Feed, Over, Cancel, Work}
 use Rattle.dkg_core.specs.Core.{step}
 use Rattle.dkg_core.specs.Behind.{IsAside}
 use Rattle.dkg_core.specs.Laws.{Law, Holds, PeerOperation, peer_law, IsDealtToItself, IsOffered, OtherLine, OtherOperation, other_law, reach_of}
@@ -72,14 +72,14 @@ module _ {Dir : Type 0} (c : Fixed Dir) (st : Live Dir) where
 
   step_plan : (message : Message Dir) → Holds plans [] (step c message st)
   step_plan (Finalized b) = of_other (Finalized b) (others_acknowledge_nothing c st (Finalized b) tt)
-  step_plan (Sent (Peer from bytes)) = holds_as (peer_law c st from) plans [] (step c (Sent (Peer from bytes)) st) (λ past line h. tt) (peer_spares_plan from) (λ past end h. tt) (heard c st from bytes)
-  step_plan (Sent (NextLog request height)) = of_other (Sent (NextLog request height)) (others_acknowledge_nothing c st (Sent (NextLog request height)) tt)
-  step_plan (Sent (ReleaseLog height)) = of_other (Sent (ReleaseLog height)) (others_acknowledge_nothing c st (Sent (ReleaseLog height)) tt)
-  step_plan (Sent (EpochInfoOf request)) = of_other (Sent (EpochInfoOf request)) (others_acknowledge_nothing c st (Sent (EpochInfoOf request)) tt)
-  step_plan (Sent (Feed request b)) = of_other (Sent (Feed request b)) (others_acknowledge_nothing c st (Sent (Feed request b)) tt)
-  step_plan (Sent (Over request)) = of_other (Sent (Over request)) (others_acknowledge_nothing c st (Sent (Over request)) tt)
-  step_plan (Sent (Cancel request)) = of_other (Sent (Cancel request)) (others_acknowledge_nothing c st (Sent (Cancel request)) tt)
-  step_plan (Sent (Work handed)) = of_other (Sent (Work handed)) (others_acknowledge_nothing c st (Sent (Work handed)) tt)
+  step_plan (Mailed (Peer from bytes)) = holds_as (peer_law c st from) plans [] (step c (Mailed (Peer from bytes)) st) (λ past line h. tt) (peer_spares_plan from) (λ past end h. tt) (heard c st from bytes)
+  step_plan (Mailed (NextLog request height)) = of_other (Mailed (NextLog request height)) (others_acknowledge_nothing c st (Mailed (NextLog request height)) tt)
+  step_plan (Mailed (ReleaseLog height)) = of_other (Mailed (ReleaseLog height)) (others_acknowledge_nothing c st (Mailed (ReleaseLog height)) tt)
+  step_plan (Mailed (EpochInfoOf request)) = of_other (Mailed (EpochInfoOf request)) (others_acknowledge_nothing c st (Mailed (EpochInfoOf request)) tt)
+  step_plan (Mailed (Feed request b)) = of_other (Mailed (Feed request b)) (others_acknowledge_nothing c st (Mailed (Feed request b)) tt)
+  step_plan (Mailed (Over request)) = of_other (Mailed (Over request)) (others_acknowledge_nothing c st (Mailed (Over request)) tt)
+  step_plan (Mailed (Cancel request)) = of_other (Mailed (Cancel request)) (others_acknowledge_nothing c st (Mailed (Cancel request)) tt)
+  step_plan (Mailed (Work handed)) = of_other (Mailed (Work handed)) (others_acknowledge_nothing c st (Mailed (Work handed)) tt)
 
 pub node_steps_keep_plans : {Dir : Type 0} → NodeStepsKeepPlans Dir
 node_steps_keep_plans c st message ended w new run =

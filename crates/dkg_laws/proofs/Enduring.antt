@@ -25,7 +25,7 @@ use Rattle.dkg_store.specs.declared.event.Event.TheVariants as events
 use Rattle.dkg_secrets.specs.Keys.{key_cmp}
 use Rattle.dkg_core.specs.Courses.{Say, Goes, Stops, bind, Throughout}
 use Rattle.dkg_core.specs.Fixed.{Fixed}
-use Rattle.dkg_core.specs.Live.{Live, Dealer, Seat, Plays, Watches, Stage, Deals, Includes, Follows, Ends, Message, Sent, Peer, Finalized, NextLog, ReleaseLog, EpochInfoOf, Feed, Over, Cancel, Work, recorded_at, with_used}
+use Rattle.dkg_core.specs.Live.{Live, Dealer, Seat, Plays, Watches, Stage, Deals, Includes, Follows, Ends, Message, Mailed, Peer, Finalized, NextLog, ReleaseLog, EpochInfoOf, Feed, Over, Cancel, Work, recorded_at, with_used}
 use Rattle.dkg_core.specs.Logs.{carried_log_event}
 use Rattle.dkg_core.specs.Setup as s
 use Rattle.dkg_core.specs.Dealing as d
@@ -205,14 +205,14 @@ module _ {Dir : Type 0} (c : Fixed Dir) (most : ℕ) (base : List Entry) where
   steps : (st : Live Dir) (message : Message Dir) (w : World) → reach_of c message ≤ most → CanRecord c st message → AreAgreed st.records w.held → P w → Throughout P (step c message st) w
   steps st (Finalized block) w low can a q =
       walk.delivered c P told most commits_read prunes block st w q (λ judged. applies block low can.acks can.brings st st.participation.stage w can.dealing a q) st.participation.stage
-  steps st (Sent (Peer from bytes)) w low can a q = hears from bytes st st.participation.stage w can.brings a q
-  steps st (Sent (NextLog request height)) w low can a q = walk.gives c P told request height (i.served_now st) (with_used request st) w q
-  steps st (Sent (ReleaseLog height)) w low can a q = q
-  steps st (Sent (EpochInfoOf request)) w low can a q = walk.asks_in c P told request (with_used request st) st.participation.stage w q
-  steps st (Sent (Feed request block)) w low can a q = walk.advanced c P told (i.changed request (λ r. if r.ended then r else record r { blocks = r.blocks ++ block ∷ [] }) st) w q
-  steps st (Sent (Over request)) w low can a q = walk.advanced c P told (i.changed request (λ r. record r { ended = true }) st) w q
-  steps st (Sent (Cancel request)) w low can a q = walk.cancels c P told request st w q
-  steps st (Sent (Work handed)) w low can a q = walk.works c P told handed st w q
+  steps st (Mailed (Peer from bytes)) w low can a q = hears from bytes st st.participation.stage w can.brings a q
+  steps st (Mailed (NextLog request height)) w low can a q = walk.gives c P told request height (i.served_now st) (with_used request st) w q
+  steps st (Mailed (ReleaseLog height)) w low can a q = q
+  steps st (Mailed (EpochInfoOf request)) w low can a q = walk.asks_in c P told request (with_used request st) st.participation.stage w q
+  steps st (Mailed (Feed request block)) w low can a q = walk.advanced c P told (i.changed request (λ r. if r.ended then r else record r { blocks = r.blocks ++ block ∷ [] }) st) w q
+  steps st (Mailed (Over request)) w low can a q = walk.advanced c P told (i.changed request (λ r. record r { ended = true }) st) w q
+  steps st (Mailed (Cancel request)) w low can a q = walk.cancels c P told request st w q
+  steps st (Mailed (Work handed)) w low can a q = walk.works c P told handed st w q
 
 pub steps_keep : {Dir : Type 0} → StepsKeep Dir
 steps_keep c st message most base w low a can q = steps c most base st message w low can a q

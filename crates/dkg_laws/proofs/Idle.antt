@@ -15,7 +15,7 @@ use Rattle.dkg_infos.specs.NextInfos.{info_by}
 use Rattle.dkg_store.specs.Acts.{Ended, went, stopped, broken}
 use Rattle.dkg_core.specs.Courses.{Course, Goes, Stops, bind, under}
 use Rattle.dkg_core.specs.Fixed.{Fixed, OneShot, has}
-use Rattle.dkg_core.specs.Live.{Live, Waiting, NodeStop, Faulted, Stage, Deals, Includes, Follows, Ends, Inclusion, Request, Job, Verified, VerifiedLogs, Artifact, Mail, Peer, NextLog, ReleaseLog, EpochInfoOf, Feed, Over, Cancel, Work, Sent, with_inclusion, with_queue, with_used}
+use Rattle.dkg_core.specs.Live.{Live, Waiting, NodeStop, Faulted, Stage, Deals, Includes, Follows, Ends, Inclusion, Request, Job, Verified, VerifiedLogs, Artifact, Mail, Peer, NextLog, ReleaseLog, EpochInfoOf, Feed, Over, Cancel, Work, Mailed, with_inclusion, with_queue, with_used}
 use Rattle.dkg_core.specs.Logs.{canonical, filled_by}
 use Rattle.dkg_core.specs.Setup.{looks, refused_in}
 use Rattle.dkg_core.specs.Including as inc
@@ -157,7 +157,7 @@ module _ {Dir : Type 0} (c : Fixed Dir) (st : Live Dir) where
   ends handed None = refl
   ends handed (Some job) = completes (inc.job_result_of c handed job) st.inclusion.waiter
 
-  pub mails : (mail : Mail Dir) → IsOther (Sent mail) → Only (step c (Sent mail) st)
+  pub mails : (mail : Mail Dir) → IsOther (Mailed mail) → Only (step c (Mailed mail) st)
   mails (Peer from bytes) other = absurd other
   mails (NextLog request height) other = gives request height (inc.served_now (with_used request st)) (with_used request st).inclusion
   mails (ReleaseLog height) other = releases height
@@ -178,10 +178,10 @@ module _ {Dir : Type 0} (c : Fixed Dir) (st : Live Dir) where
       only_if IsAskedLine Beside (is_some c.oneshot) (Goes (with i)) (half.asks_again c (with i)) refl
       (subst (λ (o : Option (Waiting Dir)). OnlySays IsAskedLine Beside (option_map_or (λ w. bind (half.enters c w (with i)) (half.acked_late w.block)) o (Goes (with i)))) (sym none) refl)
 
-  nodes : (mail : Mail Dir) → IsOther (Sent mail) → st.orchestrator.waiting ≡ None → OnlySays IsAskedLine Beside (bind (under Faulted (step c (Sent mail) st)) (λ end. unless_once c (half.asks_again c end) (Goes end)))
+  nodes : (mail : Mail Dir) → IsOther (Mailed mail) → st.orchestrator.waiting ≡ None → OnlySays IsAskedLine Beside (bind (under Faulted (step c (Mailed mail) st)) (λ end. unless_once c (half.asks_again c end) (Goes end)))
   nodes mail other none =
-      only_behind IsAskedLine Beside Beside (under Faulted (step c (Sent mail) st)) (λ end. unless_once c (half.asks_again c end) (Goes end))
-      (only_under IsAskedLine Beside Faulted (step c (Sent mail) st) (mails mail other))
+      only_behind IsAskedLine Beside Beside (under Faulted (step c (Mailed mail) st)) (λ end. unless_once c (half.asks_again c end) (Goes end))
+      (only_under IsAskedLine Beside Faulted (step c (Mailed mail) st) (mails mail other))
       (λ end is. subst (λ (x : Live Dir). OnlySays IsAskedLine Beside (unless_once c (half.asks_again c x) (Goes x))) (sym is) (again none end.inclusion))
 
   came : (ended : Ended NodeStop (Live Dir)) → IfGoes Beside ended → CameTo (λ stop. Unit {0}) Beside ended
@@ -191,5 +191,5 @@ module _ {Dir : Type 0} (c : Fixed Dir) (st : Live Dir) where
 
 pub mails_are_idle : {Dir : Type 0} → MailsAreIdle Dir
 mails_are_idle c mail st ended w new other none run =
-    let its = leaves_devices IsAskedLine (Beside c st) (bind (under Faulted (step c (Sent mail) st)) (λ end. unless_once c (half.asks_again c end) (Goes end))) ended w new (nodes c st mail other none) run in
+    let its = leaves_devices IsAskedLine (Beside c st) (bind (under Faulted (step c (Mailed mail) st)) (λ end. unless_once c (half.asks_again c end) (Goes end))) ended w new (nodes c st mail other none) run in
     record { held = its.held; fuse = its.fuse; lines = its.lines; out = its.out; says = its.says; goes = came c st ended its.goes }

@@ -10,7 +10,7 @@ use Rattle.dkg_values.specs.declared.name.Name.{Name}
 use Rattle.dkg_values.specs.declared.name.Name.TheVariants.{Plan}
 use Rattle.dkg_journal.specs.Operations.{Opens, Journaled, after_operation, opened_names}
 use Rattle.dkg_store.specs.Acts.{Operation, OnDisk, Changes, Held, device_calls, notes, plan}
-use Rattle.dkg_core.specs.Courses.{Course, Say, Do, Call, Ask, Goes, Stops, Outer}
+use Rattle.dkg_core.specs.Courses.{Course, Say, Do, CallOutside, Ask, Goes, Stops, Outer}
 use Rattle.dkg_secrets.specs.Keys.{key_cmp}
 use Rattle.dkg_store.specs.Noted.{Note, noted_ack, noted_log}
 use Rattle.dkg_store.specs.Pairs.{Dealing, recorded_dealing}
@@ -111,7 +111,7 @@ pub record Played (Dir F S : Type 0) : Type 0 where
 abbrev pub played : {Dir F S : Type 0} → Course Dir F S → Held → Played Dir F S
 played (Say line course) h = let rest = played course h in record rest { lines = line ∷ rest.lines }
 played (Do op course) h = let rest = played course (done op h) in record rest { operations = op ∷ rest.operations; calls = device_calls op h + rest.calls }
-played (Call call course) h = let rest = played course h in record rest { outer = call ∷ rest.outer }
+played (CallOutside call course) h = let rest = played course h in record rest { outer = call ∷ rest.outer }
 played (Ask f) h = played (f h) h
 played (Goes end) h = record { lines = []; operations = []; calls = 0; outer = []; end = Some (end, h); fault = None }
 played (Stops fault) h = record { lines = []; operations = []; calls = 0; outer = []; end = None; fault = Some fault }
@@ -136,7 +136,7 @@ abbrev pub held_after : {Dir F S : Type 0} → (operations : ℕ) → Course Dir
 held_after n (Say line course) h = held_after n course h
 held_after zero (Do op course) h = h
 held_after (suc n) (Do op course) h = held_after n course (done op h)
-held_after n (Call call course) h = held_after n course h
+held_after n (CallOutside call course) h = held_after n course h
 held_after n (Ask f) h = held_after n (f h) h
 held_after n (Goes end) h = h
 held_after n (Stops fault) h = h

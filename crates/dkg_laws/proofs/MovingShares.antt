@@ -29,7 +29,7 @@ use Rattle.dkg_secrets.proofs.Map.{same_key, get_here, get_other}
 use Rattle.dkg_secrets.proofs.Tried.{all_done}
 use Rattle.dkg_store.specs.Acts.{Held, OnDisk, Changes, World, Ended, does, says, Cause, Tears}
 use Rattle.dkg_store.proofs.Acts.{along_runs}
-use Rattle.dkg_core.specs.Courses.{Course, EndsSo, Say, Do, Call, Ask, Goes, Stops, bind, on_devices, Throughout}
+use Rattle.dkg_core.specs.Courses.{Course, EndsSo, Say, Do, CallOutside, Ask, Goes, Stops, bind, on_devices, Throughout}
 use Rattle.dkg_core.specs.Sources.{Tip}
 use Rattle.dkg_core.specs.Fixed.{Fixed, OneShot}
 use Rattle.dkg_core.specs.Live.{Live, Stage, Deals, Includes, Inclusion, Request, Job, VerifiedLogs, Artifact, Cached, NodeStop, Delivers, GaveNone, Finalized, awaited_height, is_last_height, recorded_at, with_tip, with_participation, with_inclusion, with_told}
@@ -149,7 +149,7 @@ idle_behind : {Dir : Type 0} (P : World → Type 0) (quiet : (w : World) (line :
 idle_behind P quiet L Q stops first (Say line course) next w only comes q so =
     (q, idle_behind P quiet L Q stops first course next (says w line) only.1 comes (quiet w line q) so)
 idle_behind P quiet L Q stops first (Do op course) next w only comes q so = absurd only
-idle_behind P quiet L Q stops first (Call outer course) next w only comes q so = idle_behind P quiet L Q stops first course next w only comes q so
+idle_behind P quiet L Q stops first (CallOutside outer course) next w only comes q so = idle_behind P quiet L Q stops first course next w only comes q so
 idle_behind P quiet L Q stops first (Ask f) next w only comes q so = idle_behind P quiet L Q stops first (f w.held) next w (only w.held) comes q so
 idle_behind P quiet L Q stops first (Goes end) next w only comes q so = so end w refl q comes
 idle_behind P quiet L Q stops first (Stops fault) next w only comes q so = q

@@ -17,9 +17,9 @@ use Rattle.dkg_types.specs.declared.message.Message.TheVariants.{Dealer as ADeal
 use Rattle.dkg_types.specs.MessageCodes.{message_at}
 use Rattle.dkg_store.specs.Acts.{World, Ended, went, stopped, broken}
 use Rattle.dkg_store.specs.declared.event.Event.TheVariants as events
-use Rattle.dkg_core.specs.Courses.{Course, Goes, bind, under, on_devices, Deed, Said as Spoke, Did, Called, EndsSo}
+use Rattle.dkg_core.specs.Courses.{Course, Goes, bind, under, on_devices, Deed, SaidEntry, DidOperation, CalledOutside, EndsSo}
 use Rattle.dkg_core.specs.Fixed.{Fixed}
-use Rattle.dkg_core.specs.Live.{Live, Dealer, NodeStop, Faulted, Seat, Plays, Watches, Stage, Deals, Includes, Follows, Ends, Sent, Peer, recorded_at}
+use Rattle.dkg_core.specs.Live.{Live, Dealer, NodeStop, Faulted, Seat, Plays, Watches, Stage, Deals, Includes, Follows, Ends, Mailed, Peer, recorded_at}
 use Rattle.dkg_core.specs.Dealing as d
 use Rattle.dkg_core.specs.Core.{step}
 use Rattle.dkg_core.specs.Entering as half
@@ -150,10 +150,10 @@ module _ {Dir : Type 0} (c : Fixed Dir) (from : ℕ) (bytes : List ℕ) (st : Li
   hears Follows = refl
   hears Ends = refl
 
-  pub peers_stay : (end : Live Dir) (w new : World) → EndsSo (step c (Sent (Peer from bytes)) st) (went end) w new → end.orchestrator ≡ st.orchestrator
+  pub peers_stay : (end : Live Dir) (w new : World) → EndsSo (step c (Mailed (Peer from bytes)) st) (went end) w new → end.orchestrator ≡ st.orchestrator
   peers_stay end w new run =
-      came_to Always (λ end. end.orchestrator ≡ st.orchestrator) (step c (Sent (Peer from bytes)) st) (went end) w.out new.out (hears st.participation.stage)
-      (runs_say (on_devices (step c (Sent (Peer from bytes)) st)) (went end) w new run)
+      came_to Always (λ end. end.orchestrator ≡ st.orchestrator) (step c (Mailed (Peer from bytes)) st) (went end) w.out new.out (hears st.participation.stage)
+      (runs_say (on_devices (step c (Mailed (Peer from bytes)) st)) (went end) w new run)
 
   -- nothing is said behind it, where the orchestrator's half doesn't wait
   says_no_more : (end last : Live Dir) (mid new : World) → end.orchestrator.waiting ≡ None → EndsSo (unless_once c (half.asks_again c end) (Goes end)) (went last) mid new → new.out ≡ mid.out
@@ -166,11 +166,11 @@ module _ {Dir : Type 0} (c : Fixed Dir) (from : ℕ) (bytes : List ℕ) (st : Li
       either true run = done run
       either false run = done (subst (λ (course : Course Dir NodeStop (Live Dir)). EndsSo course (went last) mid new) (asks_nothing c end none) run)
 
-last_line : {Dir : Type 0} (deeds : List (Deed Dir)) (line : Entry) → deed_lines (deeds ++ Spoke line ∷ []) ≡ deed_lines deeds ++ line ∷ []
+last_line : {Dir : Type 0} (deeds : List (Deed Dir)) (line : Entry) → deed_lines (deeds ++ SaidEntry line ∷ []) ≡ deed_lines deeds ++ line ∷ []
 last_line [] line = refl
-last_line (Spoke its ∷ deeds) line = ap (λ (ls : List Entry). its ∷ ls) (last_line deeds line)
-last_line (Did op ∷ deeds) line = last_line deeds line
-last_line (Called outer ∷ deeds) line = last_line deeds line
+last_line (SaidEntry its ∷ deeds) line = ap (λ (ls : List Entry). its ∷ ls) (last_line deeds line)
+last_line (DidOperation op ∷ deeds) line = last_line deeds line
+last_line (CalledOutside outer ∷ deeds) line = last_line deeds line
 
 not_early : {F S T : Type 0} (early : Ended F S) (end : T) → IsEarly early (went end) → ⊥
 not_early (went its) end is = is
@@ -179,18 +179,18 @@ not_early (broken cause) end is = is
 
 pub node_dues_are_answered : {Dir : Type 0} → NodeDuesAreAnswered Dir
 node_dues_are_answered {Dir} c st end from bytes due w new none run =
-    elim (runs_split (under Faulted (step c (Sent (Peer from bytes)) st)) (λ st. unless_once c (half.asks_again c st) (Goes st)) (went end) w new run) [
-      | inl both ↦ (let its = runs_under Faulted (step c (Sent (Peer from bytes)) st) (went both.0) w both.1 both.2 in
-          let first = of_went (λ its. EndsSo (step c (Sent (Peer from bytes)) st) its w both.1) both.0 its.0 its.1 its.2 in
+    elim (runs_split (under Faulted (step c (Mailed (Peer from bytes)) st)) (λ st. unless_once c (half.asks_again c st) (Goes st)) (went end) w new run) [
+      | inl both ↦ (let its = runs_under Faulted (step c (Mailed (Peer from bytes)) st) (went both.0) w both.1 both.2 in
+          let first = of_went (λ its. EndsSo (step c (Mailed (Peer from bytes)) st) its w both.1) both.0 its.0 its.1 its.2 in
           let unasked = ap (λ (o : _). o.waiting) (peers_stay c from bytes st both.0 w both.1 first) ∙ none in
           let more = said both.0 both.1 first in
           (more.0, more.1, says_no_more c from bytes st both.0 end both.1 new unasked both.3 ∙ more.2))
       | inr early ↦ absurd (not_early early.0 end early.1)
     ]
   where
-    said : (mid : Live Dir) (now : World) → EndsSo (step c (Sent (Peer from bytes)) st) (went mid) w now → (before : List Entry) × (ack : List ℕ) × (now.out ≡ w.out ++ (before ++ Ack due.round.number from ack ∷ []))
+    said : (mid : Live Dir) (now : World) → EndsSo (step c (Mailed (Peer from bytes)) st) (went mid) w now → (before : List Entry) × (ack : List ℕ) × (now.out ≡ w.out ++ (before ++ Ack due.round.number from ack ∷ []))
     said mid now run =
-        let adds = runs_add_deeds (step c (Sent (Peer from bytes)) st) (went mid) w now run in
+        let adds = runs_add_deeds (step c (Mailed (Peer from bytes)) st) (went mid) w now run in
         let last = answered c st from bytes due w.held in
         let are = ap deed_lines last.2 ∙ last_line last.0 (Ack due.round.number from last.1) in
         let all = sym (adds.of_deeds ∙ ap (λ (ls : List Entry). adds.added ++ ls) adds.own_end.0 ∙ append-nil adds.added) in

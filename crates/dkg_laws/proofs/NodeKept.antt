@@ -18,7 +18,7 @@ use Rattle.dkg_core.specs.Courses.{Course, on_devices, Deed, EndsSo}
 use Rattle.dkg_core.specs.Behind.{EndsBehind, IfEarly, IsAside}
 use Rattle.dkg_core.specs.Seen.{Seen}
 use Rattle.dkg_core.specs.Fixed.{Fixed}
-use Rattle.dkg_core.specs.Live.{Live, NodeStop, Faulted, Message, Sent, Peer, awaited_height}
+use Rattle.dkg_core.specs.Live.{Live, NodeStop, Faulted, Message, Mailed, Peer, awaited_height}
 use Rattle.dkg_core.specs.Setup.{setup}
 use Rattle.dkg_core.specs.Core.{opening, step, opens_in, begun_life}
 use Rattle.dkg_core.specs.Laws.{Law, Holds, Anything, IsSilent, prune_law}
@@ -190,7 +190,7 @@ module _ {Dir : Type 0} (c : Fixed Dir) (st : Live Dir) (from : ℕ) (round : Ro
 
 pub node_peers_are_kept : {Dir : Type 0} → NodePeersAreKept Dir
 node_peers_are_kept {Dir} c st from bytes round ended w new pairs is_round agrees run =
-    let message : Message Dir = Sent (Peer from bytes) in
+    let message : Message Dir = Mailed (Peer from bytes) in
     let b = steps_run_behind c st message ended w new run in
     kept_behind c st from round w.out pairs b.mid new b.lines b.held b.out b.aside
     (along_runs (IsKeptAt c st from round w.out pairs) (on_devices (step c message st)) b.half w b.mid (kept c st from bytes round w pairs is_round agrees) b.run)

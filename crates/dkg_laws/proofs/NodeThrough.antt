@@ -22,11 +22,11 @@ use Rattle.dkg_store.specs.Acts.{Held}
 use Rattle.dkg_core.specs.Courses.{Course, Say, Goes, Stops, Genesis, bind, under}
 use Rattle.dkg_core.specs.Seen.{Seen}
 use Rattle.dkg_core.specs.Fixed.{Fixed, OneShot}
-use Rattle.dkg_core.specs.Live.{Live, Orchestrator, Inclusion, Waiting, NodeStop, Faulted, Stage, Deals, Includes, Follows, Ends, Mail, Peer, NextLog, ReleaseLog, EpochInfoOf, Feed, Over, Cancel, Work, Message, Sent, Finalized, awaited_height, phase_of, is_last_height, with_inclusion, with_orchestrator, with_tip}
+use Rattle.dkg_core.specs.Live.{Live, Orchestrator, Inclusion, Waiting, NodeStop, Faulted, Stage, Deals, Includes, Follows, Ends, Mail, Peer, NextLog, ReleaseLog, EpochInfoOf, Feed, Over, Cancel, Work, Message, Mailed, Finalized, awaited_height, phase_of, is_last_height, with_inclusion, with_orchestrator, with_tip}
 use Rattle.dkg_core.specs.Setup as s
 use Rattle.dkg_core.specs.Core.{step, no_inclusion}
 use Rattle.dkg_core.specs.Entering as half
-use Rattle.dkg_core.specs.Entering.{Half, HalfAnswer, Acknowledges, Withholds, active, takes_delivered, is_ready}
+use Rattle.dkg_core.specs.Entering.{LifeAndAnswer, HalfAnswer, AcknowledgesBlock, Withholds, active, takes_delivered, is_ready}
 use Rattle.dkg_core.specs.Node.{node_step, unless_once}
 use Rattle.dkg_core.specs.Behind.{OnlySays, IsAside, IsSameBeside, event_of}
 use Rattle.dkg_core.specs.Endings.{ComesTo, stage_in, first_block, validity, answer_in}
@@ -153,7 +153,7 @@ Never stop = ⊥
 module _ {Dir : Type 0} (c : Fixed Dir) (st : Live Dir) (block : Block Dir) (epoch : ℕ) (info : EpochInfo Dir) (full : LacksNobody c) (act : active st.orchestrator ≡ Some epoch)
     (at_last : block.height ≡ last c.blocks_per_epoch epoch) (none : st.orchestrator.waiting ≡ None) (carries : info_of block.payload ≡ Some info) (of_next : info.epoch ≡ epoch + 1)
     (ready : is_ready st.orchestrator.fence.ready (epoch + 1) ≡ true) (there : IsSome (lookup (epoch + 1) st.orchestrator.schemes)) where
-  abbrev On : Half Dir → Type 0
+  abbrev On : LifeAndAnswer Dir → Type 0
   On = HasPassedOn st (epoch + 1)
 
   abbrev waiting : Waiting Dir
@@ -163,14 +163,14 @@ module _ {Dir : Type 0} (c : Fixed Dir) (st : Live Dir) (block : Block Dir) (epo
   abbrev asked : Orchestrator Dir
   asked = record st.orchestrator { fence = waited (epoch + 1) waits.Ready st.orchestrator.fence }
 
-  passed : On (record { live = with_orchestrator (half.with_entered (epoch + 1) asked) st; answer = Acknowledges })
+  passed : On (record { live = with_orchestrator (half.with_entered (epoch + 1) asked) st; answer = AcknowledgesBlock })
   passed = record { entered = refl; unawaited = refl; going = (active_of st.orchestrator epoch act).0; unclosed = refl; same = refl; answer = refl }
 
   starts : (found : Option SchemeInfo) → IsSome found → ComesTo Never On (half.starts_engine asked waiting found st)
   starts None some = absurd (let no : ◌≡◌ {A = Bool} false true = some in cc)
   starts (Some scheme) some = stopped st.orchestrator.entered
     where
-      stopped : (old : Option ℕ) → ComesTo Never On (half.stops_engine old (Say (Entered (epoch + 1)) (half.leaves (half.with_entered (epoch + 1) asked) Acknowledges st)))
+      stopped : (old : Option ℕ) → ComesTo Never On (half.stops_engine old (Say (Entered (epoch + 1)) (half.leaves (half.with_entered (epoch + 1) asked) AcknowledgesBlock st)))
       stopped None = passed
       stopped (Some old) = passed
 
@@ -195,9 +195,9 @@ module _ {Dir : Type 0} (c : Fixed Dir) (st : Live Dir) (block : Block Dir) (epo
   at_epoch : ComesTo Never On (half.delivered_in c block st (Some epoch))
   at_epoch =
       comes_if Never On (nat_lt (last c.blocks_per_epoch epoch) block.height) (Stops (Faulted (SkippedHeight (last c.blocks_per_epoch epoch) block.height)))
-      (if nat_lt block.height (last c.blocks_per_epoch epoch) then half.leaves st.orchestrator Acknowledges st else half.enters_at c block (epoch + 1) (Some block.height) st)
+      (if nat_lt block.height (last c.blocks_per_epoch epoch) then half.leaves st.orchestrator AcknowledgesBlock st else half.enters_at c block (epoch + 1) (Some block.height) st)
       (λ e. not_above (last c.blocks_per_epoch epoch) block.height (sym at_last) e)
-      (λ e. comes_if Never On (nat_lt block.height (last c.blocks_per_epoch epoch)) (half.leaves st.orchestrator Acknowledges st) (half.enters_at c block (epoch + 1) (Some block.height) st)
+      (λ e. comes_if Never On (nat_lt block.height (last c.blocks_per_epoch epoch)) (half.leaves st.orchestrator AcknowledgesBlock st) (half.enters_at c block (epoch + 1) (Some block.height) st)
       (λ e. absurd (not_above block.height (last c.blocks_per_epoch epoch) at_last e)) (λ e. enters_at))
 
   passes_on : ComesTo Never On (takes_delivered c block st)
@@ -496,21 +496,21 @@ module _ {Dir : Type 0} (c : Fixed Dir) (form : IsFormThrough c) (full : LacksNo
       in_reshare (λ now. now ≡ end) (half.asks_again c end) (Goes end)
       (subst (λ (o : Option (Waiting Dir)). ComesTo Never (λ now. now ≡ end) (option_map_or (λ w. bind (half.enters c w end) (half.acked_late w.block)) o (Goes end))) (sym none) refl)
 
-  by_mail : (its : Mail Dir) → ((end : Live Dir) (left : Option Held) → IsNextThrough c stored st (Sent its) devices end left → IsActiveThrough end) → IsTakenThrough c (Sent its) st
-      → ComesOver (Stops_at (Sent its)) (To (Sent its)) (node_step c (event_of (Sent its)) st) devices
+  by_mail : (its : Mail Dir) → ((end : Live Dir) (left : Option Held) → IsNextThrough c stored st (Mailed its) devices end left → IsActiveThrough end) → IsTakenThrough c (Mailed its) st
+      → ComesOver (Stops_at (Mailed its)) (To (Mailed its)) (node_step c (event_of (Mailed its)) st) devices
   by_mail its stays taken =
-      over_behind (Stops_at (Sent its)) (IsNextThrough c stored st (Sent its) devices) (To (Sent its)) (under Faulted (step c (Sent its) st)) (λ end. unless_once c (half.asks_again c end) (Goes end)) devices
-      (over_under Faulted (IsStopThrough c stored st (Sent its) devices) (IsNextThrough c stored st (Sent its) devices) (step c (Sent its) st) devices
-      (steps_come_through c stored st (Sent its) devices form reads taken live))
+      over_behind (Stops_at (Mailed its)) (IsNextThrough c stored st (Mailed its) devices) (To (Mailed its)) (under Faulted (step c (Mailed its) st)) (λ end. unless_once c (half.asks_again c end) (Goes end)) devices
+      (over_under Faulted (IsStopThrough c stored st (Mailed its) devices) (IsNextThrough c stored st (Mailed its) devices) (step c (Mailed its) st) devices
+      (steps_come_through c stored st (Mailed its) devices form reads taken live))
       (λ end left next. let act = stays end left next in
-      behind (Sent its) end left (λ now. now ≡ end) (unless_once c (half.asks_again c end) (Goes end)) (heard_aside c end) (asks_again end act.active.unawaited) (still (Sent its) end left next act))
+      behind (Mailed its) end left (λ now. now ≡ end) (unless_once c (half.asks_again c end) (Goes end)) (heard_aside c end) (asks_again end act.active.unawaited) (still (Mailed its) end left next act))
 
   module _ (block : Block Dir) where
     abbrev next_half : Live Dir → Course Dir NodeStop (Live Dir)
     next_half end = unless_once c (bind (takes_delivered c block end) (λ left. half.acked_at block.height left.answer left.live)) (Say (Acked block.height) (Goes end))
 
     acked : (P : Live Dir → Type 0) (answer : HalfAnswer) (end : Live Dir) → P end → ComesTo Never P (half.acked_at block.height answer end)
-    acked P Acknowledges end p = p
+    acked P AcknowledgesBlock end p = p
     acked P Withholds end p = p
 
     module _ (end : Live Dir) (left : Option Held) (next : IsNextThrough c stored st (Finalized block) devices end left) where
@@ -530,7 +530,7 @@ module _ {Dir : Type 0} (c : Fixed Dir) (form : IsFormThrough c) (full : LacksNo
           (halves_pass_on c end block its.epoch its.info full its.act its.at_last its.unawaited its.carries its.of_next its.ready its.there)
           (λ half on. acked (λ now. To (Finalized block) now left) half.answer half.live (passed_to half on)))) (λ now to. to)
         where
-          passed_to : (half : Half Dir) → HasPassedOn end (its.epoch + 1) half → To (Finalized block) half.live left
+          passed_to : (half : LifeAndAnswer Dir) → HasPassedOn end (its.epoch + 1) half → To (Finalized block) half.live left
           passed_to half on = record {
             mid = end;
             next = next;
@@ -556,14 +556,14 @@ module _ {Dir : Type 0} (c : Fixed Dir) (form : IsFormThrough c) (full : LacksNo
 
   node_steps : (message : Message Dir) → IsTakenThrough c message st → ComesOver (Stops_at message) (To message) (node_step c (event_of message) st) devices
   node_steps (Finalized block) taken = at_block block
-  node_steps (Sent (Peer from bytes)) taken = by_mail (Peer from bytes) (λ end left next. heard_active c st is_active from end next.is) taken
-  node_steps (Sent (NextLog request height)) taken = by_mail (NextLog request height) (λ end left next. mail_active c st is_active (NextLog request height) end next.is.0) taken
-  node_steps (Sent (ReleaseLog height)) taken = by_mail (ReleaseLog height) (λ end left next. mail_active c st is_active (ReleaseLog height) end next.is.0) taken
-  node_steps (Sent (EpochInfoOf request)) taken = by_mail (EpochInfoOf request) (λ end left next. mail_active c st is_active (EpochInfoOf request) end next.is.0) taken
-  node_steps (Sent (Feed request block)) taken = by_mail (Feed request block) (λ end left next. mail_active c st is_active (Feed request block) end next.is.0) taken
-  node_steps (Sent (Over request)) taken = by_mail (Over request) (λ end left next. mail_active c st is_active (Over request) end next.is.0) taken
-  node_steps (Sent (Cancel request)) taken = by_mail (Cancel request) (λ end left next. mail_active c st is_active (Cancel request) end next.is.0) taken
-  node_steps (Sent (Work handed)) taken = by_mail (Work handed) (λ end left next. mail_active c st is_active (Work handed) end next.is.0) taken
+  node_steps (Mailed (Peer from bytes)) taken = by_mail (Peer from bytes) (λ end left next. heard_active c st is_active from end next.is) taken
+  node_steps (Mailed (NextLog request height)) taken = by_mail (NextLog request height) (λ end left next. mail_active c st is_active (NextLog request height) end next.is.0) taken
+  node_steps (Mailed (ReleaseLog height)) taken = by_mail (ReleaseLog height) (λ end left next. mail_active c st is_active (ReleaseLog height) end next.is.0) taken
+  node_steps (Mailed (EpochInfoOf request)) taken = by_mail (EpochInfoOf request) (λ end left next. mail_active c st is_active (EpochInfoOf request) end next.is.0) taken
+  node_steps (Mailed (Feed request block)) taken = by_mail (Feed request block) (λ end left next. mail_active c st is_active (Feed request block) end next.is.0) taken
+  node_steps (Mailed (Over request)) taken = by_mail (Over request) (λ end left next. mail_active c st is_active (Over request) end next.is.0) taken
+  node_steps (Mailed (Cancel request)) taken = by_mail (Cancel request) (λ end left next. mail_active c st is_active (Cancel request) end next.is.0) taken
+  node_steps (Mailed (Work handed)) taken = by_mail (Work handed) (λ end left next. mail_active c st is_active (Work handed) end next.is.0) taken
 
 pub node_steps_come_through : {Dir : Type 0} → NodeStepsComeThrough Dir
 node_steps_come_through c stored st message devices form full reads taken live is_active = node_steps c form full stored st live is_active devices reads message taken

@@ -30,7 +30,7 @@ use Rattle.dkg_store.proofs.Noted.{says_ack, says_log, noted_placed, noted_silen
 use Rattle.dkg_store.proofs.Pruned.{acks_from, logs_from}
 use Rattle.dkg_core.specs.Courses.{Course, Say, Goes, Stops, bind, Throughout}
 use Rattle.dkg_core.specs.Fixed.{Fixed}
-use Rattle.dkg_core.specs.Live.{Live, Records, Dealer, Seat, Plays, Watches, Stage, Deals, Includes, Follows, Ends, Message, Sent, Peer, Finalized, NextLog, ReleaseLog, EpochInfoOf, Feed, Over, Cancel, Work, recorded_at, with_used}
+use Rattle.dkg_core.specs.Live.{Live, Records, Dealer, Seat, Plays, Watches, Stage, Deals, Includes, Follows, Ends, Message, Mailed, Peer, Finalized, NextLog, ReleaseLog, EpochInfoOf, Feed, Over, Cancel, Work, recorded_at, with_used}
 use Rattle.dkg_core.specs.Logs.{carried_log_event, recorded_log}
 use Rattle.dkg_core.specs.Setup as s
 use Rattle.dkg_core.specs.Dealing as d
@@ -237,15 +237,15 @@ module _ {Dir : Type 0} (c : Fixed Dir) (R : List SectionEntry → Type 0) (most
   pub step_keeps : (st : Live Dir) (message : Message Dir) (w : World) → reach_of c message ≤ most → CanRecord c st message → AreAgreed st.records w.held
       → ((block : Block Dir) → message ≡ Finalized block → judged_block c block st ≡ Applied → st.participation.stage ≡ Includes → KeepsLog block R) → P w → Throughout P (step c message st) w
   step_keeps st (Finalized block) w low can a keeps_log q = block_keeps block low st w can a (keeps_log block refl) q
-  step_keeps st (Sent (Peer from bytes)) w low can a keeps_log q = hears from st w a q bytes st.participation.stage can.brings
-  step_keeps st (Sent (NextLog request height)) w low can a keeps_log q = walk.gives c P (λ w line aside q. q) request height (i.served_now st) (with_used request st) w q
-  step_keeps st (Sent (ReleaseLog height)) w low can a keeps_log q = q
-  step_keeps st (Sent (EpochInfoOf request)) w low can a keeps_log q = walk.asks_in c P (λ w line aside q. q) request (with_used request st) st.participation.stage w q
-  step_keeps st (Sent (Feed request block)) w low can a keeps_log q =
+  step_keeps st (Mailed (Peer from bytes)) w low can a keeps_log q = hears from st w a q bytes st.participation.stage can.brings
+  step_keeps st (Mailed (NextLog request height)) w low can a keeps_log q = walk.gives c P (λ w line aside q. q) request height (i.served_now st) (with_used request st) w q
+  step_keeps st (Mailed (ReleaseLog height)) w low can a keeps_log q = q
+  step_keeps st (Mailed (EpochInfoOf request)) w low can a keeps_log q = walk.asks_in c P (λ w line aside q. q) request (with_used request st) st.participation.stage w q
+  step_keeps st (Mailed (Feed request block)) w low can a keeps_log q =
       walk.advanced c P (λ w line aside q. q) (i.changed request (λ r. if r.ended then r else record r { blocks = r.blocks ++ block ∷ [] }) st) w q
-  step_keeps st (Sent (Over request)) w low can a keeps_log q = walk.advanced c P (λ w line aside q. q) (i.changed request (λ r. record r { ended = true }) st) w q
-  step_keeps st (Sent (Cancel request)) w low can a keeps_log q = walk.cancels c P (λ w line aside q. q) request st w q
-  step_keeps st (Sent (Work handed)) w low can a keeps_log q = walk.works c P (λ w line aside q. q) handed st w q
+  step_keeps st (Mailed (Over request)) w low can a keeps_log q = walk.advanced c P (λ w line aside q. q) (i.changed request (λ r. record r { ended = true }) st) w q
+  step_keeps st (Mailed (Cancel request)) w low can a keeps_log q = walk.cancels c P (λ w line aside q. q) request st w q
+  step_keeps st (Mailed (Work handed)) w low can a keeps_log q = walk.works c P (λ w line aside q. q) handed st w q
 
 -- WHAT IS NOTED
 

@@ -30,7 +30,7 @@ use Rattle.dkg_core.specs.Live.{Live, Orchestrator, Waiting, NodeStop, Faulted, 
 use Rattle.dkg_core.specs.Setup as s
 use Rattle.dkg_core.specs.Plans as p
 use Rattle.dkg_core.specs.Entering as half
-use Rattle.dkg_core.specs.Entering.{Half}
+use Rattle.dkg_core.specs.Entering.{LifeAndAnswer}
 use Rattle.dkg_core.specs.Core.{opening, opens_in, begun_life}
 use Rattle.dkg_core.specs.Node.{unless_once, kept_material, node_opening}
 use Rattle.dkg_core.specs.Laws.{start_of}
@@ -217,7 +217,7 @@ module _ {Dir : Type 0} (c : Fixed Dir) (st : Live Dir) (seen : Seen) (k : Held)
   NoStop stop = ⊥
 
   -- no device is touched
-  abbrev Entered : Half Dir → Option Held → Type 0
+  abbrev Entered : LifeAndAnswer Dir → Option Held → Type 0
   Entered half left = IsEntered c st half.live × (left ≡ devices)
 
   module _ (block : Block Dir) (is : first_block c ≡ Some block) (info : EpochInfo Dir) (seated : IsSeated c s.Uncommitted info (share_read c info k) (seed_read c info k) (started c seen) st) where
@@ -234,9 +234,9 @@ module _ {Dir : Type 0} (c : Fixed Dir) (st : Live Dir) (seen : Seen) (k : Held)
     starts_engine o None e active unclosed = let t : ◌≡◌ {A = Bool} false true = e in cc
     starts_engine o (Some scheme) e active unclosed = stopped o.entered
       where
-        stopped : (old : Option ℕ) → ComesOver NoStop Entered (half.stops_engine old (Say (lines.Entered (first_epoch c)) (half.leaves (half.with_entered (first_epoch c) o) half.Acknowledges st))) devices
-        stopped None = entered o half.Acknowledges active unclosed
-        stopped (Some epoch) = entered o half.Acknowledges active unclosed
+        stopped : (old : Option ℕ) → ComesOver NoStop Entered (half.stops_engine old (Say (lines.Entered (first_epoch c)) (half.leaves (half.with_entered (first_epoch c) o) half.AcknowledgesBlock st))) devices
+        stopped None = entered o half.AcknowledgesBlock active unclosed
+        stopped (Some epoch) = entered o half.AcknowledgesBlock active unclosed
 
     tracks : (o : Orchestrator Dir) (lacking : Option ℕ) → lacking ≡ None → is_some (lookup (first_epoch c) o.schemes) ≡ true → o.halted ≡ false → o.fence.closed ≡ st.orchestrator.fence.closed → ComesOver NoStop Entered (half.tracks_peers o waiting lacking st) devices
     tracks o None none e active unclosed = starts_engine o (lookup (first_epoch c) o.schemes) e active unclosed

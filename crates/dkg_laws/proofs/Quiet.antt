@@ -9,11 +9,11 @@ use Rattle.dkg_ceremony.specs.Schedule.{epoch_of}
 use Rattle.dkg_store.specs.Acts.{Ended, went, stopped, broken}
 use Rattle.dkg_store.specs.Recorded.{restored_of}
 use Rattle.dkg_core.specs.Courses.{Course, Say, on_devices, Deed}
-use Rattle.dkg_core.specs.Said.{Said as SaysBy}
+use Rattle.dkg_core.specs.Said.{Said}
 use Rattle.dkg_core.specs.Said as said
 use Rattle.dkg_core.specs.Seen.{Seen}
 use Rattle.dkg_core.specs.Fixed.{Fixed}
-use Rattle.dkg_core.specs.Live.{Live, Message, Sent, Peer, Finalized, NextLog, ReleaseLog, EpochInfoOf, Feed, Over, Cancel, Work, awaited_height}
+use Rattle.dkg_core.specs.Live.{Live, Message, Mailed, Peer, Finalized, NextLog, ReleaseLog, EpochInfoOf, Feed, Over, Cancel, Work, awaited_height}
 use Rattle.dkg_core.specs.Setup.{setup}
 use Rattle.dkg_core.specs.Core.{opening, step, opens_in, begun_life}
 use Rattle.dkg_core.specs.Laws.{Law, Holds, Anything, IsQuiet, IsSilent, PeerLine, peer_law, OtherLine, OfHalves, OfOffers, IsDealtToItself, IsOffered, other_law, prune_law, reach_of}
@@ -54,24 +54,24 @@ module _ {Dir : Type 0} (c : Fixed Dir) (st : Live Dir) (ended : Ended Fault (Li
   AddsQuiet = (added : List Entry) × (new ≡ old ++ added) × AllByRecursion IsQuiet added
 
   of_law : (law : Law Dir (Live Dir)) (message : Message Dir) → ((past : List (Deed Dir)) (line : Entry) → law.line past line → IsQuiet line) → Holds law [] (step c message st)
-      → SaysBy (on_devices (step c message st)) ended old new → AddsQuiet
+      → Said (on_devices (step c message st)) ended old new → AddsQuiet
   of_law law message so holds said =
       let front = lines_obey law [] (step c message st) ended old new holds said in
       (deed_lines front.deeds, front.added, all_lines law IsQuiet so [] front.deeds front.obeys)
 
-  of_other : (message : Message Dir) → Holds (other_law c (IsDealtToItself c st) (IsOffered c st) (reach_of c message)) [] (step c message st) → SaysBy (on_devices (step c message st)) ended old new → AddsQuiet
+  of_other : (message : Message Dir) → Holds (other_law c (IsDealtToItself c st) (IsOffered c st) (reach_of c message)) [] (step c message st) → Said (on_devices (step c message st)) ended old new → AddsQuiet
   of_other message holds said = of_law (other_law c (IsDealtToItself c st) (IsOffered c st) (reach_of c message)) message (other_quiet c (IsDealtToItself c st) (IsOffered c st)) holds said
 
-  each : (message : Message Dir) → SaysBy (on_devices (step c message st)) ended old new → AddsQuiet
+  each : (message : Message Dir) → Said (on_devices (step c message st)) ended old new → AddsQuiet
   each (Finalized b) said = of_other (Finalized b) (others_acknowledge_nothing c st (Finalized b) tt) said
-  each (Sent (Peer from bytes)) said = of_law (peer_law c st from) (Sent (Peer from bytes)) (peer_quiet c st from) (heard c st from bytes) said
-  each (Sent (NextLog request height)) said = of_other (Sent (NextLog request height)) (others_acknowledge_nothing c st (Sent (NextLog request height)) tt) said
-  each (Sent (ReleaseLog height)) said = of_other (Sent (ReleaseLog height)) (others_acknowledge_nothing c st (Sent (ReleaseLog height)) tt) said
-  each (Sent (EpochInfoOf request)) said = of_other (Sent (EpochInfoOf request)) (others_acknowledge_nothing c st (Sent (EpochInfoOf request)) tt) said
-  each (Sent (Feed request b)) said = of_other (Sent (Feed request b)) (others_acknowledge_nothing c st (Sent (Feed request b)) tt) said
-  each (Sent (Over request)) said = of_other (Sent (Over request)) (others_acknowledge_nothing c st (Sent (Over request)) tt) said
-  each (Sent (Cancel request)) said = of_other (Sent (Cancel request)) (others_acknowledge_nothing c st (Sent (Cancel request)) tt) said
-  each (Sent (Work handed)) said = of_other (Sent (Work handed)) (others_acknowledge_nothing c st (Sent (Work handed)) tt) said
+  each (Mailed (Peer from bytes)) said = of_law (peer_law c st from) (Mailed (Peer from bytes)) (peer_quiet c st from) (heard c st from bytes) said
+  each (Mailed (NextLog request height)) said = of_other (Mailed (NextLog request height)) (others_acknowledge_nothing c st (Mailed (NextLog request height)) tt) said
+  each (Mailed (ReleaseLog height)) said = of_other (Mailed (ReleaseLog height)) (others_acknowledge_nothing c st (Mailed (ReleaseLog height)) tt) said
+  each (Mailed (EpochInfoOf request)) said = of_other (Mailed (EpochInfoOf request)) (others_acknowledge_nothing c st (Mailed (EpochInfoOf request)) tt) said
+  each (Mailed (Feed request b)) said = of_other (Mailed (Feed request b)) (others_acknowledge_nothing c st (Mailed (Feed request b)) tt) said
+  each (Mailed (Over request)) said = of_other (Mailed (Over request)) (others_acknowledge_nothing c st (Mailed (Over request)) tt) said
+  each (Mailed (Cancel request)) said = of_other (Mailed (Cancel request)) (others_acknowledge_nothing c st (Mailed (Cancel request)) tt) said
+  each (Mailed (Work handed)) said = of_other (Mailed (Work handed)) (others_acknowledge_nothing c st (Mailed (Work handed)) tt) said
 
 pub steps_are_quiet : {Dir : Type 0} → StepsAreQuiet Dir
 steps_are_quiet c st message ended old new said = each c st ended old new message said

@@ -20,7 +20,7 @@ use Rattle.dkg_store.proofs.Noted.{says_log, noted_placed, noted_silent}
 use Rattle.dkg_store.proofs.Pruned.{logs_from}
 use Rattle.dkg_core.specs.Courses.{Goes, bind, on_devices, Throughout}
 use Rattle.dkg_core.specs.Fixed.{Fixed}
-use Rattle.dkg_core.specs.Live.{Live, Stage, Deals, Includes, Follows, Ends, Mail, Message, Sent, Finalized, recorded_at, is_last_height, with_tip}
+use Rattle.dkg_core.specs.Live.{Live, Stage, Deals, Includes, Follows, Ends, Mail, Message, Mailed, Finalized, recorded_at, is_last_height, with_tip}
 use Rattle.dkg_core.specs.Logs.{is_accepted, carried_log_event, recorded_log}
 use Rattle.dkg_core.specs.Setup as s
 use Rattle.dkg_core.specs.Dealing as d
@@ -38,7 +38,7 @@ use Rattle.dkg_core.proofs.Running.{along_next, along_end}
 use Rattle.dkg_core.proofs.Upkeep.{along_if, along_option}
 use Rattle.dkg_core.proofs.Walking as walk
 
-message_apart : {Dir : Type 0} (mail : Mail Dir) (block : Block Dir) → ◌≡◌ {A = Message Dir} (Sent mail) (Finalized block) → ⊥
+message_apart : {Dir : Type 0} (mail : Mail Dir) (block : Block Dir) → ◌≡◌ {A = Message Dir} (Mailed mail) (Finalized block) → ⊥
 message_apart mail block e = cc
 
 module _ {Dir : Type 0} (c : Fixed Dir) (st : Live Dir) (block : Block Dir) (most : ℕ) (w : World) where
@@ -158,9 +158,9 @@ node_steps_record_logs c st (Finalized block) ended most w new low agreed can ru
     let behind = steps_run_behind c st (Finalized block) ended w new run in
     let its = along_runs (P c st block most w) (on_devices (step c (Finalized block) st)) behind.half w behind.mid (block_records c st block most w low can agreed) behind.run key above in
     subst (λ (h : Held). IsNotedNow c st (Finalized block) key (get (logs_in (notes w.held)) key) (get (logs_in (notes h)) key)) (sym behind.held) its
-node_steps_record_logs {Dir} c st (Sent mail) ended most w new low agreed can run key above =
-    let behind = steps_run_behind c st (Sent mail) ended w new run in
+node_steps_record_logs {Dir} c st (Mailed mail) ended most w new low agreed can run key above =
+    let behind = steps_run_behind c st (Mailed mail) ended w new run in
     let logs = logs_in (notes w.held) in
     ap (λ (h : Held). get (logs_in (notes h)) key) behind.held
-    ∙ along_runs (λ (x : World). Same noted_log most logs (notes x.held)) (on_devices (step c (Sent mail) st)) behind.half w behind.mid
-    (step_keeps c (Same noted_log most logs) most (logs_stay most logs) st (Sent mail) w low can agreed (λ block is. absurd (message_apart mail block is)) (λ key above. refl)) behind.run key above
+    ∙ along_runs (λ (x : World). Same noted_log most logs (notes x.held)) (on_devices (step c (Mailed mail) st)) behind.half w behind.mid
+    (step_keeps c (Same noted_log most logs) most (logs_stay most logs) st (Mailed mail) w low can agreed (λ block is. absurd (message_apart mail block is)) (λ key above. refl)) behind.run key above

@@ -23,7 +23,7 @@ use Rattle.dkg_store.specs.Recorded.{restored_of}
 use Rattle.dkg_secrets.specs.declared.secrets.SecretOp.TheVariants.{PutSeed}
 use Rattle.dkg_store.proofs.Halves.{seed_halves}
 use Rattle.dkg_core.specs.Sources.{position, startup}
-use Rattle.dkg_core.specs.Courses.{Course, Say, Do, Call, Stops, Tracks, Throughout}
+use Rattle.dkg_core.specs.Courses.{Course, Say, Do, CallOutside, Stops, Tracks, Throughout}
 use Rattle.dkg_core.specs.Fixed.{Fixed, Material, OneShot, start}
 use Rattle.dkg_core.specs.Live.{Live, awaited_height}
 use Rattle.dkg_core.specs.Setup as s
@@ -135,7 +135,7 @@ module _ {Dir : Type 0} (c : Fixed Dir) (ack_of : OwnAckOf) (most : ℕ) (base :
       (λ e. along_if P w (o.is_refused c once) (ends_once c None st) (o.begins_once c once seed st) (λ e. (q, tell w _ tt q)) (λ e. begins_once once seed st w q))
 
   tracks_once : (once : OneShot Dir) (course : Course Dir Fault (Live Dir)) (w : World) → Throughout P course w → Throughout P (o.tracks_once c once course) w
-  tracks_once once course w t = along_if P w (o.is_refused c once) course (Call (Tracks 0 (o.peers_in once) once.directory) course) (λ e. t) (λ e. t)
+  tracks_once once course w t = along_if P w (o.is_refused c once) course (CallOutside (Tracks 0 (o.peers_in once) once.directory) course) (λ e. t) (λ e. t)
 
   valid_once : (once : OneShot Dir) (st : Live Dir) (valid : Result (Unit {0}) ParticipantsError) (w : World) → P w → Throughout P (o.valid_once c once st valid) w
   valid_once once st (Err e) w q = q

@@ -21,7 +21,7 @@ use Rattle.dkg_types.specs.PayloadCodes.{payload_spelling, info_payload}
 use Rattle.dkg_infos.specs.Units.{unit_spelling}
 use Rattle.dkg_infos.specs.Validation.{validation}
 use Rattle.dkg_probe.specs.Wire.{tag_after}
-use Rattle.dkg_core.specs.Live.{Event, Prepare, Propose, Verify, Subscribe, Retry, ProbeReply}
+use Rattle.dkg_core.specs.Live.{Event, Prepare, Propose, Verify, Subscribe, Retry, PeerReply}
 use Rattle.dkg_core.specs.Desk.{block_spelled}
 use Rattle.dkg_laws.proofs.Lives.{Life, plays}
 use Rattle.dkg_laws.proofs.Worked.{Dir, life_of, configured, genesis, plain, block, info, keys, says, last_of}
@@ -71,7 +71,7 @@ abbrev pub certified : (epoch view : ℕ) → Finalization
 certified epoch view = record { epoch = epoch; view = view; parent_view = 0; payload = replicate 32 epoch; certificate = certificate_of 0 epoch view 0 (replicate 32 epoch) }
 
 abbrev pub latest : (from epoch : ℕ) → Event Dir
-latest from epoch = ProbeReply from (5 ∷ finalization_spelling (certified epoch 0))
+latest from epoch = PeerReply from (5 ∷ finalization_spelling (certified epoch 0))
 
 abbrev pub to_all_dealers : List Entry
 to_all_dealers = Sent (Some 1) (4 ∷ []) ∷ Sent (Some 2) (4 ∷ []) ∷ Sent (Some 3) (4 ∷ []) ∷ Sent (Some 4) (4 ∷ []) ∷ []

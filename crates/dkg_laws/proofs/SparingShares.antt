@@ -11,7 +11,7 @@ use Rattle.dkg_store.specs.Acts.{Held, World}
 use Rattle.dkg_store.proofs.Acts.{along_runs}
 use Rattle.dkg_core.specs.Courses.{Goes, bind, on_devices, Throughout}
 use Rattle.dkg_core.specs.Fixed.{Fixed}
-use Rattle.dkg_core.specs.Live.{Live, Stage, Deals, Includes, Follows, Ends, Sent, Finalized, is_last_height, recorded_at, with_tip}
+use Rattle.dkg_core.specs.Live.{Live, Stage, Deals, Includes, Follows, Ends, Mailed, Finalized, is_last_height, recorded_at, with_tip}
 use Rattle.dkg_core.specs.Logs.{is_accepted, carried_log_event}
 use Rattle.dkg_core.specs.Dealing as d
 use Rattle.dkg_core.specs.Including as i
@@ -66,7 +66,7 @@ ends_apart : ◌≡◌ {A = Stage} Ends Includes → ⊥
 ends_apart e = cc
 
 pub node_steps_spare_shares : {Dir : Type 0} → NodeStepsSpareShares Dir
-node_steps_spare_shares c st (Sent mail) ended most w new secrets low none run = (node_steps_keep_secrets c st (Sent mail) ended most w new secrets low run).1 tt
+node_steps_spare_shares c st (Mailed mail) ended most w new secrets low none run = (node_steps_keep_secrets c st (Mailed mail) ended most w new secrets low run).1 tt
 node_steps_spare_shares {Dir} c st (Finalized block) ended most w new secrets low none run = either st.participation.stage refl
   where
     others : (stage : Stage) → st.participation.stage ≡ stage → (stage ≡ Includes → ⊥) → KeepsShares most w.held new

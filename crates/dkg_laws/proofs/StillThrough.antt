@@ -6,7 +6,7 @@ use Rattle.dkg_ceremony.specs.Schedule.{midpoint}
 use Rattle.dkg_types.specs.Blocks.{Block}
 use Rattle.dkg_store.specs.Acts.{Held}
 use Rattle.dkg_core.specs.Fixed.{Fixed}
-use Rattle.dkg_core.specs.Live.{Live, Stage, Deals, Includes, Follows, Ends, Mail, Peer, NextLog, ReleaseLog, EpochInfoOf, Feed, Over, Cancel, Work, Sent, Finalized, is_last_height, with_inclusion, with_tip}
+use Rattle.dkg_core.specs.Live.{Live, Stage, Deals, Includes, Follows, Ends, Mail, Peer, NextLog, ReleaseLog, EpochInfoOf, Feed, Over, Cancel, Work, Mailed, Finalized, is_last_height, with_inclusion, with_tip}
 use Rattle.dkg_core.specs.Setup as s
 use Rattle.dkg_core.specs.Forms.{Judged, Refusal, Passed, Applied, judged_block}
 use Rattle.dkg_core.specs.Stepping.{IsHeardBy, given_itself, dealt_behind}
@@ -79,11 +79,11 @@ module _ {Dir : Type 0} (c : Fixed Dir) (stored : OfShares) (st : Live Dir) wher
 
 pub next_lives_stay_through : {Dir : Type 0} → NextLivesStayThrough Dir
 next_lives_stay_through c stored st (Finalized block) devices end left none next = judged c stored st block devices (judged_block c block st) end left none next.is
-next_lives_stay_through c stored st (Sent (Peer from bytes)) devices end left none next = heard c stored st from end next.is
-next_lives_stay_through c stored st (Sent (NextLog request height)) devices end left none next = mailed c stored st (NextLog request height) end next.is.0
-next_lives_stay_through c stored st (Sent (ReleaseLog height)) devices end left none next = mailed c stored st (ReleaseLog height) end next.is.0
-next_lives_stay_through c stored st (Sent (EpochInfoOf request)) devices end left none next = mailed c stored st (EpochInfoOf request) end next.is.0
-next_lives_stay_through c stored st (Sent (Feed request block)) devices end left none next = mailed c stored st (Feed request block) end next.is.0
-next_lives_stay_through c stored st (Sent (Over request)) devices end left none next = mailed c stored st (Over request) end next.is.0
-next_lives_stay_through c stored st (Sent (Cancel request)) devices end left none next = mailed c stored st (Cancel request) end next.is.0
-next_lives_stay_through c stored st (Sent (Work handed)) devices end left none next = mailed c stored st (Work handed) end next.is.0
+next_lives_stay_through c stored st (Mailed (Peer from bytes)) devices end left none next = heard c stored st from end next.is
+next_lives_stay_through c stored st (Mailed (NextLog request height)) devices end left none next = mailed c stored st (NextLog request height) end next.is.0
+next_lives_stay_through c stored st (Mailed (ReleaseLog height)) devices end left none next = mailed c stored st (ReleaseLog height) end next.is.0
+next_lives_stay_through c stored st (Mailed (EpochInfoOf request)) devices end left none next = mailed c stored st (EpochInfoOf request) end next.is.0
+next_lives_stay_through c stored st (Mailed (Feed request block)) devices end left none next = mailed c stored st (Feed request block) end next.is.0
+next_lives_stay_through c stored st (Mailed (Over request)) devices end left none next = mailed c stored st (Over request) end next.is.0
+next_lives_stay_through c stored st (Mailed (Cancel request)) devices end left none next = mailed c stored st (Cancel request) end next.is.0
+next_lives_stay_through c stored st (Mailed (Work handed)) devices end left none next = mailed c stored st (Work handed) end next.is.0

@@ -6,7 +6,7 @@ use Rattle.dkg_infos.specs.declared.entry.Entry.TheVariants.{Answer, Log}
 use Rattle.dkg_store.specs.Acts.{World, Ended}
 use Rattle.dkg_core.specs.Courses.{EndsSo}
 use Rattle.dkg_core.specs.Fixed.{Fixed}
-use Rattle.dkg_core.specs.Live.{Live, NodeStop, Mail, Sent, Reshare, with_inclusion}
+use Rattle.dkg_core.specs.Live.{Live, NodeStop, Mail, Mailed, Reshare, with_inclusion}
 use Rattle.dkg_core.specs.Node.{node_step}
 use Rattle.dkg_core.specs.Laws.{IsOther}
 use Rattle.dkg_core.specs.Endings.{CameTo}
@@ -28,5 +28,5 @@ pub record LeavesIdle {Dir : Type 0} (st : Live Dir) (ended : Ended NodeStop (Li
 
 -- MAIL BUT A PEER'S is idle, of whatever life and form, where the orchestrator waits for nothing.
 abbrev pub MailsAreIdle : Type 0 → Type 0
-MailsAreIdle Dir = (c : Fixed Dir) (mail : Mail Dir) (st : Live Dir) (ended : Ended NodeStop (Live Dir)) (w new : World) → IsOther (Sent mail) → st.orchestrator.waiting ≡ None
+MailsAreIdle Dir = (c : Fixed Dir) (mail : Mail Dir) (st : Live Dir) (ended : Ended NodeStop (Live Dir)) (w new : World) → IsOther (Mailed mail) → st.orchestrator.waiting ≡ None
     → EndsSo (node_step c (Reshare mail) st) ended w new → LeavesIdle st ended w new

@@ -10,7 +10,7 @@ use Rattle.dkg_store.specs.Noted.{logs_in}
 use Rattle.dkg_store.specs.declared.recorded_log.RecordedLog.{RecordedLog}
 use Rattle.dkg_core.specs.Courses.{EndsSo}
 use Rattle.dkg_core.specs.Fixed.{Fixed}
-use Rattle.dkg_core.specs.Live.{Live, NodeStop, Includes, Message, Sent, Finalized, recorded_at, is_last_height}
+use Rattle.dkg_core.specs.Live.{Live, NodeStop, Includes, Message, Mailed, Finalized, recorded_at, is_last_height}
 use Rattle.dkg_core.specs.Logs.{is_accepted, recorded_log}
 use Rattle.dkg_core.specs.Node.{node_step}
 use Rattle.dkg_core.specs.Behind.{event_of}
@@ -37,7 +37,7 @@ pub record IsRecordedNow {Dir : Type 0} (c : Fixed Dir) (st : Live Dir) (b : Blo
 -- what may be said of a log that is noted behind a message
 abbrev pub IsNotedNow : {Dir : Type 0} → Fixed Dir → Live Dir → Message Dir → (key : ℕ × ℕ) → (old new : Option RecordedLog) → Type 0
 IsNotedNow c st (Finalized b) key old new = (new ≡ old) ⊎ IsRecordedNow c st b key new
-IsNotedNow c st (Sent mail) key old new = new ≡ old
+IsNotedNow c st (Mailed mail) key old new = new ≡ old
 
 -- ANY STEP, wherever it ends, leaves the logs of the epochs that it prunes nothing of as they were, but for one that it records, if what it may record fits a record.
 abbrev pub NodeStepsRecordLogs : Type 0 → Type 0

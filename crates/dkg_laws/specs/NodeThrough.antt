@@ -12,7 +12,7 @@ use Rattle.dkg_core.specs.Said.{Said}
 use Rattle.dkg_core.specs.Seen.{Seen}
 use Rattle.dkg_core.specs.Fixed.{Fixed}
 use Rattle.dkg_core.specs.Live.{Live, NodeStop, Message, Finalized, is_last_height, with_orchestrator}
-use Rattle.dkg_core.specs.Entering.{Half, Acknowledges, active, takes_delivered, is_ready}
+use Rattle.dkg_core.specs.Entering.{LifeAndAnswer, AcknowledgesBlock, active, takes_delivered, is_ready}
 use Rattle.dkg_core.specs.Node.{node_step}
 use Rattle.dkg_core.specs.Behind.{event_of}
 use Rattle.dkg_core.specs.Endings.{ComesTo, CameTo}
@@ -44,13 +44,13 @@ NodeOpeningsThrough Dir = (c : Fixed Dir) (stored : OfShares) → NodeOpeningsTh
 
 -- THE ORCHESTRATOR'S HALF of the last block of the entered epoch never stops where the next one is ready and its scheme registered, where the block carries that
 -- epoch's info, and directories lack nobody: it enters that epoch and acknowledges the block.
-pub record HasPassedOn {Dir : Type 0} (st : Live Dir) (epoch : ℕ) (half : Half Dir) : Type 0 where
+pub record HasPassedOn {Dir : Type 0} (st : Live Dir) (epoch : ℕ) (half : LifeAndAnswer Dir) : Type 0 where
   pub entered : half.live.orchestrator.entered ≡ Some epoch
   pub unawaited : half.live.orchestrator.waiting ≡ None
   pub going : half.live.orchestrator.halted ≡ false
   pub unclosed : half.live.orchestrator.fence.closed ≡ st.orchestrator.fence.closed
   pub same : half.live ≡ with_orchestrator half.live.orchestrator st
-  pub answer : half.answer ≡ Acknowledges
+  pub answer : half.answer ≡ AcknowledgesBlock
 
 abbrev pub HalvesPassOn : Type 0 → Type 0
 HalvesPassOn Dir = (c : Fixed Dir) (st : Live Dir) (b : Block Dir) (epoch : ℕ) (info : EpochInfo Dir) → LacksNobody c → active st.orchestrator ≡ Some epoch → b.height ≡ last c.blocks_per_epoch epoch

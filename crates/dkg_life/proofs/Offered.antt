@@ -17,7 +17,7 @@ use Rattle.dkg_store.specs.Acts.{Ended, Moment, went}
 use Rattle.dkg_store.specs.Dealer.{AckMap, to_send, unsent, with_unsent}
 use Rattle.dkg_store.specs.declared.dealer.Dealer.{Dealer}
 use Rattle.dkg_store.specs.declared.player.Player.{Player}
-use Rattle.dkg_core.specs.Courses.{Course, Say, Do, Call, Ask, Goes, Stops, bind, on_devices}
+use Rattle.dkg_core.specs.Courses.{Course, Say, Do, CallOutside, Ask, Goes, Stops, bind, on_devices}
 use Rattle.dkg_core.specs.Dealing as dealing
 use Rattle.dkg_core.specs.Fixed.{Fixed}
 use Rattle.dkg_core.specs.Live as live
@@ -40,7 +40,7 @@ use Rattle.dkg_life.proofs.Dealt.{halves_on, same_public, some_dealer}
 pub bind_goes : {Dir F S : Type 0} (course : Course Dir F S) → bind course (λ s. Goes s) ≡ course
 bind_goes (Say line course) = ap (λ x. Say line x) (bind_goes course)
 bind_goes (Do op course) = ap (λ x. Do op x) (bind_goes course)
-bind_goes (Call outer course) = ap (λ x. Call outer x) (bind_goes course)
+bind_goes (CallOutside outer course) = ap (λ x. CallOutside outer x) (bind_goes course)
 bind_goes (Ask f) = λ i. Ask (λ h. bind_goes (f h) i)
 bind_goes (Goes end) = refl
 bind_goes (Stops fault) = refl
@@ -49,7 +49,7 @@ bind_goes (Stops fault) = refl
 pub bind_again : {Dir F S T U : Type 0} (course : Course Dir F S) (f : S → Course Dir F T) (g : T → Course Dir F U) → bind (bind course f) g ≡ bind course (λ s. bind (f s) g)
 bind_again (Say line course) f g = ap (λ x. Say line x) (bind_again course f g)
 bind_again (Do op course) f g = ap (λ x. Do op x) (bind_again course f g)
-bind_again (Call outer course) f g = ap (λ x. Call outer x) (bind_again course f g)
+bind_again (CallOutside outer course) f g = ap (λ x. CallOutside outer x) (bind_again course f g)
 bind_again (Ask h) f g = λ i. Ask (λ held. bind_again (h held) f g i)
 bind_again (Goes end) f g = refl
 bind_again (Stops fault) f g = refl

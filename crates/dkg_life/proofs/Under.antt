@@ -12,7 +12,7 @@ use Rattle.dkg_secrets.specs.Secrets.{Secrets}
 use Rattle.dkg_store.specs.declared.call.StoreError.{StoreError}
 use Rattle.dkg_store.specs.declared.call.StoreError.TheVariants.{Disk, Secrets as SecretsFailed, Corrupt, LocalState, StateSyncEpochs, StateSyncMaterial, Cut, NoMemory}
 use Rattle.dkg_store.proofs.Acts.{made_broken, made_stopped}
-use Rattle.dkg_core.specs.Courses.{Course, Say, Do, Call, Ask, Goes, Stops, bind, on_devices}
+use Rattle.dkg_core.specs.Courses.{Course, Say, Do, CallOutside, Ask, Goes, Stops, bind, on_devices}
 use Rattle.dkg_life.specs.declared.stop.Stop.{Stop}
 use Rattle.dkg_life.specs.declared.stop.Stop.TheVariants as stop
 use Rattle.dkg_life.specs.Ends.{fault_of_store, stop_of, cause_in, by_cause, by_stop}
@@ -25,7 +25,7 @@ pub on_bind : {Dir F S T : Type 0} (course : Course Dir F S) (next : S → Cours
     → on_devices (bind course next) ≡ acts_of.bind (on_devices course) (λ s. on_devices (next s))
 on_bind (Say line course) next = ap (acts_of.Say line) (on_bind course next)
 on_bind (Do op course) next = ap (acts_of.Do op) (on_bind course next)
-on_bind (Call outer course) next = on_bind course next
+on_bind (CallOutside outer course) next = on_bind course next
 on_bind (Ask f) next = λ i. acts_of.Ask (λ h. on_bind (f h) next i)
 on_bind (Goes end) next = refl
 on_bind (Stops fault) next = refl

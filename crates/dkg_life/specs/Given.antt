@@ -16,7 +16,7 @@ use Rattle.dkg_core.specs.Seen.{Seen}
 use Rattle.dkg_core.specs.Setup.{recovered_share, seed_for}
 use Rattle.dkg_infos.specs.declared.info.EpochInfo.{EpochInfo}
 use Rattle.dkg_values.specs.Rising.{lookup}
-use Rattle.dkg_core.specs.Sources.{Source}
+use Rattle.dkg_core.specs.Sources.{SourceAnswers}
 use Rattle.dkg_life.specs.declared.config.Terms.{Terms}
 use Rattle.dkg_life.specs.Rules.{PartialPublicOf, SharePublicOf, SharesBy}
 use Rattle.dkg_life.specs.Planless.{seen_planless}
@@ -40,7 +40,7 @@ pub record IsIn {Dir : Type 0} (terms : Terms) (word : ℕ) (c : Fixed Dir) : Ty
   pub word_is : c.word ≡ word
 
 -- .. and this source
-pub record IsLent {Dir : Type 0} (terms : Terms) (source : Source Dir) (word : ℕ) (c : Fixed Dir) : Type 0 where
+pub record IsLent {Dir : Type 0} (terms : Terms) (source : SourceAnswers Dir) (word : ℕ) (c : Fixed Dir) : Type 0 where
   pub of : IsOf terms c
   pub lent : c.source ≡ source
   pub word_is : c.word ≡ word

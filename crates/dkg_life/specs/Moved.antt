@@ -5,10 +5,10 @@ use Rattle.dkg_journal.specs.DeviceCall.{DeviceCall}
 use Rattle.dkg_journal.specs.Fuse.{RanAll}
 use Rattle.dkg_journal.specs.Records.{entries}
 use Rattle.dkg_journal.specs.declared.disk.Op.{Op}
-use Rattle.dkg_store.specs.Both.{Call, MadeBoth}
+use Rattle.dkg_store.specs.Both.{EitherOp, MadeBoth}
 use Rattle.dkg_secrets.specs.declared.secrets.SecretOp.{SecretOp}
 use Rattle.dkg_journal.specs.Names.{Files}
-use Rattle.dkg_journal.specs.Disk.{Follows, Lands}
+use Rattle.dkg_journal.specs.Disk.{ImagesFollow, Lands}
 use Rattle.dkg_journal.specs.Journals.{IsOpen}
 use Rattle.dkg_journal.specs.declared.journal.Journal.{Journal}
 use Rattle.dkg_store.specs.Corrupt.{AreFit}
@@ -22,7 +22,7 @@ use Rattle.dkg_store.specs.declared.devices.Devices.{Devices}
 pub record Moved {D X : Type 0} (tells : Bool) (made_disk : D → D → List (DeviceCall Op) → Type 0) (made_secrets : X → X → List (DeviceCall SecretOp) → Type 0)
     (disk_faults : D → ℕ) (secret_faults : X → ℕ) (old new : Devices D X) : Type 0 where
   pub counts : CountsOn old.fuse new.fuse
-  pub ran : IsTrue tells → (calls : List Call) × RanAll (MadeBoth made_disk made_secrets) (old.disk.now, old.secrets.now) (new.disk.now, new.secrets.now) old.fuse new.fuse calls
+  pub ran : IsTrue tells → (calls : List EitherOp) × RanAll (MadeBoth made_disk made_secrets) (old.disk.now, old.secrets.now) (new.disk.now, new.secrets.now) old.fuse new.fuse calls
   pub same_disk : new.disk.ghost_name ≡ old.disk.ghost_name
   pub same_secrets : new.secrets.ghost_name ≡ old.secrets.ghost_name
   pub later_disk : disk_faults old.disk.now ≤ disk_faults new.disk.now
@@ -38,7 +38,7 @@ pub record IsFirm (journal : Journal) (files : Files) (image : Files → Type 0)
 -- No record that a crash leaves is out of its grammar, or past this limit, where none was; and the plan is as it was.
 pub record StaysSound (most : ℕ) (image next : Files → Type 0) : Type 0 where
   pub fit : AreFit most image → AreFit most next
-  pub plan : Follows SamePlan image next
+  pub plan : ImagesFollow SamePlan image next
 
 -- .. and whatever a crash gave back, it gives back: for calls that record nothing
 pub record StaysWhole (image next : Files → Type 0) (held held_now : Secrets) : Type 0 where

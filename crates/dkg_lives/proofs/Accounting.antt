@@ -27,7 +27,7 @@ use Rattle.dkg_infos.specs.declared.info.EpochInfo.{EpochInfo}
 use Rattle.dkg_core.specs.Behind.{event_of}
 use Rattle.dkg_core.specs.Blocks as b
 use Rattle.dkg_core.specs.Core.{step}
-use Rattle.dkg_core.specs.Courses.{Course, Say, Do, Call, Ask, Goes, Stops, bind, on_devices, under}
+use Rattle.dkg_core.specs.Courses.{Course, Say, Do, CallOutside, Ask, Goes, Stops, bind, on_devices, under}
 use Rattle.dkg_core.specs.Dealing as d
 use Rattle.dkg_core.specs.Endings.{ComesTo}
 use Rattle.dkg_core.specs.Entering as half
@@ -37,7 +37,7 @@ use Rattle.dkg_core.specs.Forms.{Applied, Judged, Passed, judged_block}
 use Rattle.dkg_core.specs.Including as i
 use Rattle.dkg_core.specs.Including.{Fed, Need, Found, Lacks, can_finish, cached_for, is_need, job_for, read_of, job_result_of, retained_for, retains}
 use Rattle.dkg_core.specs.Laws.{IsAmong}
-use Rattle.dkg_core.specs.Live.{Artifact, Cancel, Deals, Ends, EpochInfoOf, Faulted, Feed, Finalized, Follows, GaveNone, Inclusion, Includes, Job, Live, Mail, Message, NextLog, NodeStop, Over, Peer, ReleaseLog, Request, Sent, Stage, VerifiedLogs, Verified, Work, is_last_height, recorded_at, with_inclusion, with_participation, with_queue, with_tip, with_told, with_used}
+use Rattle.dkg_core.specs.Live.{Artifact, Cancel, Deals, Ends, EpochInfoOf, Faulted, Feed, Finalized, Follows, GaveNone, Inclusion, Includes, Job, Live, Mail, Message, NextLog, NodeStop, Over, Peer, ReleaseLog, Request, Mailed, Stage, VerifiedLogs, Verified, Work, is_last_height, recorded_at, with_inclusion, with_participation, with_queue, with_tip, with_told, with_used}
 use Rattle.dkg_core.specs.Logs.{canonical, filled_by, is_accepted, carried_log_event}
 use Rattle.dkg_core.specs.Node.{node_step, unless_once}
 use Rattle.dkg_laws.specs.NodeSaying.{IsHalfLine}
@@ -127,7 +127,7 @@ module _ (last : Request U) where
 abbrev Accounts : {F S : Type 0} → (List Entry → S → Type 0) → List Entry → Course U F S → Type 0
 Accounts P said (Say line course) = Accounts P (said ++ line ∷ []) course
 Accounts P said (Do op course) = Accounts P said course
-Accounts P said (Call outer course) = Accounts P said course
+Accounts P said (CallOutside outer course) = Accounts P said course
 Accounts P said (Ask f) = (h : Held) → Accounts P said (f h)
 Accounts P said (Goes end) = P said end
 Accounts P said (Stops fault) = ⊤
@@ -136,7 +136,7 @@ acc_behind : {F S T : Type 0} (Q : List Entry → S → Type 0) (P : List Entry 
     → ((now : List Entry) (end : S) → Q now end → Accounts P now (next end)) → Accounts P said (bind course next)
 acc_behind Q P (Say line course) next said acc more = acc_behind Q P course next (said ++ line ∷ []) acc more
 acc_behind Q P (Do op course) next said acc more = acc_behind Q P course next said acc more
-acc_behind Q P (Call outer course) next said acc more = acc_behind Q P course next said acc more
+acc_behind Q P (CallOutside outer course) next said acc more = acc_behind Q P course next said acc more
 acc_behind Q P (Ask f) next said acc more = λ h. acc_behind Q P (f h) next said (acc h) more
 acc_behind Q P (Goes end) next said acc more = more said end acc
 acc_behind Q P (Stops fault) next said acc more = tt
@@ -144,7 +144,7 @@ acc_behind Q P (Stops fault) next said acc more = tt
 acc_under : {F G S : Type 0} (P : List Entry → S → Type 0) (name : F → G) (course : Course U F S) (said : List Entry) → Accounts P said course → Accounts P said (under name course)
 acc_under P name (Say line course) said acc = acc_under P name course (said ++ line ∷ []) acc
 acc_under P name (Do op course) said acc = acc_under P name course said acc
-acc_under P name (Call outer course) said acc = acc_under P name course said acc
+acc_under P name (CallOutside outer course) said acc = acc_under P name course said acc
 acc_under P name (Ask f) said acc = λ h. acc_under P name (f h) said (acc h)
 acc_under P name (Goes end) said acc = acc
 acc_under P name (Stops fault) said acc = tt
@@ -152,7 +152,7 @@ acc_under P name (Stops fault) said acc = tt
 acc_any : {F S : Type 0} (P : List Entry → S → Type 0) → ((said : List Entry) (end : S) → P said end) → (course : Course U F S) (said : List Entry) → Accounts P said course
 acc_any P so (Say line course) said = acc_any P so course (said ++ line ∷ [])
 acc_any P so (Do op course) said = acc_any P so course said
-acc_any P so (Call outer course) said = acc_any P so course said
+acc_any P so (CallOutside outer course) said = acc_any P so course said
 acc_any P so (Ask f) said = λ h. acc_any P so (f h) said
 acc_any P so (Goes end) said = so said end
 acc_any P so (Stops fault) said = tt
@@ -160,7 +160,7 @@ acc_any P so (Stops fault) said = tt
 acc_as : {F S : Type 0} (P Q : List Entry → S → Type 0) → ((said : List Entry) (end : S) → P said end → Q said end) → (course : Course U F S) (said : List Entry) → Accounts P said course → Accounts Q said course
 acc_as P Q more (Say line course) said acc = acc_as P Q more course (said ++ line ∷ []) acc
 acc_as P Q more (Do op course) said acc = acc_as P Q more course said acc
-acc_as P Q more (Call outer course) said acc = acc_as P Q more course said acc
+acc_as P Q more (CallOutside outer course) said acc = acc_as P Q more course said acc
 acc_as P Q more (Ask f) said acc = λ h. acc_as P Q more (f h) said (acc h)
 acc_as P Q more (Goes end) said acc = more said end acc
 acc_as P Q more (Stops fault) said acc = tt
@@ -171,7 +171,7 @@ acc_said : {F S : Type 0} (Q : Entry → Type 0) (stops : F → Type 0) (goes : 
 acc_said Q stops goes P start so (Say line course) more all says comes =
     subst (λ (said : List Entry). Accounts P said course) (sym (append_assoc start more (line ∷ []))) (acc_said Q stops goes P start so course (more ++ line ∷ []) (all_and_one Q more line all says.0) says.1 comes)
 acc_said Q stops goes P start so (Do op course) more all says comes = acc_said Q stops goes P start so course more all says comes
-acc_said Q stops goes P start so (Call outer course) more all says comes = acc_said Q stops goes P start so course more all says comes
+acc_said Q stops goes P start so (CallOutside outer course) more all says comes = acc_said Q stops goes P start so course more all says comes
 acc_said Q stops goes P start so (Ask f) more all says comes = λ h. acc_said Q stops goes P start so (f h) more all (says h) (comes h)
 acc_said Q stops goes P start so (Goes end) more all says comes = so more end comes all
 acc_said Q stops goes P start so (Stops fault) more all says comes = tt
@@ -190,7 +190,7 @@ acc_all : {F S : Type 0} (P : List Entry → S → Type 0) (course : Course U F 
 acc_all P (Say line course) said lines end acc by =
     subst (λ (xs : List Entry). P xs end) (append_assoc said (line ∷ []) by.0 ∙ ap (λ (xs : List Entry). said ++ xs) (sym by.1)) (acc_all P course (said ++ line ∷ []) by.0 end acc by.2)
 acc_all P (Do op course) said lines end acc by = acc_all P course said lines end acc by
-acc_all P (Call outer course) said lines end acc by = acc_all P course said lines end acc by
+acc_all P (CallOutside outer course) said lines end acc by = acc_all P course said lines end acc by
 acc_all P (Ask f) said lines end acc by = acc_all P (f by.0) said lines end (acc by.0) by.1
 acc_all P (Goes its) said lines end acc by =
     subst (λ (x : _). P (said ++ lines) x) (sym by.1) (subst (λ (xs : List Entry). P xs its) (sym (append-nil said) ∙ ap (λ (xs : List Entry). said ++ xs) (sym by.0)) acc)
@@ -238,7 +238,7 @@ cancelled_apart request st apart = by_test (waits_for request st)
 -- what was before a step
 abbrev pub Before : Live U → Message U → Live U
 Before st (Finalized block) = st
-Before st (Sent mail) = before_mail mail st
+Before st (Mailed mail) = before_mail mail st
 
 module _ (c : Fixed U) (reshare : c.oneshot ≡ None) (n : ℕ) (Was : Type 0) where
   -- Where it waited before it waits, or was answered, and not both; elsewhere neither. No two requests have one number; and where no verification runs none is waited for.
@@ -624,7 +624,7 @@ module _ (c : Fixed U) (reshare : c.oneshot ≡ None) (n : ℕ) (Was : Type 0) w
         by_test false = refl
 
     -- of any mail but a peer's
-    mail_to : (mail : Mail U) → IsKept [] (before_mail mail st) → ((from : ℕ) (bytes : List ℕ) → mail ≡ Peer from bytes → ⊥) → To [] (step c (Sent mail) st)
+    mail_to : (mail : Mail U) → IsKept [] (before_mail mail st) → ((from : ℕ) (bytes : List ℕ) → mail ≡ Peer from bytes → ⊥) → To [] (step c (Mailed mail) st)
     mail_to (Peer from bytes) kept other = absurd (other from bytes refl)
     mail_to (NextLog request height) kept other = log_given request height (i.served_now (with_used request st)) kept
     mail_to (ReleaseLog height) kept other = released height kept
@@ -729,11 +729,11 @@ module _ (c : Fixed U) (reshare : c.oneshot ≡ None) (n : ℕ) (Was : Type 0) w
     mail_says : (now : Live U) → SaysSo IsUnanswered (unless_once c (half.asks_again c now) (Goes now))
     mail_says now = so_if IsUnanswered (is_some c.oneshot) (Goes now) (half.asks_again c now) (λ e. tt) (λ e. again c IsUnanswered half_line now)
 
-    mail_kept : (mail : Mail U) → IsKept [] (before_mail mail st) → ((from : ℕ) (bytes : List ℕ) → mail ≡ Peer from bytes → ⊥) → Accounts (λ said end. Reads c reshare st apart (Sent mail) → IsKept said end) [] (node_step c (event_of (Sent mail)) st)
+    mail_kept : (mail : Mail U) → IsKept [] (before_mail mail st) → ((from : ℕ) (bytes : List ℕ) → mail ≡ Peer from bytes → ⊥) → Accounts (λ said end. Reads c reshare st apart (Mailed mail) → IsKept said end) [] (node_step c (event_of (Mailed mail)) st)
     mail_kept mail kept other =
-        acc_behind IsKept (λ said end. Reads c reshare st apart (Sent mail) → IsKept said end) (under Faulted (step c (Sent mail) st)) (λ now. unless_once c (half.asks_again c now) (Goes now)) []
-        (acc_under IsKept Faulted (step c (Sent mail) st) [] (mail_to st mail kept other))
-        (λ said now its. behind_so (Reads c reshare st apart (Sent mail)) said now (unless_once c (half.asks_again c now) (Goes now)) (mail_says now) (behind_mail c reshare now.inclusion now refl) (λ reads. its))
+        acc_behind IsKept (λ said end. Reads c reshare st apart (Mailed mail) → IsKept said end) (under Faulted (step c (Mailed mail) st)) (λ now. unless_once c (half.asks_again c now) (Goes now)) []
+        (acc_under IsKept Faulted (step c (Mailed mail) st) [] (mail_to st mail kept other))
+        (λ said now its. behind_so (Reads c reshare st apart (Mailed mail)) said now (unless_once c (half.asks_again c now) (Goes now)) (mail_says now) (behind_mail c reshare now.inclusion now refl) (λ reads. its))
 
     node_kept : (message : Message U) → IsKept [] (Before st message) → Accounts (λ said end. Reads c reshare st apart message → IsKept said end) [] (node_step c (event_of message) st)
     node_kept (Finalized block) kept =
@@ -742,14 +742,14 @@ module _ (c : Fixed U) (reshare : c.oneshot ≡ None) (n : ℕ) (Was : Type 0) w
         (acc_under (Where st apart block kept) Faulted (step c (Finalized block) st) [] (block_to st apart block kept))
         (λ said now its. behind_so (Reads c reshare st apart (Finalized block)) said now
         (unless_once c (bind (takes_delivered c block now) (λ left. half.acked_at block.height left.answer left.live)) (Say (Acked block.height) (Goes now))) (block_says c IsUnanswered half_line block now) (behind_block c reshare now.inclusion block now refl) its)
-    node_kept (Sent (Peer from bytes)) kept = acc_any (λ said end. Reads c reshare st apart (Sent (Peer from bytes)) → IsKept said end) (λ said end reads. absurd reads) (node_step c (event_of (Sent (Peer from bytes))) st) []
-    node_kept (Sent (NextLog request height)) kept = mail_kept (NextLog request height) kept (λ from bytes e. cc)
-    node_kept (Sent (ReleaseLog height)) kept = mail_kept (ReleaseLog height) kept (λ from bytes e. cc)
-    node_kept (Sent (EpochInfoOf request)) kept = mail_kept (EpochInfoOf request) kept (λ from bytes e. cc)
-    node_kept (Sent (Feed request block)) kept = mail_kept (Feed request block) kept (λ from bytes e. cc)
-    node_kept (Sent (Over request)) kept = mail_kept (Over request) kept (λ from bytes e. cc)
-    node_kept (Sent (Cancel request)) kept = mail_kept (Cancel request) kept (λ from bytes e. cc)
-    node_kept (Sent (Work handed)) kept = mail_kept (Work handed) kept (λ from bytes e. cc)
+    node_kept (Mailed (Peer from bytes)) kept = acc_any (λ said end. Reads c reshare st apart (Mailed (Peer from bytes)) → IsKept said end) (λ said end reads. absurd reads) (node_step c (event_of (Mailed (Peer from bytes))) st) []
+    node_kept (Mailed (NextLog request height)) kept = mail_kept (NextLog request height) kept (λ from bytes e. cc)
+    node_kept (Mailed (ReleaseLog height)) kept = mail_kept (ReleaseLog height) kept (λ from bytes e. cc)
+    node_kept (Mailed (EpochInfoOf request)) kept = mail_kept (EpochInfoOf request) kept (λ from bytes e. cc)
+    node_kept (Mailed (Feed request block)) kept = mail_kept (Feed request block) kept (λ from bytes e. cc)
+    node_kept (Mailed (Over request)) kept = mail_kept (Over request) kept (λ from bytes e. cc)
+    node_kept (Mailed (Cancel request)) kept = mail_kept (Cancel request) kept (λ from bytes e. cc)
+    node_kept (Mailed (Work handed)) kept = mail_kept (Work handed) kept (λ from bytes e. cc)
 
     -- the request waits on behind the step, or was answered in it
     pub step_kept : (message : Message U) (end : Live U) (out now : List Entry) → IsKept [] (Before st message) → (said : Said (on_devices (node_step c (event_of message) st)) (went end) out now) → Reads c reshare st apart message
@@ -779,7 +779,7 @@ module _ (c : Fixed U) (reshare : c.oneshot ≡ None) (n : ℕ) (Was : Type 0) w
       stays : {F : Type 0} (course : Course U F (Live U)) (said : List Entry) → IsAnsweredIn n said → Accounts Done said course
       stays (Say line course) said done = stays course (said ++ line ∷ []) (answered_on said (line ∷ []) done)
       stays (Do op course) said done = stays course said done
-      stays (Call outer course) said done = stays course said done
+      stays (CallOutside outer course) said done = stays course said done
       stays (Ask f) said done = λ h. stays (f h) said done
       stays (Goes end) said done = done
       stays (Stops fault) said done = tt

@@ -25,16 +25,16 @@ use Rattle.dkg_types.specs.declared.scheme.SchemeInfo.{SchemeInfo}
 use Rattle.dkg_core.specs.Behind.{event_of}
 use Rattle.dkg_core.specs.Blocks as b
 use Rattle.dkg_core.specs.Core.{step}
-use Rattle.dkg_core.specs.Courses.{Course, Say, Do, Call, Ask, Goes, Stops, Genesis, bind, under}
+use Rattle.dkg_core.specs.Courses.{Course, Say, Do, CallOutside, Ask, Goes, Stops, Genesis, bind, under}
 use Rattle.dkg_core.specs.Dealing as d
 use Rattle.dkg_core.specs.Endings.{ComesTo}
 use Rattle.dkg_core.specs.Entering as half
-use Rattle.dkg_core.specs.Entering.{Half, HalfAnswer, Acknowledges, Withholds, active, takes_delivered}
+use Rattle.dkg_core.specs.Entering.{LifeAndAnswer, HalfAnswer, AcknowledgesBlock, Withholds, active, takes_delivered}
 use Rattle.dkg_core.specs.Fixed.{Fixed, OneShot, has}
 use Rattle.dkg_core.specs.Forms.{Applied, judged_block}
 use Rattle.dkg_core.specs.Including as i
 use Rattle.dkg_core.specs.Including.{Fed, Need, Found, Lacks, can_finish, cached_for, is_need, job_for, read_of, job_result_of, retained_for, retains}
-use Rattle.dkg_core.specs.Live.{Artifact, Cancel, Deals, Ends, EpochInfoOf, Faulted, Feed, Finalized, Follows, Inclusion, Includes, Job, Live, Mail, Message, NextLog, NodeStop, Orchestrator, Over, Peer, ReleaseLog, Request, Sent, Stage, VerifiedLogs, Verified, Waiting, Work, is_last_height, recorded_at, with_inclusion, with_participation, with_queue, with_tip, with_used}
+use Rattle.dkg_core.specs.Live.{Artifact, Cancel, Deals, Ends, EpochInfoOf, Faulted, Feed, Finalized, Follows, Inclusion, Includes, Job, Live, Mail, Message, NextLog, NodeStop, Orchestrator, Over, Peer, ReleaseLog, Request, Mailed, Stage, VerifiedLogs, Verified, Waiting, Work, is_last_height, recorded_at, with_inclusion, with_participation, with_queue, with_tip, with_used}
 use Rattle.dkg_core.specs.Logs.{canonical, filled_by, is_accepted, carried_log_event}
 use Rattle.dkg_core.specs.Node.{node_step, unless_once}
 use Rattle.dkg_core.specs.Setup as s
@@ -122,7 +122,7 @@ module _ {F S : Type 0} (goes : S → Type 0) (so : (end : S) → goes end) wher
   comes_so : (course : Course U F S) → ComesTo Any goes course
   comes_so (Say line course) = comes_so course
   comes_so (Do op course) = comes_so course
-  comes_so (Call outer course) = comes_so course
+  comes_so (CallOutside outer course) = comes_so course
   comes_so (Ask f) = λ h. comes_so (f h)
   comes_so (Goes end) = so end
   comes_so (Stops fault) = tt
@@ -130,7 +130,7 @@ module _ {F S : Type 0} (goes : S → Type 0) (so : (end : S) → goes end) wher
 any_under : {F G S : Type 0} (goes : S → Type 0) (name : F → G) (course : Course U F S) → ComesTo Any goes course → ComesTo Any goes (under name course)
 any_under goes name (Say line course) comes = any_under goes name course comes
 any_under goes name (Do op course) comes = any_under goes name course comes
-any_under goes name (Call outer course) comes = any_under goes name course comes
+any_under goes name (CallOutside outer course) comes = any_under goes name course comes
 any_under goes name (Ask f) comes = λ h. any_under goes name (f h) (comes h)
 any_under goes name (Goes end) comes = comes
 any_under goes name (Stops fault) comes = tt
@@ -322,7 +322,7 @@ module _ (c : Fixed U) (reshare : c.oneshot ≡ None) where
         by_test false = refl
 
     -- of any mail but a peer's
-    mail_to : (mail : Mail U) → IsNewOne st mail → ((from : ℕ) (bytes : List ℕ) → mail ≡ Peer from bytes → ⊥) → To (step c (Sent mail) st)
+    mail_to : (mail : Mail U) → IsNewOne st mail → ((from : ℕ) (bytes : List ℕ) → mail ≡ Peer from bytes → ⊥) → To (step c (Mailed mail) st)
     mail_to (Peer from bytes) new other = absurd (other from bytes refl)
     mail_to (NextLog request height) new other = log_given request height (i.served_now (with_used request st))
     mail_to (ReleaseLog height) new other = released height
@@ -413,7 +413,7 @@ module _ (c : Fixed U) (reshare : c.oneshot ≡ None) where
   -- THE ORCHESTRATOR'S HALF changes nothing of requests
 
   module _ (its : Inclusion U) where
-    abbrev HalfTo : Course U NodeStop (Half U) → Type 0
+    abbrev HalfTo : Course U NodeStop (LifeAndAnswer U) → Type 0
     HalfTo course = ComesTo Any (λ left. left.live.inclusion ≡ its) course
 
     abbrev LifeTo : Course U NodeStop (Live U) → Type 0
@@ -423,7 +423,7 @@ module _ (c : Fixed U) (reshare : c.oneshot ≡ None) where
     engine o w None st same = tt
     engine o w (Some scheme) st same = stopped o.entered
       where
-        stopped : (old : Option ℕ) → HalfTo (half.stops_engine old (Say (Entered w.epoch) (half.leaves (half.with_entered w.epoch o) Acknowledges st)))
+        stopped : (old : Option ℕ) → HalfTo (half.stops_engine old (Say (Entered w.epoch) (half.leaves (half.with_entered w.epoch o) AcknowledgesBlock st)))
         stopped None = same
         stopped (Some old) = same
 
@@ -443,7 +443,7 @@ module _ (c : Fixed U) (reshare : c.oneshot ≡ None) where
     enters_at : (block : Block U) (epoch : ℕ) (height : Option ℕ) (st : Live U) → st.inclusion ≡ its → HalfTo (half.enters_at c block epoch height st)
     enters_at block epoch height st same = by_info (info_of block.payload)
       where
-        goes : EpochInfo U → Course U NodeStop (Half U)
+        goes : EpochInfo U → Course U NodeStop (LifeAndAnswer U)
         goes info = half.enters c (record { epoch = epoch; info = info; floor = Genesis block.digest; block = height }) st
 
         by_info : (o : Option (EpochInfo U)) → HalfTo (option_map_or (λ info. if info.epoch == epoch then goes info else Stops (Faulted (WrongEpoch epoch info.epoch))) o (Stops (Faulted (MissingEpochInfo block.height))))
@@ -453,10 +453,10 @@ module _ (c : Fixed U) (reshare : c.oneshot ≡ None) where
             (λ e. enters (record { epoch = epoch; info = info; floor = Genesis block.digest; block = height }) st same) (λ e. tt)
 
     acked : (height : ℕ) (answer : HalfAnswer) (st : Live U) → st.inclusion ≡ its → LifeTo (half.acked_at height answer st)
-    acked height Acknowledges st same = same
+    acked height AcknowledgesBlock st same = same
     acked height Withholds st same = same
 
-    acked_late : (height : Option ℕ) (left : Half U) → left.live.inclusion ≡ its → LifeTo (half.acked_late height left)
+    acked_late : (height : Option ℕ) (left : LifeAndAnswer U) → left.live.inclusion ≡ its → LifeTo (half.acked_late height left)
     acked_late None left same = same
     acked_late (Some height) left same = acked height left.answer left.live same
 
@@ -471,9 +471,9 @@ module _ (c : Fixed U) (reshare : c.oneshot ≡ None) where
     delivers_in : (block : Block U) (st : Live U) → st.inclusion ≡ its → (found : Option ℕ) → HalfTo (half.delivered_in c block st found)
     delivers_in block st same None = same
     delivers_in block st same (Some epoch) =
-        let low : Course U NodeStop (Half U) = if nat_lt block.height (last c.blocks_per_epoch epoch) then half.leaves st.orchestrator Acknowledges st else half.enters_at c block (epoch + 1) (Some block.height) st in
+        let low : Course U NodeStop (LifeAndAnswer U) = if nat_lt block.height (last c.blocks_per_epoch epoch) then half.leaves st.orchestrator AcknowledgesBlock st else half.enters_at c block (epoch + 1) (Some block.height) st in
         comes_if Any (λ left. left.live.inclusion ≡ its) (nat_lt (last c.blocks_per_epoch epoch) block.height) (Stops (Faulted (SkippedHeight (last c.blocks_per_epoch epoch) block.height))) low (λ e. tt)
-        (λ e. comes_if Any (λ left. left.live.inclusion ≡ its) (nat_lt block.height (last c.blocks_per_epoch epoch)) (half.leaves st.orchestrator Acknowledges st) (half.enters_at c block (epoch + 1) (Some block.height) st) (λ e. same)
+        (λ e. comes_if Any (λ left. left.live.inclusion ≡ its) (nat_lt block.height (last c.blocks_per_epoch epoch)) (half.leaves st.orchestrator AcknowledgesBlock st) (half.enters_at c block (epoch + 1) (Some block.height) st) (λ e. same)
         (λ e. enters_at block (epoch + 1) (Some block.height) st same))
 
     delivers : (block : Block U) (st : Live U) → st.inclusion ≡ its → HalfTo (takes_delivered c block st)
@@ -497,24 +497,24 @@ module _ (c : Fixed U) (reshare : c.oneshot ≡ None) where
     -- an event that isn't a peer's message, or a block by which requests are read
     abbrev pub Reads : Message U → Type 0
     Reads (Finalized block) = IsReadAt st apart block
-    Reads (Sent (Peer from bytes)) = ⊥
-    Reads (Sent mail) = Unit {0}
+    Reads (Mailed (Peer from bytes)) = ⊥
+    Reads (Mailed mail) = Unit {0}
 
-    mail_apart : (mail : Mail U) → IsNewOne st mail → ((from : ℕ) (bytes : List ℕ) → mail ≡ Peer from bytes → ⊥) → ComesTo (λ (stop : NodeStop). ⊤) EndsApart (node_step c (event_of (Sent mail)) st)
+    mail_apart : (mail : Mail U) → IsNewOne st mail → ((from : ℕ) (bytes : List ℕ) → mail ≡ Peer from bytes → ⊥) → ComesTo (λ (stop : NodeStop). ⊤) EndsApart (node_step c (event_of (Mailed mail)) st)
     mail_apart mail new other =
-        comes_behind Any EndsApart EndsApart (under Faulted (step c (Sent mail) st)) (λ now. unless_once c (half.asks_again c now) (Goes now))
-        (any_under EndsApart Faulted (step c (Sent mail) st) (mail_to st apart mail new other))
+        comes_behind Any EndsApart EndsApart (under Faulted (step c (Mailed mail) st)) (λ now. unless_once c (half.asks_again c now) (Goes now))
+        (any_under EndsApart Faulted (step c (Mailed mail) st) (mail_to st apart mail new other))
         (λ now its. comes_as Any Any (λ end. end.inclusion ≡ now.inclusion) EndsApart (unless_once c (half.asks_again c now) (Goes now)) (λ stop any. any)
         (λ end same. subst IsApart (sym same) its) (behind_mail now.inclusion now refl))
 
     abbrev WhereRead : Message U → Live U → Type 0
     WhereRead message end = Reads message → IsApart end.inclusion
 
-    read_mail : (mail : Mail U) → IsNewOne st mail → ((from : ℕ) (bytes : List ℕ) → mail ≡ Peer from bytes → ⊥) → ComesTo (λ (stop : NodeStop). ⊤) (WhereRead (Sent mail)) (node_step c (event_of (Sent mail)) st)
+    read_mail : (mail : Mail U) → IsNewOne st mail → ((from : ℕ) (bytes : List ℕ) → mail ≡ Peer from bytes → ⊥) → ComesTo (λ (stop : NodeStop). ⊤) (WhereRead (Mailed mail)) (node_step c (event_of (Mailed mail)) st)
     read_mail mail new other =
-        comes_as (λ (stop : NodeStop). ⊤) (λ (stop : NodeStop). ⊤) EndsApart (WhereRead (Sent mail)) (node_step c (event_of (Sent mail)) st) (λ stop any. any) (λ end its reads. its) (mail_apart mail new other)
+        comes_as (λ (stop : NodeStop). ⊤) (λ (stop : NodeStop). ⊤) EndsApart (WhereRead (Mailed mail)) (node_step c (event_of (Mailed mail)) st) (λ stop any. any) (λ end its reads. its) (mail_apart mail new other)
 
-    pub node_apart : (message : Message U) → ((mail : Mail U) → message ≡ Sent mail → IsNewOne st mail) → ComesTo (λ (stop : NodeStop). ⊤) (WhereRead message) (node_step c (event_of message) st)
+    pub node_apart : (message : Message U) → ((mail : Mail U) → message ≡ Mailed mail → IsNewOne st mail) → ComesTo (λ (stop : NodeStop). ⊤) (WhereRead message) (node_step c (event_of message) st)
     node_apart (Finalized block) new =
         comes_behind Any (Where st apart block) (WhereRead (Finalized block)) (under Faulted (step c (Finalized block) st))
         (λ now. unless_once c (bind (takes_delivered c block now) (λ left. half.acked_at block.height left.answer left.live)) (Say (Acked block.height) (Goes now)))
@@ -522,20 +522,20 @@ module _ (c : Fixed U) (reshare : c.oneshot ≡ None) where
         (λ now its. comes_as Any Any (λ end. end.inclusion ≡ now.inclusion) (WhereRead (Finalized block))
         (unless_once c (bind (takes_delivered c block now) (λ left. half.acked_at block.height left.answer left.live)) (Say (Acked block.height) (Goes now))) (λ stop any. any)
         (λ end same reads. subst IsApart (sym same) (its reads)) (behind_block now.inclusion block now refl))
-    node_apart (Sent (Peer from bytes)) new = comes_so (WhereRead (Sent (Peer from bytes))) (λ end reads. absurd reads) (node_step c (event_of (Sent (Peer from bytes))) st)
-    node_apart (Sent (NextLog request height)) new = read_mail (NextLog request height) tt (λ from bytes e. cc)
-    node_apart (Sent (ReleaseLog height)) new = read_mail (ReleaseLog height) tt (λ from bytes e. cc)
-    node_apart (Sent (EpochInfoOf request)) new = read_mail (EpochInfoOf request) (new (EpochInfoOf request) refl) (λ from bytes e. cc)
-    node_apart (Sent (Feed request block)) new = read_mail (Feed request block) tt (λ from bytes e. cc)
-    node_apart (Sent (Over request)) new = read_mail (Over request) tt (λ from bytes e. cc)
-    node_apart (Sent (Cancel request)) new = read_mail (Cancel request) tt (λ from bytes e. cc)
-    node_apart (Sent (Work handed)) new = read_mail (Work handed) tt (λ from bytes e. cc)
+    node_apart (Mailed (Peer from bytes)) new = comes_so (WhereRead (Mailed (Peer from bytes))) (λ end reads. absurd reads) (node_step c (event_of (Mailed (Peer from bytes))) st)
+    node_apart (Mailed (NextLog request height)) new = read_mail (NextLog request height) tt (λ from bytes e. cc)
+    node_apart (Mailed (ReleaseLog height)) new = read_mail (ReleaseLog height) tt (λ from bytes e. cc)
+    node_apart (Mailed (EpochInfoOf request)) new = read_mail (EpochInfoOf request) (new (EpochInfoOf request) refl) (λ from bytes e. cc)
+    node_apart (Mailed (Feed request block)) new = read_mail (Feed request block) tt (λ from bytes e. cc)
+    node_apart (Mailed (Over request)) new = read_mail (Over request) tt (λ from bytes e. cc)
+    node_apart (Mailed (Cancel request)) new = read_mail (Cancel request) tt (λ from bytes e. cc)
+    node_apart (Mailed (Work handed)) new = read_mail (Work handed) tt (λ from bytes e. cc)
 
     -- Where none runs the end of a verification changes nothing of requests.
-    pub idle_work : (handed : Option VerifiedLogs) → st.inclusion.running ≡ None → ComesTo (λ (stop : NodeStop). ⊤) (λ end. end.inclusion ≡ st.inclusion) (node_step c (event_of (Sent (Work handed))) st)
+    pub idle_work : (handed : Option VerifiedLogs) → st.inclusion.running ≡ None → ComesTo (λ (stop : NodeStop). ⊤) (λ end. end.inclusion ≡ st.inclusion) (node_step c (event_of (Mailed (Work handed))) st)
     idle_work handed idle =
-        comes_behind Any (λ end. end ≡ st) (λ end. end.inclusion ≡ st.inclusion) (under Faulted (step c (Sent (Work handed)) st)) (λ now. unless_once c (half.asks_again c now) (Goes now))
-        (any_under (λ end. end ≡ st) Faulted (step c (Sent (Work handed)) st)
+        comes_behind Any (λ end. end ≡ st) (λ end. end.inclusion ≡ st.inclusion) (under Faulted (step c (Mailed (Work handed)) st)) (λ now. unless_once c (half.asks_again c now) (Goes now))
+        (any_under (λ end. end ≡ st) Faulted (step c (Mailed (Work handed)) st)
         (comes_if Any (λ end. end ≡ st) (is_some st.inclusion.running) (bind (i.ends_verifying c handed st) (λ now. i.advanced c now)) (Goes st)
         (λ e. absurd (let no : ◌≡◌ {A = Bool} false true = sym (ap is_some idle) ∙ e in cc)) (λ e. refl)))
         (λ now same. behind_mail st.inclusion now (ap (λ (x : Live U). x.inclusion) same))

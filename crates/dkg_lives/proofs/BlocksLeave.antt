@@ -20,7 +20,7 @@ use Rattle.dkg_store.specs.Events.{IsEvent}
 use Rattle.dkg_store.specs.Pairs.{Pairs}
 use Rattle.dkg_store.specs.declared.event.Event.TheVariants as events
 use Rattle.dkg_store.proofs.Acts.{along_runs}
-use Rattle.dkg_core.specs.Courses.{Course, Say, Do, Call, Ask, Goes, Stops, Throughout, EndsSo, on_devices}
+use Rattle.dkg_core.specs.Courses.{Course, Say, Do, CallOutside, Ask, Goes, Stops, Throughout, EndsSo, on_devices}
 use Rattle.dkg_core.specs.Fixed.{Fixed}
 use Rattle.dkg_core.specs.Live.{Live, NodeStop, Faulted, Stage, Deals, Includes, Follows, Ends, Finalized, Delivers, recorded_at, with_tip}
 use Rattle.dkg_core.specs.Sources.{Tip}
@@ -45,7 +45,7 @@ use Rattle.dkg_lives.proofs.NoOthers.{AtEnd, GivesNoOther, IsNoOther, IsOwnDealt
 along_to_end : {Dir F S : Type 0} (G : World → Type 0) (course : Course Dir F S) (w : World) → Throughout G course w → AtEnd G course w
 along_to_end G (Say line course) w a = along_to_end G course (says w line) a.1
 along_to_end G (Do op course) w a = along_to_end G course (does w op) a.1
-along_to_end G (Call outer course) w a = along_to_end G course w a
+along_to_end G (CallOutside outer course) w a = along_to_end G course w a
 along_to_end G (Ask f) w a = along_to_end G (f w.held) w a
 along_to_end G (Goes end) w a = a
 along_to_end G (Stops fault) w a = tt

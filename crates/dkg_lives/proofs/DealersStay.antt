@@ -13,7 +13,7 @@ use Rattle.dkg_store.specs.Acts.{Held}
 use Rattle.dkg_core.specs.Dealing.{counts, with_ack}
 use Rattle.dkg_core.specs.Fixed.{Fixed}
 use Rattle.dkg_core.specs.Forms.{Judged, Refusal, Passed, Applied, judged_block}
-use Rattle.dkg_core.specs.Live.{Live, Dealer, Seat, Plays, Watches, Stage, Deals, Includes, Follows, Ends, Mail, Message, Sent, Peer, Finalized, NextLog, ReleaseLog, EpochInfoOf, Feed, Over, Cancel, Work, is_last_height, recorded_at, with_participation, with_tip}
+use Rattle.dkg_core.specs.Live.{Live, Dealer, Seat, Plays, Watches, Stage, Deals, Includes, Follows, Ends, Mail, Message, Mailed, Peer, Finalized, NextLog, ReleaseLog, EpochInfoOf, Feed, Over, Cancel, Work, is_last_height, recorded_at, with_participation, with_tip}
 use Rattle.dkg_core.specs.Setup.{begins_inclusion, signed}
 use Rattle.dkg_core.specs.Asked.{OfShares}
 use Rattle.dkg_core.specs.Blocks.{unoffered, with_log_at, without_own_log}
@@ -199,11 +199,11 @@ module _ {Dir : Type 0} where
     pub next_dealt : (stored : OfShares) (st : Live Dir) (message : Message Dir) (devices : Option Held) (end : Live Dir) (left : Option Held) → PassesNothingOn c st message
         → IsNextThrough c stored st message devices end left → StaysDealt st end
     next_dealt stored st (Finalized b) devices end left nothing next = block stored b st devices end left (judged_block c b st) nothing next.is
-    next_dealt stored st (Sent (Peer from bytes)) devices end left nothing next = heard c from st end next.is
-    next_dealt stored st (Sent (NextLog request height)) devices end left nothing next = mailed (NextLog request height) st end next.is.0
-    next_dealt stored st (Sent (ReleaseLog height)) devices end left nothing next = mailed (ReleaseLog height) st end next.is.0
-    next_dealt stored st (Sent (EpochInfoOf request)) devices end left nothing next = mailed (EpochInfoOf request) st end next.is.0
-    next_dealt stored st (Sent (Feed request block)) devices end left nothing next = mailed (Feed request block) st end next.is.0
-    next_dealt stored st (Sent (Over request)) devices end left nothing next = mailed (Over request) st end next.is.0
-    next_dealt stored st (Sent (Cancel request)) devices end left nothing next = mailed (Cancel request) st end next.is.0
-    next_dealt stored st (Sent (Work result)) devices end left nothing next = mailed (Work result) st end next.is.0
+    next_dealt stored st (Mailed (Peer from bytes)) devices end left nothing next = heard c from st end next.is
+    next_dealt stored st (Mailed (NextLog request height)) devices end left nothing next = mailed (NextLog request height) st end next.is.0
+    next_dealt stored st (Mailed (ReleaseLog height)) devices end left nothing next = mailed (ReleaseLog height) st end next.is.0
+    next_dealt stored st (Mailed (EpochInfoOf request)) devices end left nothing next = mailed (EpochInfoOf request) st end next.is.0
+    next_dealt stored st (Mailed (Feed request block)) devices end left nothing next = mailed (Feed request block) st end next.is.0
+    next_dealt stored st (Mailed (Over request)) devices end left nothing next = mailed (Over request) st end next.is.0
+    next_dealt stored st (Mailed (Cancel request)) devices end left nothing next = mailed (Cancel request) st end next.is.0
+    next_dealt stored st (Mailed (Work result)) devices end left nothing next = mailed (Work result) st end next.is.0

@@ -28,7 +28,7 @@ use Rattle.dkg_core.specs.Forms.{IsForm, IsLiveIn}
 use Rattle.dkg_core.specs.Fixed.{Fixed}
 use Rattle.dkg_core.specs.Including.{Fed, Found, Lacks, can_finish, final_height, is_detached, is_final_read, is_need, is_unlinked, lowest_needed, next_height, scan, with_lower_log}
 use Rattle.dkg_core.specs.Laws.{IsCeremony, IsOther}
-use Rattle.dkg_core.specs.Live.{Artifact, Cancel, Delivers, EpochInfoOf, Feed, Finalized, Live, Mail, Message, NextLog, Over, Peer, ReleaseLog, Request, Reshare, Sent, VerifiedLogs, Work}
+use Rattle.dkg_core.specs.Live.{Artifact, Cancel, Delivers, EpochInfoOf, Feed, Finalized, Live, Mail, Message, NextLog, Over, Peer, ReleaseLog, Request, Reshare, Mailed, VerifiedLogs, Work}
 use Rattle.dkg_core.specs.Node.{node_step}
 use Rattle.dkg_core.specs.NodeEndings.{LacksNobody}
 use Rattle.dkg_core.specs.Through.{IsFormThrough, IsLiveThrough, IsTakenThrough, unasked}
@@ -212,15 +212,15 @@ live_at g i k st is = live_through g any_shares i k st is
 
 -- what an event brings: a message, with a block of the script's where it has one, or such a block
 abbrev pub Brings : Lived → Event → Message directory.Unit → Type 0
-Brings g (event.Peer from bytes) message = message ≡ Sent (Peer from bytes)
+Brings g (event.Peer from bytes) message = message ≡ Mailed (Peer from bytes)
 Brings g (event.Final number) message = (made : IsMadeOf g.script number) × (message ≡ Finalized made.block)
-Brings g (event.Next request height) message = message ≡ Sent (NextLog request height)
-Brings g (event.Release height) message = message ≡ Sent (ReleaseLog height)
-Brings g (event.Info request) message = message ≡ Sent (EpochInfoOf request)
-Brings g (event.Feed request number) message = (made : IsMadeOf g.script number) × (message ≡ Sent (Feed request made.block))
-Brings g (event.Over request) message = message ≡ Sent (Over request)
-Brings g (event.Cancel request) message = message ≡ Sent (Cancel request)
-Brings g event.Work message = message ≡ Sent (Work None)
+Brings g (event.Next request height) message = message ≡ Mailed (NextLog request height)
+Brings g (event.Release height) message = message ≡ Mailed (ReleaseLog height)
+Brings g (event.Info request) message = message ≡ Mailed (EpochInfoOf request)
+Brings g (event.Feed request number) message = (made : IsMadeOf g.script number) × (message ≡ Mailed (Feed request made.block))
+Brings g (event.Over request) message = message ≡ Mailed (Over request)
+Brings g (event.Cancel request) message = message ≡ Mailed (Cancel request)
+Brings g event.Work message = message ≡ Mailed (Work None)
 Brings g other message = ⊥
 
 -- it is a block of the script's that is delivered, or a message, and then no block is
@@ -228,7 +228,7 @@ abbrev pub BringsBlock : Lived → Event → Message directory.Unit → Type 0
 BringsBlock g its message = (number : ℕ) × (made : IsMadeOf g.script number) × (its ≡ event.Final number) × (message ≡ Finalized made.block)
 
 abbrev pub BringsMail : Event → Message directory.Unit → Type 0
-BringsMail its message = (mail : Mail directory.Unit) × (message ≡ Sent mail) × (delivered_number its ≡ None)
+BringsMail its message = (mail : Mail directory.Unit) × (message ≡ Mailed mail) × (delivered_number its ≡ None)
 
 pub brings_so : (g : Lived) (its : Event) (message : Message directory.Unit) → Brings g its message → BringsBlock g its message ⊎ BringsMail its message
 brings_so g (event.Final number) message brings = inl (number, brings.0, refl, brings.1)
@@ -244,10 +244,10 @@ brings_so g other message brings = absurd brings
 
 -- .. of a peer, or another
 abbrev pub BringsPeer : Event → Message directory.Unit → Type 0
-BringsPeer its message = (from : ℕ) × (bytes : List ℕ) × (its ≡ event.Peer from bytes) × (message ≡ Sent (Peer from bytes))
+BringsPeer its message = (from : ℕ) × (bytes : List ℕ) × (its ≡ event.Peer from bytes) × (message ≡ Mailed (Peer from bytes))
 
 abbrev pub BringsOther : Event → Message directory.Unit → Type 0
-BringsOther its message = (mail : Mail directory.Unit) × (message ≡ Sent mail) × IsOther {Dir = directory.Unit} (Sent mail) × (delivered_number its ≡ None)
+BringsOther its message = (mail : Mail directory.Unit) × (message ≡ Mailed mail) × IsOther {Dir = directory.Unit} (Mailed mail) × (delivered_number its ≡ None)
 
 pub brings_kind : (g : Lived) (its : Event) (message : Message directory.Unit) → Brings g its message → BringsBlock g its message ⊎ (BringsPeer its message ⊎ BringsOther its message)
 brings_kind g (event.Final number) message brings = inl (number, brings.0, refl, brings.1)
@@ -268,7 +268,7 @@ pub record IsMessage (g : Lived) (its : Event) : Type 0 where
   pub course : (j : ℕ) (st : Live directory.Unit) → step_of g j its st ≡ node_step (at_step g j) (event_of message) st
 
 pub message_in : (g : Lived) (its : Event) → IsEventIn g.script.blocks its → IsMessage g its
-message_in g (event.Peer from bytes) form = record { message = Sent (Peer from bytes); brings = refl; course = λ j st. refl }
+message_in g (event.Peer from bytes) form = record { message = Mailed (Peer from bytes); brings = refl; course = λ j st. refl }
 message_in g (event.Final number) form =
     let made = made_of g.script number form in
     record {
@@ -276,19 +276,19 @@ message_in g (event.Final number) form =
       brings = (made, refl);
       course = λ j st. ap (λ (o : Option (Block directory.Unit)). option_map_or (λ e. node_step (at_step g j) e st) (option_map Delivers o) (Goes st)) made.is;
     }
-message_in g (event.Next request height) form = record { message = Sent (NextLog request height); brings = refl; course = λ j st. refl }
-message_in g (event.Release height) form = record { message = Sent (ReleaseLog height); brings = refl; course = λ j st. refl }
-message_in g (event.Info request) form = record { message = Sent (EpochInfoOf request); brings = refl; course = λ j st. refl }
+message_in g (event.Next request height) form = record { message = Mailed (NextLog request height); brings = refl; course = λ j st. refl }
+message_in g (event.Release height) form = record { message = Mailed (ReleaseLog height); brings = refl; course = λ j st. refl }
+message_in g (event.Info request) form = record { message = Mailed (EpochInfoOf request); brings = refl; course = λ j st. refl }
 message_in g (event.Feed request number) form =
     let made = made_of g.script number form in
     record {
-      message = Sent (Feed request made.block);
+      message = Mailed (Feed request made.block);
       brings = (made, refl);
       course = λ j st. ap (λ (o : Option (Block directory.Unit)). option_map_or (λ e. node_step (at_step g j) e st) (option_map (λ b. Reshare (Feed request b)) o) (Goes st)) made.is;
     }
-message_in g (event.Over request) form = record { message = Sent (Over request); brings = refl; course = λ j st. refl }
-message_in g (event.Cancel request) form = record { message = Sent (Cancel request); brings = refl; course = λ j st. refl }
-message_in g event.Work form = record { message = Sent (Work None); brings = refl; course = λ j st. refl }
+message_in g (event.Over request) form = record { message = Mailed (Over request); brings = refl; course = λ j st. refl }
+message_in g (event.Cancel request) form = record { message = Mailed (Cancel request); brings = refl; course = λ j st. refl }
+message_in g event.Work form = record { message = Mailed (Work None); brings = refl; course = λ j st. refl }
 message_in g other form = absurd form
 
 -- No event hands in a result.
@@ -299,13 +299,13 @@ step_taken g its message brings c st = by_event its brings
     turned other is taken = subst (λ (m : Message directory.Unit). IsTakenThrough c m st) (sym is) taken
 
     by_event : (e : Event) → Brings g e message → IsTakenThrough c message st
-    by_event (event.Peer from bytes) brings = turned (Sent (Peer from bytes)) brings tt
+    by_event (event.Peer from bytes) brings = turned (Mailed (Peer from bytes)) brings tt
     by_event (event.Final number) brings = turned (Finalized (brings.0).block) brings.1 tt
-    by_event (event.Next request height) brings = turned (Sent (NextLog request height)) brings tt
-    by_event (event.Release height) brings = turned (Sent (ReleaseLog height)) brings tt
-    by_event (event.Info request) brings = turned (Sent (EpochInfoOf request)) brings tt
-    by_event (event.Feed request number) brings = turned (Sent (Feed request (brings.0).block)) brings.1 tt
-    by_event (event.Over request) brings = turned (Sent (Over request)) brings tt
-    by_event (event.Cancel request) brings = turned (Sent (Cancel request)) brings tt
-    by_event event.Work brings = turned (Sent (Work None)) brings tt
+    by_event (event.Next request height) brings = turned (Mailed (NextLog request height)) brings tt
+    by_event (event.Release height) brings = turned (Mailed (ReleaseLog height)) brings tt
+    by_event (event.Info request) brings = turned (Mailed (EpochInfoOf request)) brings tt
+    by_event (event.Feed request number) brings = turned (Mailed (Feed request (brings.0).block)) brings.1 tt
+    by_event (event.Over request) brings = turned (Mailed (Over request)) brings tt
+    by_event (event.Cancel request) brings = turned (Mailed (Cancel request)) brings tt
+    by_event event.Work brings = turned (Mailed (Work None)) brings tt
     by_event other brings = absurd brings

@@ -17,7 +17,7 @@ use Rattle.dkg_infos.specs.declared.info.EpochInfo.{EpochInfo}
 use Rattle.dkg_types.specs.declared.scheme.SchemeInfo.{SchemeInfo}
 use Rattle.dkg_core.specs.Courses.{Certified, Course, Genesis, Goes, Say, Stops, bind}
 use Rattle.dkg_core.specs.Entering as half
-use Rattle.dkg_core.specs.Entering.{Acknowledges, Half, HalfAnswer, Withholds, active, takes_delivered}
+use Rattle.dkg_core.specs.Entering.{AcknowledgesBlock, LifeAndAnswer, HalfAnswer, Withholds, active, takes_delivered}
 use Rattle.dkg_core.specs.Fixed.{Fixed, Material}
 use Rattle.dkg_core.specs.Live.{Faulted, Live, NodeStop, Orchestrator, Waiting}
 use Rattle.dkg_core.specs.Node.{kept_material, unless_once}
@@ -27,14 +27,14 @@ use Rattle.dkg_core.specs.Setup as s
 use Rattle.dkg_core.proofs.SayingThrough.{so_behind, so_if, so_option}
 
 module _ {Dir : Type 0} (c : Fixed Dir) (P : Entry → Type 0) (entered : (epoch : ℕ) → P (Entered epoch)) (halted : P Halted) (acked : (height : ℕ) → P (Acked height)) where
-  abbrev Half_so : Course Dir NodeStop (Half Dir) → Type 0
+  abbrev Half_so : Course Dir NodeStop (LifeAndAnswer Dir) → Type 0
   Half_so course = SaysSo P course
 
   starts : (o : Orchestrator Dir) (w : Waiting Dir) (found : Option SchemeInfo) (now : Live Dir) → Half_so (half.starts_engine o w found now)
   starts o w None now = tt
   starts o w (Some scheme) now = stopped o.entered
     where
-      stopped : (old : Option ℕ) → SaysSo P (half.stops_engine old (Say (Entered w.epoch) (half.leaves (half.with_entered w.epoch o) Acknowledges now)))
+      stopped : (old : Option ℕ) → SaysSo P (half.stops_engine old (Say (Entered w.epoch) (half.leaves (half.with_entered w.epoch o) AcknowledgesBlock now)))
       stopped None = (entered w.epoch, tt)
       stopped (Some old) = (entered w.epoch, tt)
 
@@ -53,16 +53,16 @@ module _ {Dir : Type 0} (c : Fixed Dir) (P : Entry → Type 0) (entered : (epoch
 
   enters_at : (block : Block Dir) (epoch : ℕ) (height : Option ℕ) (now : Live Dir) → Half_so (half.enters_at c block epoch height now)
   enters_at block epoch height now =
-      let goes : EpochInfo Dir → Course Dir NodeStop (Half Dir) = λ info. half.enters c (record { epoch = epoch; info = info; floor = Genesis block.digest; block = height }) now in
-      let wrong : EpochInfo Dir → Course Dir NodeStop (Half Dir) = λ info. Stops (Faulted (WrongEpoch epoch info.epoch)) in
+      let goes : EpochInfo Dir → Course Dir NodeStop (LifeAndAnswer Dir) = λ info. half.enters c (record { epoch = epoch; info = info; floor = Genesis block.digest; block = height }) now in
+      let wrong : EpochInfo Dir → Course Dir NodeStop (LifeAndAnswer Dir) = λ info. Stops (Faulted (WrongEpoch epoch info.epoch)) in
       so_option P (λ (info : EpochInfo Dir). if info.epoch == epoch then goes info else wrong info) (info_of block.payload) (Stops (Faulted (MissingEpochInfo block.height)))
       (λ info e. so_if P (info.epoch == epoch) (goes info) (wrong info) (λ e. enters (record { epoch = epoch; info = info; floor = Genesis block.digest; block = height }) now) (λ e. tt)) tt
 
   acks : (height : ℕ) (answer : HalfAnswer) (now : Live Dir) → SaysSo P (half.acked_at height answer now)
-  acks height Acknowledges now = (acked height, tt)
+  acks height AcknowledgesBlock now = (acked height, tt)
   acks height Withholds now = tt
 
-  acked_late : (height : Option ℕ) (left : Half Dir) → SaysSo P (half.acked_late height left)
+  acked_late : (height : Option ℕ) (left : LifeAndAnswer Dir) → SaysSo P (half.acked_late height left)
   acked_late None left = tt
   acked_late (Some height) left = acks height left.answer left.live
 
@@ -75,8 +75,8 @@ module _ {Dir : Type 0} (c : Fixed Dir) (P : Entry → Type 0) (entered : (epoch
   delivers_in block now None = tt
   delivers_in block now (Some epoch) =
       so_if P (nat_lt (last c.blocks_per_epoch epoch) block.height) (Stops (Faulted (SkippedHeight (last c.blocks_per_epoch epoch) block.height)))
-      (if nat_lt block.height (last c.blocks_per_epoch epoch) then half.leaves now.orchestrator Acknowledges now else half.enters_at c block (epoch + 1) (Some block.height) now) (λ e. tt)
-      (λ e. so_if P (nat_lt block.height (last c.blocks_per_epoch epoch)) (half.leaves now.orchestrator Acknowledges now) (half.enters_at c block (epoch + 1) (Some block.height) now) (λ e. tt)
+      (if nat_lt block.height (last c.blocks_per_epoch epoch) then half.leaves now.orchestrator AcknowledgesBlock now else half.enters_at c block (epoch + 1) (Some block.height) now) (λ e. tt)
+      (λ e. so_if P (nat_lt block.height (last c.blocks_per_epoch epoch)) (half.leaves now.orchestrator AcknowledgesBlock now) (half.enters_at c block (epoch + 1) (Some block.height) now) (λ e. tt)
       (λ e. enters_at block (epoch + 1) (Some block.height) now))
 
   pub behind_block : (block : Block Dir) (now : Live Dir) → SaysSo P (unless_once c (bind (takes_delivered c block now) (λ left. half.acked_at block.height left.answer left.live)) (Say (Acked block.height) (Goes now)))

@@ -44,7 +44,7 @@ use Rattle.dkg_script.proofs.EachEntry.{EachAfter}
 use Rattle.dkg_script.proofs.Steps.{InDealingStep, records, acknowledges, found_new}
 use Rattle.dkg_core.specs.Courses.{Course, Goes, on_devices, deeds_of, EndsSo, Throughout}
 use Rattle.dkg_core.specs.Fixed.{Fixed, stand_in}
-use Rattle.dkg_core.specs.Live.{Live, Dealer, Plays, Sent, Peer, recorded_at}
+use Rattle.dkg_core.specs.Live.{Live, Dealer, Plays, Mailed, Peer, recorded_at}
 use Rattle.dkg_core.specs.Dealing as d
 use Rattle.dkg_core.specs.Core.{step}
 use Rattle.dkg_core.specs.Agreeing.{AreAgreed}
@@ -235,7 +235,7 @@ module _ {Dir : Type 0} (st : Live Dir) (round : Round) (dealer : Dealer) (from 
 abbrev pub HasForm : {Dir : Type 0} → Fixed Dir → Live Dir → (from : ℕ) → List ℕ → Course Dir Fault (Live Dir) → Type 0
 HasForm c st from bytes course = (h : Held) → IsPassed c st from bytes course h ⊎ (IsTakenAck c st from bytes course h ⊎ (IsAgain c st from bytes course h ⊎ IsNew c st from bytes course h))
 
-pub has_form : {Dir : Type 0} (c : Fixed Dir) (st : Live Dir) (from : ℕ) (bytes : List ℕ) → HasForm c st from bytes (step c (Sent (Peer from bytes)) st)
+pub has_form : {Dir : Type 0} (c : Fixed Dir) (st : Live Dir) (from : ℕ) (bytes : List ℕ) → HasForm c st from bytes (step c (Mailed (Peer from bytes)) st)
 has_form c st from bytes = by_form c st from bytes (HasForm c st from bytes)
     (λ undue h. inl (record { only = tt; aside = tt; undue = undue }))
     (λ reason undue h. inl (record { only = (tt, tt); aside = (tt, tt); undue = undue }))
@@ -402,7 +402,7 @@ said_all course (broken cause) held now rest own = tt
 
 module _ {Dir : Type 0} (c : Fixed Dir) (begun epoch : ℕ) (st : Live Dir) (from : ℕ) (bytes : List ℕ) (life : Life) (l j : ℕ) (half : Ended Fault (Live Dir)) (w mid : World) (s : Setting) (p : Progress)
     (at : IsAtMessage epoch life l j from bytes s p) (carries : Carries c begun epoch st w.held s p) (fits : Fits c (from, bytes)) (small : from < 2 ^ 32)
-    (run : EndsSo (step c (Sent (Peer from bytes)) st) half w mid) where
+    (run : EndsSo (step c (Mailed (Peer from bytes)) st) half w mid) where
   abbrev pairs : Pairs
   pairs = recovered_in w.held
 
@@ -445,11 +445,11 @@ module _ {Dir : Type 0} (c : Fixed Dir) (begun epoch : ℕ) (st : Live Dir) (fro
     valid = rw (carries.in_round round brings.of_epoch).0 valid;
   }
 
-  adds : AddsDeeds (step c (Sent (Peer from bytes)) st) half w mid
-  adds = runs_add_deeds (step c (Sent (Peer from bytes)) st) half w mid run
+  adds : AddsDeeds (step c (Mailed (Peer from bytes)) st) half w mid
+  adds = runs_add_deeds (step c (Mailed (Peer from bytes)) st) half w mid run
 
   told : IfWentTo half (λ end. adds.rest ≡ [])
-  told = said_all (step c (Sent (Peer from bytes)) st) half w.held mid.held adds.rest adds.own_end
+  told = said_all (step c (Mailed (Peer from bytes)) st) half w.held mid.held adds.rest adds.own_end
 
   -- the devices give back what they gave
   module _ (same_given : IsSameGiven w mid) where
@@ -478,26 +478,26 @@ module _ {Dir : Type 0} (c : Fixed Dir) (begun epoch : ℕ) (st : Live Dir) (fro
         known pair there = rw same.recorded (are_still.known pair there)
 
   -- .. where no device is touched
-  untouched : OnlySays (λ line. Unit {0}) (λ end. Unit {0}) (step c (Sent (Peer from bytes)) st) → IsSameGiven w mid
+  untouched : OnlySays (λ line. Unit {0}) (λ end. Unit {0}) (step c (Mailed (Peer from bytes)) st) → IsSameGiven w mid
   untouched only =
-      let same : mid.held ≡ w.held = (leaves_devices (λ line. Unit {0}) (λ end. Unit {0}) (step c (Sent (Peer from bytes)) st) half w mid only run).held in
+      let same : mid.held ≡ w.held = (leaves_devices (λ line. Unit {0}) (λ end. Unit {0}) (step c (Mailed (Peer from bytes)) st) half w mid only run).held in
       (subst (λ (h : Held). IsWhole (notes h) h.secrets) (sym same) carries.agreed.whole, ap (λ (h : Held). recovered_in h) same)
 
-  passed : IsPassed c st from bytes (step c (Sent (Peer from bytes)) st) w.held → Heard
+  passed : IsPassed c st from bytes (step c (Mailed (Peer from bytes)) st) w.held → Heard
   passed its =
       let aside : AllByRecursion IsAside adds.added = front_aside adds.added adds.rest (subst (λ (ls : List Entry). AllByRecursion IsAside ls) adds.of_deeds its.aside) in
       with_entries (untouched its.only) (each_aside s adds.added p aside) (read_aside s adds.added p aside) (all_ended half _ (λ end. inl its.undue))
 
-  taken : IsTakenAck c st from bytes (step c (Sent (Peer from bytes)) st) w.held → Heard
+  taken : IsTakenAck c st from bytes (step c (Mailed (Peer from bytes)) st) w.held → Heard
   taken its =
       let aside : AllByRecursion IsAside adds.added = front_aside adds.added adds.rest (subst (λ (ls : List Entry). AllByRecursion IsAside ls) adds.of_deeds its.aside) in
-      let same : IsSameGiven w mid = along_runs (IsSameGiven w) (on_devices (step c (Sent (Peer from bytes)) st)) half w mid (its.lasts w (fits.1 its.ack its.brings) carries.agreed.whole) run in
+      let same : IsSameGiven w mid = along_runs (IsSameGiven w) (on_devices (step c (Mailed (Peer from bytes)) st)) half w mid (its.lasts w (fits.1 its.ack its.brings) carries.agreed.whole) run in
       with_entries same (each_aside s adds.added p aside) (read_aside s adds.added p aside) (all_ended half _ (λ end. inl its.undue))
 
   wrote : (ack : List ℕ) (epoch : ℕ) → list_any is_ack (read s p (entry.Ack epoch from ack)).written ≡ true
   wrote ack epoch = rw at.nothing refl
 
-  again : IsAgain c st from bytes (step c (Sent (Peer from bytes)) st) w.held → Heard
+  again : IsAgain c st from bytes (step c (Mailed (Peer from bytes)) st) w.held → Heard
   again its = elim (front_of_one ack_entry adds.added adds.rest (sym its.lines ∙ adds.of_deeds)) [
     | inl none ↦ with_entries (untouched its.only) (rw none tt) (rw none (record { cuts = refl; step = refl; opened = refl; recorded = refl }))
         (if_went half (λ end. adds.rest ≡ []) _ (λ end rest. absurd (cons_is_none ack_entry [] (sym its.lines ∙ adds.of_deeds ∙ both_none adds.added adds.rest none rest))) told)
@@ -519,7 +519,7 @@ module _ {Dir : Type 0} (c : Fixed Dir) (begun epoch : ℕ) (st : Live Dir) (fro
             tt,
           ))
 
-  module _ (its : IsNew c st from bytes (step c (Sent (Peer from bytes)) st) w.held) where
+  module _ (its : IsNew c st from bytes (step c (Mailed (Peer from bytes)) st) w.held) where
     abbrev v : List ℕ × ℕ
     v = (its.public, its.private)
 
@@ -551,7 +551,7 @@ module _ {Dir : Type 0} (c : Fixed Dir) (begun epoch : ℕ) (st : Live Dir) (fro
 
     has : HasNew epoch from its.public its.private w mid
     has = subst (λ (n : ℕ). HasNew n from its.public its.private w mid) first
-        (along_runs (HasNew its.round.number from its.public its.private w) (on_devices (step c (Sent (Peer from bytes)) st)) half w mid
+        (along_runs (HasNew its.round.number from its.public its.private w) (on_devices (step c (Mailed (Peer from bytes)) st)) half w mid
         (its.lasts w (fits.0 its.public its.private its.brings.brings) (subst (λ (n : ℕ). get pairs (n, from) ≡ None) (sym first) none_there) carries.agreed.whole) run)
 
     -- the new one passes, as do those from before

@@ -8,16 +8,16 @@ use Rattle.dkg_core.specs.Behind.{event_of}
 use Rattle.dkg_core.specs.Courses.{EndsSo, Goes}
 use Rattle.dkg_core.specs.Fixed.{Fixed}
 use Rattle.dkg_core.specs.Laws.{IsOther}
-use Rattle.dkg_core.specs.Live.{Cancel, EpochInfoOf, Feed, Live, Mail, NextLog, NodeStop, Over, Peer, ReleaseLog, Sent, Work}
+use Rattle.dkg_core.specs.Live.{Cancel, EpochInfoOf, Feed, Live, Mail, NextLog, NodeStop, Over, Peer, ReleaseLog, Mailed, Work}
 use Rattle.dkg_core.specs.Node.{node_step}
 use Rattle.dkg_laws.specs.NodeThrough.{IsActiveThrough}
 use Rattle.dkg_laws.proofs.Idle.{mails_are_idle}
 
-module _ (c : Fixed directory.Unit) (mail : Mail directory.Unit) (other : IsOther {Dir = directory.Unit} (Sent mail)) where
-  pub idle_held : (st : Live directory.Unit) (ended : Ended NodeStop (Live directory.Unit)) (w new : World) → IsActiveThrough st → EndsSo (node_step c (event_of (Sent mail)) st) ended w new → new.held ≡ w.held
+module _ (c : Fixed directory.Unit) (mail : Mail directory.Unit) (other : IsOther {Dir = directory.Unit} (Mailed mail)) where
+  pub idle_held : (st : Live directory.Unit) (ended : Ended NodeStop (Live directory.Unit)) (w new : World) → IsActiveThrough st → EndsSo (node_step c (event_of (Mailed mail)) st) ended w new → new.held ≡ w.held
   idle_held st ended w new active run = (mails_are_idle c mail st ended w new other active.active.unawaited run).held
 
-pub idle_brings : (c : Fixed directory.Unit) (mail : Mail directory.Unit) → IsOther {Dir = directory.Unit} (Sent mail) → BringsRecords c (Sent mail)
+pub idle_brings : (c : Fixed directory.Unit) (mail : Mail directory.Unit) → IsOther {Dir = directory.Unit} (Mailed mail) → BringsRecords c (Mailed mail)
 idle_brings c (Peer from bytes) other = absurd other
 idle_brings c (NextLog request height) other = tt
 idle_brings c (ReleaseLog height) other = tt

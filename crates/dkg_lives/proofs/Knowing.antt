@@ -46,7 +46,7 @@ use Rattle.dkg_store.proofs.Silent.{says_dealing}
 use Rattle.dkg_core.specs.Blocks as b
 use Rattle.dkg_core.specs.Behind.{OnlySays}
 use Rattle.dkg_core.specs.Core.{step}
-use Rattle.dkg_core.specs.Courses.{Ask, Call, Course, Do, EndsSo, Goes, Say, Stops, bind}
+use Rattle.dkg_core.specs.Courses.{Ask, CallOutside, Course, Do, EndsSo, Goes, Say, Stops, bind}
 use Rattle.dkg_core.specs.Dealing as d
 use Rattle.dkg_core.specs.Endings.{ComesTo}
 use Rattle.dkg_core.specs.Fixed.{Fixed}
@@ -55,7 +55,7 @@ use Rattle.dkg_core.specs.Heard.{Fits, recovered_in}
 use Rattle.dkg_core.specs.Including as i
 use Rattle.dkg_laws.specs.Idle.{IsAskedLine}
 use Rattle.dkg_core.specs.Laws.{IsOther}
-use Rattle.dkg_core.specs.Live.{Deals, Dealer, Ends, Follows, Includes, Live, Mail, Plays, Records, Seat, Sent, Stage, Watches, is_last_height, recorded_at, with_inclusion, with_participation, with_tip}
+use Rattle.dkg_core.specs.Live.{Deals, Dealer, Ends, Follows, Includes, Live, Mail, Plays, Records, Seat, Mailed, Stage, Watches, is_last_height, recorded_at, with_inclusion, with_participation, with_tip}
 use Rattle.dkg_core.specs.Logs.{is_accepted, carried_log_event, recorded_log}
 use Rattle.dkg_core.specs.Setup as s
 use Rattle.dkg_core.specs.Setup.{Standing, Uncommitted, WasCommitted}
@@ -197,7 +197,7 @@ module _ (given : Held) (asked : List Pair) where
   abbrev pub Lands : {Dir : Type 0} → Course Dir Fault (Live Dir) → Held → Type 0
   Lands (Say line course) h = Lands course h
   Lands (Do op course) h = Lands course (held_after op h)
-  Lands (Call outer course) h = Lands course h
+  Lands (CallOutside outer course) h = Lands course h
   Lands (Ask f) h = Lands (f h) h
   Lands (Goes st) h = IsKnown st h
   Lands (Stops fault) h = Persists h × IfStored fault (asked ≡ maps.entries (recovered_in h))
@@ -206,7 +206,7 @@ module _ (given : Held) (asked : List Pair) where
       → ((st : Live Dir) (h : Held) → IsKnown st h → Lands (next st) h) → Lands (bind course next) h
   lands_bind (Say line course) next h l more = lands_bind course next h l more
   lands_bind (Do op course) next h l more = lands_bind course next (held_after op h) l more
-  lands_bind (Call outer course) next h l more = lands_bind course next h l more
+  lands_bind (CallOutside outer course) next h l more = lands_bind course next h l more
   lands_bind (Ask f) next h l more = lands_bind (f h) next h l more
   lands_bind (Goes st) next h l more = more st h l
   lands_bind (Stops fault) next h l more = l
@@ -216,7 +216,7 @@ module _ (given : Held) (asked : List Pair) where
       → ComesTo stops goes course → ((st : Live Dir) (h : Held) → IsKnown st h → goes st → Lands (next st) h) → Lands (bind course next) h
   lands_to stops goes (Say line course) next h l comes more = lands_to stops goes course next h l comes more
   lands_to stops goes (Do op course) next h l comes more = lands_to stops goes course next (held_after op h) l comes more
-  lands_to stops goes (Call outer course) next h l comes more = lands_to stops goes course next h l comes more
+  lands_to stops goes (CallOutside outer course) next h l comes more = lands_to stops goes course next h l comes more
   lands_to stops goes (Ask f) next h l comes more = lands_to stops goes (f h) next h l (comes h) more
   lands_to stops goes (Goes st) next h l comes more = more st h l comes
   lands_to stops goes (Stops fault) next h l comes more = l
@@ -226,7 +226,7 @@ module _ (given : Held) (asked : List Pair) where
       → OnlySays line (λ end. end ≡ with_inclusion end.inclusion base) course → Lands course h
   lands_asked line base (Say one course) h is_asked a only = lands_asked line base course h is_asked a only.1
   lands_asked line base (Do op course) h is_asked a only = absurd only
-  lands_asked line base (Call outer course) h is_asked a only = lands_asked line base course h is_asked a only
+  lands_asked line base (CallOutside outer course) h is_asked a only = lands_asked line base course h is_asked a only
   lands_asked line base (Ask f) h is_asked a only = lands_asked line base (f h) h is_asked a (only h)
   lands_asked {Dir} line base (Goes st) h is_asked a only = (subst (λ (r : Records). Knows r h) (sym (ap (λ (x : Live Dir). x.records) only)) a.0, a.1)
   lands_asked line base (Stops fault) h is_asked a only = (a.1, if_stored fault (asked ≡ maps.entries (recovered_in h)) (is_asked ∙ a.0.dealings))
@@ -243,7 +243,7 @@ module _ (given : Held) (asked : List Pair) where
   pub lands_at : {Dir : Type 0} (course : Course Dir Fault (Live Dir)) (w new : World) (end : Live Dir) → Lands course w.held → EndsSo course (went end) w new → Knows end.records new.held
   lands_at (Say line course) w new end l done = lands_at course (says w line) new end l done
   lands_at (Do op course) w new end l done = lands_at course (does w op) new end l done
-  lands_at (Call outer course) w new end l done = lands_at course w new end l done
+  lands_at (CallOutside outer course) w new end l done = lands_at course w new end l done
   lands_at (Ask f) w new end l done = lands_at (f w.held) w new end l done
   lands_at {Dir} (Goes st) w new end l done =
       subst (λ (x : World). Knows end.records x.held) (sym done.0) (subst (λ (x : Live Dir). Knows x.records w.held) (sym done.1) l.0)
@@ -253,7 +253,7 @@ module _ (given : Held) (asked : List Pair) where
   pub lands_went : {Dir : Type 0} (course : Course Dir Fault (Live Dir)) (w new : World) (end : Live Dir) → Lands course w.held → EndsSo course (went end) w new → Persists new.held
   lands_went (Say line course) w new end l done = lands_went course (says w line) new end l done
   lands_went (Do op course) w new end l done = lands_went course (does w op) new end l done
-  lands_went (Call outer course) w new end l done = lands_went course w new end l done
+  lands_went (CallOutside outer course) w new end l done = lands_went course w new end l done
   lands_went (Ask f) w new end l done = lands_went (f w.held) w new end l done
   lands_went (Goes st) w new end l done = subst (λ (x : World). Persists x.held) (sym done.0) l.1
   lands_went (Stops fault) w new end l done = absurd done
@@ -262,7 +262,7 @@ module _ (given : Held) (asked : List Pair) where
       → Persists new.held × IfStored its (asked ≡ maps.entries (recovered_in new.held))
   lands_stopped (Say line course) w new its l done = lands_stopped course (says w line) new its l done
   lands_stopped (Do op course) w new its l done = lands_stopped course (does w op) new its l done
-  lands_stopped (Call outer course) w new its l done = lands_stopped course w new its l done
+  lands_stopped (CallOutside outer course) w new its l done = lands_stopped course w new its l done
   lands_stopped (Ask f) w new its l done = lands_stopped (f w.held) w new its l done
   lands_stopped (Goes st) w new its l done = absurd done
   lands_stopped (Stops own) w new its l done =
@@ -337,8 +337,8 @@ module _ {Dir : Type 0} (c : Fixed Dir) (given : Held) (asked : List Pair) where
   advanced : (st : Live Dir) (h : Held) → asked ≡ st.records.dealings → Known st h → Comes (i.advanced c st) h
   advanced st h same a = lands_asked given asked IsAskedLine st (i.advanced c st) h same a (idle.advanced c st st.inclusion)
 
-  pub asks : (mail : Mail Dir) (st : Live Dir) (h : Held) → IsOther (Sent mail) → asked ≡ st.records.dealings → Known st h → Comes (step c (Sent mail) st) h
-  asks mail st h other same a = lands_asked given asked IsAskedLine st (step c (Sent mail) st) h same a (idle.mails c st mail other)
+  pub asks : (mail : Mail Dir) (st : Live Dir) (h : Held) → IsOther (Mailed mail) → asked ≡ st.records.dealings → Known st h → Comes (step c (Mailed mail) st) h
+  asks mail st h other same a = lands_asked given asked IsAskedLine st (step c (Mailed mail) st) h same a (idle.mails c st mail other)
 
   -- ITS OWN DEALING, which another one that is recorded ends
 

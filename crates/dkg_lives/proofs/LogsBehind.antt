@@ -13,7 +13,7 @@ use Rattle.dkg_core.specs.Dealing.{counts, with_ack}
 use Rattle.dkg_core.specs.Fixed.{Fixed}
 use Rattle.dkg_core.specs.Forms.{Applied, Judged, Passed, Refusal, judged_block}
 use Rattle.dkg_core.specs.Including.{is_served_at}
-use Rattle.dkg_core.specs.Live.{Cancel, Deals, Dealer, Ends, EpochInfoOf, Feed, Finalized, Follows, Includes, Live, Mail, Message, NextLog, Over, Peer, Records, ReleaseLog, Sent, Stage, Work, is_last_height, recorded_at, with_inclusion, with_queue, with_tip}
+use Rattle.dkg_core.specs.Live.{Cancel, Deals, Dealer, Ends, EpochInfoOf, Feed, Finalized, Follows, Includes, Live, Mail, Message, NextLog, Over, Peer, Records, ReleaseLog, Mailed, Stage, Work, is_last_height, recorded_at, with_inclusion, with_queue, with_tip}
 use Rattle.dkg_core.specs.Logs.{is_accepted, recorded_log}
 use Rattle.dkg_laws.specs.LogsRecorded.{first_of_both}
 use Rattle.dkg_laws.specs.NodeThrough.{IsNodeThrough}
@@ -47,7 +47,7 @@ module _ {Dir : Type 0} (c : Fixed Dir) (st : Live Dir) where
 
   abbrev pub LogsBehind : Message Dir → Live Dir → Type 0
   LogsBehind (Finalized b) end = HasNoLog b end ⊎ (HasObserved b end ⊎ HasPassedOn b end)
-  LogsBehind (Sent mail) end = end.records.logs ≡ st.records.logs
+  LogsBehind (Mailed mail) end = end.records.logs ≡ st.records.logs
 
   deals_apart : ◌≡◌ {A = Stage} Deals Includes → ⊥
   deals_apart e = cc
@@ -140,14 +140,14 @@ module _ {Dir : Type 0} (c : Fixed Dir) (st : Live Dir) where
 
     pub logs_behind : (message : Message Dir) → IsNextThrough c stored st message devices end left → LogsBehind message end
     logs_behind (Finalized b) next = block_logs b next.is
-    logs_behind (Sent (Peer from bytes)) next = heard_logs from end next.is
-    logs_behind (Sent (NextLog request height)) next = read_logs (asked_by (NextLog request height) st) end next.is.0 ∙ asked_logs (NextLog request height)
-    logs_behind (Sent (ReleaseLog height)) next = read_logs (asked_by (ReleaseLog height) st) end next.is.0 ∙ asked_logs (ReleaseLog height)
-    logs_behind (Sent (EpochInfoOf request)) next = read_logs (asked_by (EpochInfoOf request) st) end next.is.0 ∙ asked_logs (EpochInfoOf request)
-    logs_behind (Sent (Feed request block)) next = read_logs (asked_by (Feed request block) st) end next.is.0 ∙ asked_logs (Feed request block)
-    logs_behind (Sent (Over request)) next = read_logs (asked_by (Over request) st) end next.is.0 ∙ asked_logs (Over request)
-    logs_behind (Sent (Cancel request)) next = read_logs (asked_by (Cancel request) st) end next.is.0 ∙ asked_logs (Cancel request)
-    logs_behind (Sent (Work handed)) next = read_logs (asked_by (Work handed) st) end next.is.0 ∙ asked_logs (Work handed)
+    logs_behind (Mailed (Peer from bytes)) next = heard_logs from end next.is
+    logs_behind (Mailed (NextLog request height)) next = read_logs (asked_by (NextLog request height) st) end next.is.0 ∙ asked_logs (NextLog request height)
+    logs_behind (Mailed (ReleaseLog height)) next = read_logs (asked_by (ReleaseLog height) st) end next.is.0 ∙ asked_logs (ReleaseLog height)
+    logs_behind (Mailed (EpochInfoOf request)) next = read_logs (asked_by (EpochInfoOf request) st) end next.is.0 ∙ asked_logs (EpochInfoOf request)
+    logs_behind (Mailed (Feed request block)) next = read_logs (asked_by (Feed request block) st) end next.is.0 ∙ asked_logs (Feed request block)
+    logs_behind (Mailed (Over request)) next = read_logs (asked_by (Over request) st) end next.is.0 ∙ asked_logs (Over request)
+    logs_behind (Mailed (Cancel request)) next = read_logs (asked_by (Cancel request) st) end next.is.0 ∙ asked_logs (Cancel request)
+    logs_behind (Mailed (Work handed)) next = read_logs (asked_by (Work handed) st) end next.is.0 ∙ asked_logs (Work handed)
 
 -- .. and behind a node's step, whose orchestrator's half touches no records
 module _ {Dir : Type 0} (c : Fixed Dir) (stored : OfShares) (st : Live Dir) (devices : Option Held) (end : Live Dir) (left : Option Held) where
@@ -161,7 +161,7 @@ module _ {Dir : Type 0} (c : Fixed Dir) (stored : OfShares) (st : Live Dir) (dev
       logs = ap (λ (r : Records). r.logs) records
 
       by_message : (its : Message Dir) → LogsBehind c st its node.mid → LogsBehind c st its end
-      by_message (Sent mail) same = logs ∙ same
+      by_message (Mailed mail) same = logs ∙ same
       by_message (Finalized b) (inl none) = inl (record { never = none.never; logs = logs ∙ none.logs })
       by_message (Finalized b) (inr (inl its)) = inr (inl (record {
         applied = its.applied;

@@ -15,7 +15,7 @@ use Rattle.dkg_infos.specs.declared.fault.Fault.TheVariants.{HeightRange, Confli
 use Rattle.dkg_store.specs.Acts.{Held}
 use Rattle.dkg_core.specs.Sources.{Tip}
 use Rattle.dkg_core.specs.Fixed.{Fixed}
-use Rattle.dkg_core.specs.Live.{Live, Dealer, Stage, Deals, Includes, Follows, Ends, Mail, Message, Sent, Peer, Finalized, NextLog, ReleaseLog, EpochInfoOf, Feed, Over, Cancel, Work, awaited_height, phase_of, is_last_height, recorded_at, with_inclusion, with_queue, with_tip}
+use Rattle.dkg_core.specs.Live.{Live, Dealer, Stage, Deals, Includes, Follows, Ends, Mail, Message, Mailed, Peer, Finalized, NextLog, ReleaseLog, EpochInfoOf, Feed, Over, Cancel, Work, awaited_height, phase_of, is_last_height, recorded_at, with_inclusion, with_queue, with_tip}
 use Rattle.dkg_core.specs.Setup.{begins_inclusion, is_past_range}
 use Rattle.dkg_core.specs.Blocks.{is_early, is_in_window, is_in_window_in}
 use Rattle.dkg_core.specs.Dealing.{counts, with_ack}
@@ -257,14 +257,14 @@ module _ {Dir : Type 0} (c : Fixed Dir) (st : Live Dir) where
 
   -- it is the block that was applied, and else as it was
   pub next_tip : (stored : OfShares) (message : Message Dir) (devices : Option Held) (end : Live Dir) (left : Option Held) → IsNextThrough c stored st message devices end left → end.tip ≡ tip_behind message st.tip
-  next_tip stored (Sent (Peer from bytes)) devices end left next = heard_tip from end next.is
-  next_tip stored (Sent (NextLog request height)) devices end left next = read_tip (asked_by (NextLog request height) st) end next.is.0 ∙ asked_tip (NextLog request height)
-  next_tip stored (Sent (ReleaseLog height)) devices end left next = read_tip (asked_by (ReleaseLog height) st) end next.is.0 ∙ asked_tip (ReleaseLog height)
-  next_tip stored (Sent (EpochInfoOf request)) devices end left next = read_tip (asked_by (EpochInfoOf request) st) end next.is.0 ∙ asked_tip (EpochInfoOf request)
-  next_tip stored (Sent (Feed request block)) devices end left next = read_tip (asked_by (Feed request block) st) end next.is.0 ∙ asked_tip (Feed request block)
-  next_tip stored (Sent (Over request)) devices end left next = read_tip (asked_by (Over request) st) end next.is.0 ∙ asked_tip (Over request)
-  next_tip stored (Sent (Cancel request)) devices end left next = read_tip (asked_by (Cancel request) st) end next.is.0 ∙ asked_tip (Cancel request)
-  next_tip stored (Sent (Work handed)) devices end left next = read_tip (asked_by (Work handed) st) end next.is.0 ∙ asked_tip (Work handed)
+  next_tip stored (Mailed (Peer from bytes)) devices end left next = heard_tip from end next.is
+  next_tip stored (Mailed (NextLog request height)) devices end left next = read_tip (asked_by (NextLog request height) st) end next.is.0 ∙ asked_tip (NextLog request height)
+  next_tip stored (Mailed (ReleaseLog height)) devices end left next = read_tip (asked_by (ReleaseLog height) st) end next.is.0 ∙ asked_tip (ReleaseLog height)
+  next_tip stored (Mailed (EpochInfoOf request)) devices end left next = read_tip (asked_by (EpochInfoOf request) st) end next.is.0 ∙ asked_tip (EpochInfoOf request)
+  next_tip stored (Mailed (Feed request block)) devices end left next = read_tip (asked_by (Feed request block) st) end next.is.0 ∙ asked_tip (Feed request block)
+  next_tip stored (Mailed (Over request)) devices end left next = read_tip (asked_by (Over request) st) end next.is.0 ∙ asked_tip (Over request)
+  next_tip stored (Mailed (Cancel request)) devices end left next = read_tip (asked_by (Cancel request) st) end next.is.0 ∙ asked_tip (Cancel request)
+  next_tip stored (Mailed (Work handed)) devices end left next = read_tip (asked_by (Work handed) st) end next.is.0 ∙ asked_tip (Work handed)
   next_tip stored (Finalized b) devices end left next = by_judged (judged_block c b st) refl next.is
     where
       passed_on : judged_block c b st ≡ Applied → IsPassedOn c stored b st devices end left → end.tip ≡ tip_behind (Finalized b) st.tip
@@ -377,7 +377,7 @@ module _ {Dir : Type 0} (c : Fixed Dir) (stored : OfShares) (st : Live Dir) (mes
   next_so = by_message message refl
     where
       by_message : (m : Message Dir) → message ≡ m → Either
-      by_message (Sent mail) is = inl (goes_on (subst (PassesNothingOn c st) (sym is) tt))
+      by_message (Mailed mail) is = inl (goes_on (subst (PassesNothingOn c st) (sym is) tt))
       by_message (Finalized b) is = by_block b is
 
   -- behind a take-over it takes part

@@ -34,7 +34,7 @@ use Rattle.dkg_store.proofs.Halves.{recovered_at, prune_halves, share_halves, se
 use Rattle.dkg_store.proofs.Pairs.{record_one, put_one, same_key, get_at, get_other}
 use Rattle.dkg_store.proofs.Pruned.{recovered_from}
 use Rattle.dkg_store.proofs.Silent.{says_dealing}
-use Rattle.dkg_core.specs.Courses.{Course, Say, Do, Call, Ask, Goes, Stops, bind, Throughout, Finishes}
+use Rattle.dkg_core.specs.Courses.{Course, Say, Do, CallOutside, Ask, Goes, Stops, bind, Throughout, Finishes}
 use Rattle.dkg_core.specs.Fixed.{Fixed}
 use Rattle.dkg_core.specs.Live.{Live, Dealer, Seat, Plays, Watches, recorded_at}
 use Rattle.dkg_core.specs.Setup as s
@@ -248,7 +248,7 @@ module _ (m0 : Pairs) (own : ℕ × ℕ → List ℕ × ℕ → Type 0) where
 abbrev pub AtEnd : {Dir F S : Type 0} → (G : World → Type 0) → Course Dir F S → World → Type 0
 AtEnd G (Say line course) w = AtEnd G course (says w line)
 AtEnd G (Do op course) w = AtEnd G course (does w op)
-AtEnd G (Call outer course) w = AtEnd G course w
+AtEnd G (CallOutside outer course) w = AtEnd G course w
 AtEnd G (Ask f) w = AtEnd G (f w.held) w
 AtEnd G (Goes end) w = G w
 AtEnd G (Stops fault) w = Unit {0}
@@ -257,7 +257,7 @@ pub end_next : {Dir F S T : Type 0} (G : World → Type 0) (course : Course Dir 
     → ((end : S) (mid : World) → Finishes course end w mid → G mid → AtEnd G (next end) mid) → AtEnd G (bind course next) w
 end_next G (Say line course) next w a more = end_next G course next (says w line) a more
 end_next G (Do op course) next w a more = end_next G course next (does w op) a more
-end_next G (Call outer course) next w a more = end_next G course next w a more
+end_next G (CallOutside outer course) next w a more = end_next G course next w a more
 end_next G (Ask f) next w a more = end_next G (f w.held) next w a more
 end_next G (Goes end) next w a more = more end w (refl, refl) a
 end_next G (Stops fault) next w a more = tt
@@ -274,7 +274,7 @@ end_option G w (Some a) f none some without = some a refl
 pub end_is : {Dir F S : Type 0} (G : World → Type 0) (course : Course Dir F S) (w new : World) (end : S) → AtEnd G course w → Finishes course end w new → G new
 end_is G (Say line course) w new end a done = end_is G course (says w line) new end a done
 end_is G (Do op course) w new end a done = end_is G course (does w op) new end a done
-end_is G (Call outer course) w new end a done = end_is G course w new end a done
+end_is G (CallOutside outer course) w new end a done = end_is G course w new end a done
 end_is G (Ask f) w new end a done = end_is G (f w.held) w new end a done
 end_is G (Goes its) w new end a done = subst G (sym done.0) a
 end_is G (Stops fault) w new end a done = absurd done

@@ -15,7 +15,7 @@ use Rattle.dkg_types.specs.declared.message.Message.TheVariants.{Dealer as ADeal
 use Rattle.dkg_types.specs.MessageCodes.{message_at}
 use Rattle.dkg_core.specs.Courses.{Course, Goes, bind}
 use Rattle.dkg_core.specs.Fixed.{Fixed}
-use Rattle.dkg_core.specs.Live.{Live, Dealer, Seat, Plays, Watches, Stage, Deals, Includes, Follows, Ends, Sent, Peer, recorded_at}
+use Rattle.dkg_core.specs.Live.{Live, Dealer, Seat, Plays, Watches, Stage, Deals, Includes, Follows, Ends, Mailed, Peer, recorded_at}
 use Rattle.dkg_core.specs.Dealing.{acknowledges, blocks_sender, checked_dealing, hears_ack, hears_dealing_in, hears_peer_in, keeps, reads, seats_dealing_in, why_dealing}
 use Rattle.dkg_core.specs.Core.{step}
 use Rattle.dkg_core.specs.Laws.{IsDue}
@@ -123,5 +123,5 @@ module _ {Dir : Type 0} (c : Fixed Dir) (st : Live Dir) (from : ℕ) (bytes : Li
   in_stage Follows is = passed (λ due. follows_apart (sym is ∙ due.deals))
   in_stage Ends is = passed (λ due. ends_apart (sym is ∙ due.deals))
 
-  pub by_form : P (step c (Sent (Peer from bytes)) st)
+  pub by_form : P (step c (Mailed (Peer from bytes)) st)
   by_form = in_stage st.participation.stage refl

@@ -25,7 +25,7 @@ use Rattle.dkg_infos.specs.declared.participants.ParticipantsError.{Participants
 use Rattle.dkg_store.specs.Acts.{Held, World, held_after, does, says, stopped}
 use Rattle.dkg_core.specs.Blocks as b
 use Rattle.dkg_core.specs.Core.{begun_life, opening, opens_in}
-use Rattle.dkg_core.specs.Courses.{Ask, Call, Course, Do, EndsSo, Goes, Say, Stops, bind}
+use Rattle.dkg_core.specs.Courses.{Ask, CallOutside, Course, Do, EndsSo, Goes, Say, Stops, bind}
 use Rattle.dkg_ceremony.specs.Schedule.{epoch_of}
 use Rattle.dkg_core.specs.Fixed.{Fixed, Material, OneShot, has, start}
 use Rattle.dkg_core.specs.Forms.{IsForm, committed_by, current_by, held_behind, orchestrator_by, round_for, seed_read, set_up_by, share_read, started}
@@ -53,7 +53,7 @@ module _ (X : Held → Type 0) where
   abbrev pub Leads : {Dir : Type 0} → (Live Dir → Held → Type 0) → Course Dir Fault (Live Dir) → Held → Type 0
   Leads Q (Say line course) h = Leads Q course h
   Leads Q (Do op course) h = Leads Q course (held_after op h)
-  Leads Q (Call outer course) h = Leads Q course h
+  Leads Q (CallOutside outer course) h = Leads Q course h
   Leads Q (Ask f) h = Leads Q (f h) h
   Leads Q (Goes st) h = Q st h
   Leads Q (Stops its) h = IfRefused its (X h)
@@ -72,7 +72,7 @@ module _ (X : Held → Type 0) where
       → ((st : Live Dir) (h : Held) → Q st h → Halts (next st) h) → Halts (bind course next) h
   leads_on Q (Say line course) next h l more = leads_on Q course next h l more
   leads_on Q (Do op course) next h l more = leads_on Q course next (held_after op h) l more
-  leads_on Q (Call outer course) next h l more = leads_on Q course next h l more
+  leads_on Q (CallOutside outer course) next h l more = leads_on Q course next h l more
   leads_on Q (Ask f) next h l more = leads_on Q (f h) next h l more
   leads_on Q (Goes st) next h l more = more st h l
   leads_on Q (Stops its) next h l more = l
@@ -80,7 +80,7 @@ module _ (X : Held → Type 0) where
   pub halted : {Dir : Type 0} (course : Course Dir Fault (Live Dir)) (w new : World) (its : Fault) → Halts course w.held → EndsSo course (stopped its) w new → IfRefused its (X new.held)
   halted (Say line course) w new its l done = halted course (says w line) new its l done
   halted (Do op course) w new its l done = halted course (does w op) new its l done
-  halted (Call outer course) w new its l done = halted course w new its l done
+  halted (CallOutside outer course) w new its l done = halted course w new its l done
   halted (Ask f) w new its l done = halted (f w.held) w new its l done
   halted (Goes st) w new its l done = absurd done
   halted (Stops own) w new its l done = subst (λ (x : World). IfRefused its (X x.held)) (sym done.0) (subst (λ (y : Fault). IfRefused y (X w.held)) (sym done.1) l)

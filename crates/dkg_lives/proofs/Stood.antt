@@ -15,7 +15,7 @@ use Rattle.dkg_script.specs.Setting.{Setting, blocks_per_epoch, is_oneshot}
 use Rattle.dkg_store.specs.Acts.{Held}
 use Rattle.dkg_core.specs.Forms.{IsNodeBegun, IsSeated, IsSetUpIn, Judged, Refusal, Passed, Applied, judged_block, share_read, seed_read, started}
 use Rattle.dkg_core.specs.Live as core
-use Rattle.dkg_core.specs.Live.{Finalized, Follows, Live, Message, Sent, is_last_height, with_orchestrator}
+use Rattle.dkg_core.specs.Live.{Finalized, Follows, Live, Message, Mailed, is_last_height, with_orchestrator}
 use Rattle.dkg_core.specs.Seen.{Seen}
 use Rattle.dkg_core.specs.Setup.{Uncommitted}
 use Rattle.dkg_core.specs.Sources.{Tip, startup}
@@ -344,7 +344,7 @@ module _ (g : Lived) (here : IsLifeInForm g) where
         unfollowed_over = by_brought (brings_so g its m.message m.brings)
           where
             by_brought : BringsBlock g its m.message ⊎ BringsMail its m.message → life_follows s g.number g.life (epoch_by g (suc i)) ≡ false
-            by_brought (inr mail) = absurd (let wrong : ◌≡◌ {A = Message directory.Unit} (Sent mail.0) (Finalized over.block) = sym mail.1 ∙ over.is in cc)
+            by_brought (inr mail) = absurd (let wrong : ◌≡◌ {A = Message directory.Unit} (Mailed mail.0) (Finalized over.block) = sym mail.1 ∙ over.is in cc)
             by_brought (inl b) =
                 let block_is : over.block ≡ (b.1).block = the_block (sym over.is ∙ b.3) in
                 unfollowed_then b.0 b.1 (is ∙ ap (λ (e : Event). Some e) b.2) b.3 (subst (λ (x : made.Block directory.Unit). judged_block (at_step g (suc i)) x st ≡ Applied) block_is over.applied)

@@ -15,10 +15,10 @@ use Rattle.dkg_infos.specs.declared.fault.Fault.TheVariants.{LocalState, Missing
 use Rattle.dkg_infos.specs.declared.fault.LocalCause.{LocalCause}
 use Rattle.dkg_infos.specs.declared.info.EpochInfo.{EpochInfo}
 use Rattle.dkg_types.specs.declared.scheme.SchemeInfo.{SchemeInfo}
-use Rattle.dkg_core.specs.Courses.{Ask, Call, Course, Do, EndsSo, Genesis, Goes, Say, Stops, bind, under}
+use Rattle.dkg_core.specs.Courses.{Ask, CallOutside, Course, Do, EndsSo, Genesis, Goes, Say, Stops, bind, under}
 use Rattle.dkg_core.specs.Core.{step}
 use Rattle.dkg_core.specs.Entering as half
-use Rattle.dkg_core.specs.Entering.{Half, HalfAnswer, Acknowledges, Withholds}
+use Rattle.dkg_core.specs.Entering.{LifeAndAnswer, HalfAnswer, AcknowledgesBlock, Withholds}
 use Rattle.dkg_core.specs.Fixed.{Fixed}
 use Rattle.dkg_core.specs.Live.{Delivers, Faulted, Finalized, Live, MissingScheme, NodeStop, Orchestrator, PeerSet, Waiting}
 use Rattle.dkg_core.specs.Node.{node_step, unless_once}
@@ -32,7 +32,7 @@ IsElse stop = ⊤
 abbrev NoLocal : {Dir S : Type 0} → Course Dir NodeStop S → Type 0
 NoLocal (Say line course) = NoLocal course
 NoLocal (Do op course) = NoLocal course
-NoLocal (Call outer course) = NoLocal course
+NoLocal (CallOutside outer course) = NoLocal course
 NoLocal (Ask f) = (h : Held) → NoLocal (f h)
 NoLocal (Goes end) = ⊤
 NoLocal (Stops stop) = IsElse stop
@@ -40,7 +40,7 @@ NoLocal (Stops stop) = IsElse stop
 never : {Dir S : Type 0} (course : Course Dir NodeStop S) (cause : LocalCause) (w new : World) → NoLocal course → EndsSo course (stopped (Faulted (LocalState cause))) w new → ⊥
 never (Say line course) cause w new clear run = never course cause (says w line) new clear run
 never (Do op course) cause w new clear run = never course cause (does w op) new clear run
-never (Call outer course) cause w new clear run = never course cause w new clear run
+never (CallOutside outer course) cause w new clear run = never course cause w new clear run
 never (Ask f) cause w new clear run = never (f w.held) cause w new (clear w.held) run
 never (Goes end) cause w new clear run = run
 never (Stops stop) cause w new clear run = subst (λ (x : NodeStop). IsElse x) (sym run.1) clear
@@ -50,7 +50,7 @@ stopped_half : {Dir S T : Type 0} (course : Course Dir Fault S) (behind : S → 
     → EndsSo (bind (under Faulted course) behind) (stopped (Faulted (LocalState cause))) w new → EndsSo course (stopped (LocalState cause)) w new
 stopped_half (Say line course) behind cause w new clear run = stopped_half course behind cause (says w line) new clear run
 stopped_half (Do op course) behind cause w new clear run = stopped_half course behind cause (does w op) new clear run
-stopped_half (Call outer course) behind cause w new clear run = stopped_half course behind cause w new clear run
+stopped_half (CallOutside outer course) behind cause w new clear run = stopped_half course behind cause w new clear run
 stopped_half (Ask f) behind cause w new clear run = stopped_half (f w.held) behind cause w new clear run
 stopped_half (Goes end) behind cause w new clear run = absurd (never (behind end) cause w new (clear end) run)
 stopped_half (Stops own) behind cause w new clear run = (run.0, the_fault run.1)
@@ -63,7 +63,7 @@ stopped_half (Stops own) behind cause w new clear run = (run.0, the_fault run.1)
 no_bind : {Dir S T : Type 0} (course : Course Dir NodeStop S) (next : S → Course Dir NodeStop T) → NoLocal course → ((end : S) → NoLocal (next end)) → NoLocal (bind course next)
 no_bind (Say line course) next clear more = no_bind course next clear more
 no_bind (Do op course) next clear more = no_bind course next clear more
-no_bind (Call outer course) next clear more = no_bind course next clear more
+no_bind (CallOutside outer course) next clear more = no_bind course next clear more
 no_bind (Ask f) next clear more = λ h. no_bind (f h) next (clear h) more
 no_bind (Goes end) next clear more = more end
 no_bind (Stops stop) next clear more = clear
@@ -77,7 +77,7 @@ no_option None f none some without = without
 no_option (Some a) f none some without = some a
 
 module _ {Dir : Type 0} (c : Fixed Dir) where
-  stops : (entered : Option ℕ) (course : Course Dir NodeStop (Half Dir)) → NoLocal course → NoLocal (half.stops_engine entered course)
+  stops : (entered : Option ℕ) (course : Course Dir NodeStop (LifeAndAnswer Dir)) → NoLocal course → NoLocal (half.stops_engine entered course)
   stops None course clear = clear
   stops (Some epoch) course clear = clear
 
@@ -106,10 +106,10 @@ module _ {Dir : Type 0} (c : Fixed Dir) where
       begins info = record { epoch = epoch; info = info; floor = Genesis b.digest; block = block }
 
   acked : (height : ℕ) (answer : HalfAnswer) (st : Live Dir) → NoLocal (half.acked_at height answer st)
-  acked height Acknowledges st = tt
+  acked height AcknowledgesBlock st = tt
   acked height Withholds st = tt
 
-  acked_late : (block : Option ℕ) (its : Half Dir) → NoLocal (half.acked_late block its)
+  acked_late : (block : Option ℕ) (its : LifeAndAnswer Dir) → NoLocal (half.acked_late block its)
   acked_late None its = tt
   acked_late (Some height) its = acked height its.answer its.live
 
@@ -121,8 +121,8 @@ module _ {Dir : Type 0} (c : Fixed Dir) where
   by_epoch b st None = tt
   by_epoch b st (Some epoch) =
       no_if (nat_lt (last c.blocks_per_epoch epoch) b.height) (Stops (Faulted (SkippedHeight (last c.blocks_per_epoch epoch) b.height)))
-      (if nat_lt b.height (last c.blocks_per_epoch epoch) then half.leaves st.orchestrator Acknowledges st else half.enters_at c b (epoch + 1) (Some b.height) st) tt
-      (no_if (nat_lt b.height (last c.blocks_per_epoch epoch)) (half.leaves st.orchestrator Acknowledges st) (half.enters_at c b (epoch + 1) (Some b.height) st) tt (enters_at b (epoch + 1) (Some b.height) st))
+      (if nat_lt b.height (last c.blocks_per_epoch epoch) then half.leaves st.orchestrator AcknowledgesBlock st else half.enters_at c b (epoch + 1) (Some b.height) st) tt
+      (no_if (nat_lt b.height (last c.blocks_per_epoch epoch)) (half.leaves st.orchestrator AcknowledgesBlock st) (half.enters_at c b (epoch + 1) (Some b.height) st) tt (enters_at b (epoch + 1) (Some b.height) st))
 
   delivered : (b : Block Dir) (st : Live Dir) → NoLocal (half.takes_delivered c b st)
   delivered b st = no_bind (half.asks_again c st) (λ now. half.delivered_in c b now (half.active now.orchestrator)) (asks st) (λ now. by_epoch b now (half.active now.orchestrator))

@@ -28,10 +28,10 @@ use Rattle.dkg_store.specs.Acts.{Ended, OnDisk}
 use Rattle.dkg_core.specs.Behind.{event_of}
 use Rattle.dkg_core.specs.Blocks as b
 use Rattle.dkg_core.specs.Core.{begun_life, opening, opens_in, step}
-use Rattle.dkg_core.specs.Courses.{Course, Say, Do, Call, Ask, Certified, Genesis, Goes, Stops, bind, on_devices, under}
+use Rattle.dkg_core.specs.Courses.{Course, Say, Do, CallOutside, Ask, Certified, Genesis, Goes, Stops, bind, on_devices, under}
 use Rattle.dkg_core.specs.Endings.{validity}
 use Rattle.dkg_core.specs.Entering as half
-use Rattle.dkg_core.specs.Entering.{Half, HalfAnswer, Acknowledges, Withholds, active, takes_delivered}
+use Rattle.dkg_core.specs.Entering.{LifeAndAnswer, HalfAnswer, AcknowledgesBlock, Withholds, active, takes_delivered}
 use Rattle.dkg_core.specs.Fixed.{Fixed, Material, OneShot, has}
 use Rattle.dkg_core.specs.Forms.{Applied, judged_block, share_read}
 use Rattle.dkg_core.specs.Live.{Dealer, Faulted, Finalized, Live, NodeStop, Orchestrator, Waiting, Watches, awaited_height, records_of_epoch, phase_of}
@@ -57,7 +57,7 @@ IsUnanswered line = Unit {0}
 so_as : {Dir F S : Type 0} (P Q : Entry → Type 0) (course : Course Dir F S) → ((line : Entry) → P line → Q line) → SaysSo P course → SaysSo Q course
 so_as P Q (Say line course) more so = (more line so.0, so_as P Q course more so.1)
 so_as P Q (Do op course) more so = so_as P Q course more so
-so_as P Q (Call outer course) more so = so_as P Q course more so
+so_as P Q (CallOutside outer course) more so = so_as P Q course more so
 so_as P Q (Ask f) more so = λ h. so_as P Q (f h) more (so h)
 so_as P Q (Goes end) more so = tt
 so_as P Q (Stops fault) more so = tt
@@ -65,7 +65,7 @@ so_as P Q (Stops fault) more so = tt
 so_under : {Dir F G S : Type 0} (P : Entry → Type 0) (name : F → G) (course : Course Dir F S) → SaysSo P course → SaysSo P (under name course)
 so_under P name (Say line course) so = (so.0, so_under P name course so.1)
 so_under P name (Do op course) so = so_under P name course so
-so_under P name (Call outer course) so = so_under P name course so
+so_under P name (CallOutside outer course) so = so_under P name course so
 so_under P name (Ask f) so = λ h. so_under P name (f h) (so h)
 so_under P name (Goes end) so = tt
 so_under P name (Stops fault) so = tt
@@ -74,7 +74,7 @@ so_under P name (Stops fault) so = tt
 so_any : {Dir F S : Type 0} (P : Entry → Type 0) → ((line : Entry) → P line) → (course : Course Dir F S) → SaysSo P course
 so_any P so (Say line course) = (so line, so_any P so course)
 so_any P so (Do op course) = so_any P so course
-so_any P so (Call outer course) = so_any P so course
+so_any P so (CallOutside outer course) = so_any P so course
 so_any P so (Ask f) = λ h. so_any P so (f h)
 so_any P so (Goes end) = tt
 so_any P so (Stops fault) = tt
@@ -85,7 +85,7 @@ module _ {Dir : Type 0} (c : Fixed Dir) (P : Entry → Type 0) (tells : (line : 
   starts o w None st = tt
   starts o w (Some scheme) st = stopped o.entered
     where
-      stopped : (old : Option ℕ) → SaysSo P (half.stops_engine old (Say (Entered w.epoch) (half.leaves (half.with_entered w.epoch o) Acknowledges st)))
+      stopped : (old : Option ℕ) → SaysSo P (half.stops_engine old (Say (Entered w.epoch) (half.leaves (half.with_entered w.epoch o) AcknowledgesBlock st)))
       stopped None = (tells (Entered w.epoch) tt, tt)
       stopped (Some old) = (tells (Entered w.epoch) tt, tt)
 
@@ -104,8 +104,8 @@ module _ {Dir : Type 0} (c : Fixed Dir) (P : Entry → Type 0) (tells : (line : 
 
   enters_at : (block : Block Dir) (epoch : ℕ) (height : Option ℕ) (st : Live Dir) → SaysSo P (half.enters_at c block epoch height st)
   enters_at block epoch height st =
-      let goes : EpochInfo Dir → Course Dir NodeStop (Half Dir) = λ info. half.enters c (record { epoch = epoch; info = info; floor = Genesis block.digest; block = height }) st in
-      let wrong : EpochInfo Dir → Course Dir NodeStop (Half Dir) = λ info. Stops (Faulted (WrongEpoch epoch info.epoch)) in
+      let goes : EpochInfo Dir → Course Dir NodeStop (LifeAndAnswer Dir) = λ info. half.enters c (record { epoch = epoch; info = info; floor = Genesis block.digest; block = height }) st in
+      let wrong : EpochInfo Dir → Course Dir NodeStop (LifeAndAnswer Dir) = λ info. Stops (Faulted (WrongEpoch epoch info.epoch)) in
       so_option P (λ (info : EpochInfo Dir). if info.epoch == epoch then goes info else wrong info) (info_of block.payload) (Stops (Faulted (MissingEpochInfo block.height)))
       (λ info e. so_if P (info.epoch == epoch) (goes info) (wrong info) (λ e. enters (record { epoch = epoch; info = info; floor = Genesis block.digest; block = height }) st) (λ e. tt)) tt
 
@@ -121,10 +121,10 @@ module _ {Dir : Type 0} (c : Fixed Dir) (P : Entry → Type 0) (tells : (line : 
       at epoch (Some block) = enters_at block epoch None st
 
   acked : (height : ℕ) (answer : HalfAnswer) (st : Live Dir) → SaysSo P (half.acked_at height answer st)
-  acked height Acknowledges st = (tells (Acked height) tt, tt)
+  acked height AcknowledgesBlock st = (tells (Acked height) tt, tt)
   acked height Withholds st = tt
 
-  acked_late : (height : Option ℕ) (left : Half Dir) → SaysSo P (half.acked_late height left)
+  acked_late : (height : Option ℕ) (left : LifeAndAnswer Dir) → SaysSo P (half.acked_late height left)
   acked_late None left = tt
   acked_late (Some height) left = acked height left.answer left.live
 
@@ -137,8 +137,8 @@ module _ {Dir : Type 0} (c : Fixed Dir) (P : Entry → Type 0) (tells : (line : 
   delivers_in block st None = tt
   delivers_in block st (Some epoch) =
       so_if P (nat_lt (last c.blocks_per_epoch epoch) block.height) (Stops (Faulted (SkippedHeight (last c.blocks_per_epoch epoch) block.height)))
-      (if nat_lt block.height (last c.blocks_per_epoch epoch) then half.leaves st.orchestrator Acknowledges st else half.enters_at c block (epoch + 1) (Some block.height) st) (λ e. tt)
-      (λ e. so_if P (nat_lt block.height (last c.blocks_per_epoch epoch)) (half.leaves st.orchestrator Acknowledges st) (half.enters_at c block (epoch + 1) (Some block.height) st) (λ e. tt)
+      (if nat_lt block.height (last c.blocks_per_epoch epoch) then half.leaves st.orchestrator AcknowledgesBlock st else half.enters_at c block (epoch + 1) (Some block.height) st) (λ e. tt)
+      (λ e. so_if P (nat_lt block.height (last c.blocks_per_epoch epoch)) (half.leaves st.orchestrator AcknowledgesBlock st) (half.enters_at c block (epoch + 1) (Some block.height) st) (λ e. tt)
       (λ e. enters_at block (epoch + 1) (Some block.height) st))
 
   pub behind_block : (block : Block Dir) (st : Live Dir) → SaysSo P (unless_once c (bind (takes_delivered c block st) (λ left. half.acked_at block.height left.answer left.live)) (Say (Acked block.height) (Goes st)))

@@ -29,14 +29,14 @@ use Rattle.dkg_lives.specs.Given.{blocks_in, numbered, provided_by}
 pub data RequestStanding : Type 0 where
   Unmade : RequestStanding
   Open : RequestStanding
-  Closed : RequestStanding
+  FullyFed : RequestStanding
   Cancelled : RequestStanding
 
 abbrev pub turns : (request : ℕ) → RequestStanding → Event → RequestStanding
 turns request Unmade (Info number) = if number == request then Open else Unmade
-turns request Open (Over number) = if number == request then Closed else Open
+turns request Open (Over number) = if number == request then FullyFed else Open
 turns request Open (Cancel number) = if number == request then Cancelled else Open
-turns request Closed (Cancel number) = if number == request then Cancelled else Closed
+turns request FullyFed (Cancel number) = if number == request then Cancelled else FullyFed
 turns request standing _ = standing
 
 -- .. behind the first j events of a life
@@ -47,7 +47,7 @@ request_standing life request j = fold (turns request) Unmade (take j life.event
 abbrev pub IsUncancelled : RequestStanding → Type 0
 IsUncancelled Unmade = ⊥
 IsUncancelled Open = Unit {0}
-IsUncancelled Closed = Unit {0}
+IsUncancelled FullyFed = Unit {0}
 IsUncancelled Cancelled = ⊥
 
 -- WHAT IT WAS FED
@@ -93,7 +93,7 @@ pub record IsRefusedAt (script : Script) (life : Life) (epoch request j : ℕ) (
 
 -- it ended too soon
 pub record IsShortAt (script : Script) (life : Life) (epoch request j : ℕ) : Type 0 where
-  pub closed : request_standing life request j ≡ Closed
+  pub closed : request_standing life request j ≡ FullyFed
   pub path : List (Block directory.Unit)
   pub fed : fed_in script life request j ≡ reverse path
   pub under_way : IsUnderWay (bounds_in script epoch) (scan_tip script life j) path

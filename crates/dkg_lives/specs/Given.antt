@@ -35,7 +35,7 @@ use Rattle.dkg_core.specs.Fixed.{Directories, Fixed, Inner, Probed, stand_in}
 use Rattle.dkg_core.specs.Live.{Event, Live, NodeStop, Delivers, Peer, NextLog, ReleaseLog, EpochInfoOf, Feed, Over, Cancel, Work, Reshare}
 use Rattle.dkg_core.specs.Node.{node_step}
 use Rattle.dkg_core.specs.Seen.{Seen}
-use Rattle.dkg_core.specs.Sources.{Anchor, AtBlock, Absent, Source, source_of}
+use Rattle.dkg_core.specs.Sources.{Anchor, AtBlock, Absent, SourceAnswers, source_of}
 use Rattle.dkg_core.specs.Endings.{first_epoch}
 use Rattle.dkg_life.specs.Planless.{seen_planless}
 
@@ -120,7 +120,7 @@ abbrev pub lived : Script → (number : ℕ) → Life → (Held → Seen) → Fi
 lived script number life seen files = record { script = script; number = number; life = life; seen = seen; calls = length (open_calls files) }
 
 -- what its source holds once so many of its events have come: a block that the last of them delivers is there
-abbrev pub source_at : Lived → (taken : ℕ) → Source directory.Unit
+abbrev pub source_at : Lived → (taken : ℕ) → SourceAnswers directory.Unit
 source_at g taken =
     source_of unsealed (anchor_in (blocks_in g.script) g.life.anchor) (numbered (blocks_in g.script) g.life.held) (delivered_by (blocks_in g.script) (take taken g.life.events))
 

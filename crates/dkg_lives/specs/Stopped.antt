@@ -1,7 +1,7 @@
 -- How often a device stopped between two calls, and with which picks.
 use Rattle.std.specs.Prelude.{ℕ, ◌≡◌, ◌∷◌, [], List, Result, Ok, Err}
 use Rattle.std.specs.Option.{option_map_or}
-use Rattle.dkg_journal.specs.DeviceCall.{DeviceCall, Makes, CutIn, Crashes}
+use Rattle.dkg_journal.specs.DeviceCall.{DeviceCall, CallMade, CutIn, Crashes}
 use Rattle.dkg_journal.specs.declared.disk.Op.{Op}
 use Rattle.dkg_secrets.specs.declared.secrets.SecretOp.{SecretOp}
 use Rattle.dkg_text.specs.declared.script.Life.{Life}
@@ -10,7 +10,7 @@ use Rattle.dkg_life.specs.declared.stop.Stop.TheVariants.{Cut}
 
 abbrev pub stops_in : {O : Type 0} → List (DeviceCall O) → List ℕ
 stops_in [] = []
-stops_in (Makes op ∷ calls) = stops_in calls
+stops_in (CallMade op ∷ calls) = stops_in calls
 stops_in (CutIn op pick ∷ calls) = stops_in calls
 stops_in (Crashes pick ∷ calls) = pick ∷ stops_in calls
 

@@ -7,7 +7,7 @@ use Rattle.dkg_infos.specs.declared.fault.Fault.{Fault}
 use Rattle.dkg_store.specs.Acts as acts_of
 use Rattle.dkg_store.specs.Acts.{Acts, World, says, does, at, Moment, Stands, MadeAt, Runs, Completes, Faults, Breaks, Cause, Ended, went, stopped, broken, IfWent}
 use Rattle.dkg_store.proofs.Acts.{made_broken, made_next, made_stopped}
-use Rattle.dkg_core.specs.Courses.{Course, Say, Do, Call, Ask, Goes, Stops, bind, on_devices, under}
+use Rattle.dkg_core.specs.Courses.{Course, Say, Do, CallOutside, Ask, Goes, Stops, bind, on_devices, under}
 use Rattle.dkg_core.specs.Live.{NodeStop, Faulted}
 use Rattle.dkg_core.specs.Said.{Said, SaysAll, SaysFirst, SaysUpTo}
 use Rattle.dkg_core.specs.Splitting.{fault_named}
@@ -24,7 +24,7 @@ use Rattle.dkg_lives.specs.Ended.{by_node_stop}
 on_under : {Dir S : Type 0} (course : Course Dir Fault S) → on_devices (under Faulted course) ≡ acts_of.under Faulted (on_devices course)
 on_under (Say line course) = ap (acts_of.Say line) (on_under course)
 on_under (Do op course) = ap (acts_of.Do op) (on_under course)
-on_under (Call outer course) = on_under course
+on_under (CallOutside outer course) = on_under course
 on_under (Ask f) = λ i. acts_of.Ask (λ h. on_under (f h) i)
 on_under (Goes end) = refl
 on_under (Stops fault) = refl

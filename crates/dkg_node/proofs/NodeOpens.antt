@@ -28,7 +28,7 @@ use Rattle.dkg_core.specs.Live.{Live}
 use Rattle.dkg_core.specs.Node.{kept_material, node_opening}
 use Rattle.dkg_core.specs.Said.{Said}
 use Rattle.dkg_core.specs.Seen.{Seen}
-use Rattle.dkg_core.specs.Sources.{Source, source_over}
+use Rattle.dkg_core.specs.Sources.{SourceAnswers, source_over}
 use Rattle.dkg_life.specs.Ready.{IsFoundAt}
 use Rattle.dkg_reshare.specs.Actors.{AreTerms, EndsAt, IfIncluding, lives}
 use Rattle.dkg_life.specs.Ends.{IsCaused, by_stop}
@@ -75,7 +75,7 @@ are_of terms config me blocks limit max_mode mode reveal namespace are a b c d e
 }
 
 -- what a half is given, at epochs of the same length
-pub half_as : {m n : ℕ} {source : Source directory.Unit} {c : Fixed directory.Unit} → IsHalfGiven m source c → m ≡ n → IsHalfGiven n source c
+pub half_as : {m n : ℕ} {source : SourceAnswers directory.Unit} {c : Fixed directory.Unit} → IsHalfGiven m source c → m ≡ n → IsHalfGiven n source c
 half_as {source = source} {c = c} given same = subst (λ (k : ℕ). IsHalfGiven k source c) same given
 
 -- The orchestrator's half blames no device.
@@ -123,7 +123,7 @@ module _ (script : Script) (number : ℕ) (life : Life) (source : HeldBlocks) (f
     abbrev pub its : Fixed directory.Unit
     its = at_step (life_with seen_planless) 0
 
-    abbrev pub answers : Source directory.Unit
+    abbrev pub answers : SourceAnswers directory.Unit
     answers = source_over unsealed (anchor_in source.blocks.now source.anchor) (numbered source.blocks.now source.numbers.items)
 
     here_with : (seen : Held → Seen) → IsUnplanned seen → IsLifeInForm (life_with seen)

@@ -44,7 +44,7 @@ use Rattle.dkg_core.specs.Core.{no_inclusion, no_orchestrator, no_probe, step}
 use Rattle.dkg_core.specs.Courses.{Course, Goes, Say, bind, on_devices}
 use Rattle.dkg_core.specs.Entering.{acked_at, acked_late, asks_again, takes_delivered, enters, is_ready}
 use Rattle.dkg_core.specs.Fixed.{Fixed, OneShot}
-use Rattle.dkg_core.specs.Live.{Inclusion, Live, Mail, Message, NodeStop, Orchestrator, Waiting, Peer, NextLog, ReleaseLog, EpochInfoOf, Feed, Over, Cancel, Work, Reshare, Sent, Delivers, Finalized}
+use Rattle.dkg_core.specs.Live.{Inclusion, Live, Mail, Message, NodeStop, Orchestrator, Waiting, Peer, NextLog, ReleaseLog, EpochInfoOf, Feed, Over, Cancel, Work, Reshare, Mailed, Delivers, Finalized}
 use Rattle.dkg_core.specs.Node.{node_step, unless_once}
 use Rattle.dkg_core.specs.Said.{Said}
 use Rattle.dkg_core.specs.Setup.{is_past_range}
@@ -247,48 +247,48 @@ module _ (n : Node) (c : Fixed directory.Unit) (beside : Beside directory.Unit) 
 
   module _ (files files_now : Files) (image now : Files → Type 0) (old new : Moment) where
     heard_in : (state : NodeState) → n.actor.state ≡ state → (result : Result (Unit {0}) Stop) (P : reshare.Life directory.Unit → Type 0) → EndsAt state result P → OnOk result (Shows state beside.inclusion)
-        → MakesAt (on_devices (step c (Sent mail) st)) (lives (live_of beside n.fence) state result) files image files_now now old new
+        → MakesAt (on_devices (step c (Mailed mail) st)) (lives (live_of beside n.fence) state result) files image files_now now old new
         → Viewed n result (λ ended. MakesAt (on_devices (node_step c (Reshare mail) st)) ended files image files_now now old new)
     heard_in (Living life its) is (Ok done) P ends seen made = (
       live_of beside n.fence life,
       view_of n beside life its has is seen,
-      node_goes (step c (Sent mail) st) next_of made
+      node_goes (step c (Mailed mail) st) next_of made
           (subst (λ (a : Course directory.Unit NodeStop (Live directory.Unit)). MakesAt (on_devices a) (went (live_of beside n.fence life)) files_now now files_now now new new)
           (sym (goes_on c (live_of beside n.fence life) reshare_is has.unawaited)) (makes_nothing files_now now new refl)),
     )
     heard_in New is (Ok done) P ends seen made = absurd ends
     heard_in HadFailed is (Ok done) P ends seen made = absurd ends
-    heard_in (Living life its) is (Err stop) P ends seen made = node_ends (step c (Sent mail) st) next_of stop made
-    heard_in New is (Err stop) P ends seen made = node_ends (step c (Sent mail) st) next_of stop made
-    heard_in HadFailed is (Err stop) P ends seen made = node_ends (step c (Sent mail) st) next_of stop made
+    heard_in (Living life its) is (Err stop) P ends seen made = node_ends (step c (Mailed mail) st) next_of stop made
+    heard_in New is (Err stop) P ends seen made = node_ends (step c (Mailed mail) st) next_of stop made
+    heard_in HadFailed is (Err stop) P ends seen made = node_ends (step c (Mailed mail) st) next_of stop made
 
     pub heard : (result : Result (Unit {0}) Stop) (P : reshare.Life directory.Unit → Type 0) → EndsAt n.actor.state result P → OnOk result (Shows n.actor.state beside.inclusion)
-        → MakesAt (on_devices (step c (Sent mail) st)) (lives (live_of beside n.fence) n.actor.state result) files image files_now now old new
+        → MakesAt (on_devices (step c (Mailed mail) st)) (lives (live_of beside n.fence) n.actor.state result) files image files_now now old new
         → Viewed n result (λ ended. MakesAt (on_devices (node_step c (Reshare mail) st)) ended files image files_now now old new)
     heard result P ends seen made = heard_in n.actor.state refl result P ends seen made
 
   module _ (out now : List Entry) where
     said_in : (state : NodeState) → n.actor.state ≡ state → (result : Result (Unit {0}) Stop) (P : reshare.Life directory.Unit → Type 0) → EndsAt state result P → OnOk result (Shows state beside.inclusion)
-        → Tells (step c (Sent mail) st) (lives (live_of beside n.fence) state result) out now → Viewed n result (λ ended. Tells (node_step c (Reshare mail) st) ended out now)
+        → Tells (step c (Mailed mail) st) (lives (live_of beside n.fence) state result) out now → Viewed n result (λ ended. Tells (node_step c (Reshare mail) st) ended out now)
     said_in (Living life its) is (Ok done) P ends seen said = (
       live_of beside n.fence life,
       view_of n beside life its has is seen,
-      node_says (step c (Sent mail) st) next_of said
+      node_says (step c (Mailed mail) st) next_of said
           (subst (λ (a : Course directory.Unit NodeStop (Live directory.Unit)). Tells a (went (live_of beside n.fence life)) now now)
           (sym (goes_on c (live_of beside n.fence life) reshare_is has.unawaited)) (says_nothing now)),
     )
     said_in New is (Ok done) P ends seen said = absurd ends
     said_in HadFailed is (Ok done) P ends seen said = absurd ends
-    said_in (Living life its) is (Err stop) P ends seen said = node_says_early (step c (Sent mail) st) next_of stop said
-    said_in New is (Err stop) P ends seen said = node_says_early (step c (Sent mail) st) next_of stop said
-    said_in HadFailed is (Err stop) P ends seen said = node_says_early (step c (Sent mail) st) next_of stop said
+    said_in (Living life its) is (Err stop) P ends seen said = node_says_early (step c (Mailed mail) st) next_of stop said
+    said_in New is (Err stop) P ends seen said = node_says_early (step c (Mailed mail) st) next_of stop said
+    said_in HadFailed is (Err stop) P ends seen said = node_says_early (step c (Mailed mail) st) next_of stop said
 
     pub heard_said : (result : Result (Unit {0}) Stop) (P : reshare.Life directory.Unit → Type 0) → EndsAt n.actor.state result P → OnOk result (Shows n.actor.state beside.inclusion)
-        → Tells (step c (Sent mail) st) (lives (live_of beside n.fence) n.actor.state result) out now → Viewed n result (λ ended. Tells (node_step c (Reshare mail) st) ended out now)
+        → Tells (step c (Mailed mail) st) (lives (live_of beside n.fence) n.actor.state result) out now → Viewed n result (λ ended. Tells (node_step c (Reshare mail) st) ended out now)
     heard_said result P ends seen said = said_in n.actor.state refl result P ends seen said
 
 -- what is sent is mail
-mail_of : (its : declared.Message directory.Unit (Unit {0})) → IsMail its → (mail : Mail directory.Unit) × (message_of its ≡ Sent mail)
+mail_of : (its : declared.Message directory.Unit (Unit {0})) → IsMail its → (mail : Mail directory.Unit) × (message_of its ≡ Mailed mail)
 mail_of (message.Peer from bytes) is = (Peer from bytes, refl)
 mail_of (message.Finalized b) is = absurd is
 mail_of (message.NextLog request height) is = (NextLog request height, refl)
@@ -598,7 +598,7 @@ module _ (before n : Node) (g : Lived) (number : ℕ) (st : Live directory.Unit)
     has_still now has = subst (λ (h : Half). HasBeside h now) (sym half) has
 
     module _ (its : declared.Message directory.Unit (Unit {0})) (mail : IsMail its) (P : reshare.Life directory.Unit → Type 0) (ends : EndsAt n.actor.state result P) where
-      sent : (mail : Mail directory.Unit) × (message_of its ≡ Sent mail)
+      sent : (mail : Mail directory.Unit) × (message_of its ≡ Mailed mail)
       sent = mail_of its mail
 
       module _ (files files_now : Files) (image next : Files → Type 0) (old new : Moment) where

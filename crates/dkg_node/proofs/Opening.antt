@@ -30,7 +30,7 @@ use Rattle.dkg_core.specs.Node.{kept_material, node_opening, unless_once}
 use Rattle.dkg_core.specs.Said.{Said}
 use Rattle.dkg_core.specs.Seen.{Seen}
 use Rattle.dkg_core.specs.Setup.{Uncommitted, scheme_for}
-use Rattle.dkg_core.specs.Sources.{Source, startup}
+use Rattle.dkg_core.specs.Sources.{SourceAnswers, startup}
 use Rattle.dkg_core.specs.Splitting.{fault_named}
 use Rattle.dkg_core.specs.Forms.{IsOpened, IsSeated, IsSetUpIn, registered_with, seed_read, share_read, started}
 use Rattle.dkg_core.specs.Endings.{OnInfo, first_block, first_epoch}
@@ -235,7 +235,7 @@ pub reading_as : (g : Lived) (s : Seen) → reading s (at_step g 0) ≡ at_step 
 unfolding at_step
 reading_as g s = refl
 
-module _ (g : Lived) (terms : Terms) (source : Source directory.Unit) (taken : ℕ) (of : IsOf terms (at_step g taken)) (lent : source_at g taken ≡ source) where
+module _ (g : Lived) (terms : Terms) (source : SourceAnswers directory.Unit) (taken : ℕ) (of : IsOf terms (at_step g taken)) (lent : source_at g taken ≡ source) where
   source_at_is : (at_step g taken).source ≡ source
   unfolding at_step
   source_at_is = lent

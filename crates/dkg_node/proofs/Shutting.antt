@@ -1,7 +1,7 @@
 -- What an opening leaves of a journal that it doesn't open.
 use Rattle.std.proofs.Common.{◌≡◌, ◌⊎◌, inl, inr, ℕ, ◌++◌, Bool, true, false, List, [], ◌∷◌, Option, Some, None, Err, refl, sym, ◌∙◌, ap, subst}
 use Rattle.dkg_journal.specs.Names.{Files}
-use Rattle.dkg_journal.specs.Opening.{broken}
+use Rattle.dkg_journal.specs.Opening.{first_break}
 use Rattle.dkg_journal.specs.Records.{SectionEntry, entries}
 use Rattle.dkg_journal.specs.Steps.{Keeps}
 use Rattle.dkg_values.specs.declared.name.Name.{Name}
@@ -58,12 +58,12 @@ events_or limit (e ∷ es) = by_first (is_event_body limit e.1) refl (events_or 
     by_first false is rest = inr (λ are. apart is are.0)
 
 pub grammar_or : (limit : ℕ) (files : Files) → IsInGrammar limit files ⊎ (IsInGrammar limit files → ⊥)
-grammar_or limit files = by_broken (broken files) refl (events_or limit (entries files))
+grammar_or limit files = by_broken (first_break files) refl (events_or limit (entries files))
   where
     some_none : {A : Type 0} {x : A} → ◌≡◌ {A = Option A} (Some x) None → ⊥
     some_none e = cc
 
-    by_broken : (o : Option (Name × ℕ)) → broken files ≡ o → AreEvents limit (entries files) ⊎ (AreEvents limit (entries files) → ⊥) → IsInGrammar limit files ⊎ (IsInGrammar limit files → ⊥)
+    by_broken : (o : Option (Name × ℕ)) → first_break files ≡ o → AreEvents limit (entries files) ⊎ (AreEvents limit (entries files) → ⊥) → IsInGrammar limit files ⊎ (IsInGrammar limit files → ⊥)
     by_broken None is (inl are) = inl (record { whole = is; events = are })
     by_broken None is (inr not) = inr (λ its. not its.events)
     by_broken (Some at) is events = inr (λ its. some_none (sym is ∙ its.whole))

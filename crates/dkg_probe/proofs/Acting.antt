@@ -4,7 +4,7 @@ use Rattle.std.proofs.lemmas.List.{append-nil}
 use Rattle.dkg_infos.specs.declared.entry.Entry.{Entry}
 use Rattle.dkg_infos.specs.declared.participants.TrackedPeers.{TrackedPeers}
 use Rattle.dkg_types.specs.Tracking.{with_set}
-use Rattle.dkg_probe.specs.Acts.{ProbeActs, Say, Track, Goes, Stops, probe_bind, says_all, ProbeCompletes, ProbeFaults, ProbeSpeaks, ProbeBreaks, IsFront, Tracks, tracked_after}
+use Rattle.dkg_probe.specs.Acts.{ProbeActs, Say, Track, Goes, Stops, probe_bind, says_all, ProbeCompletes, ProbeFaults, ProbeSpeaks, ProbeBreaks, IsFront, ManagerTracks, tracked_after}
 
 module _ {F S : Type 0} where
   -- nothing was run yet
@@ -60,6 +60,6 @@ module _ {F S : Type 0} where
     then_tracked (Goes its) sets n = refl
     then_tracked (Stops its) sets n = refl
 
-    pub then_tracks : {E : Type 0} (acts : ProbeActs F S) (result : Result (Unit {0}) E) (sets now : ℕ → Option TrackedPeers) → Tracks acts result sets now → Tracks (probe_bind acts (λ s. Goes (g s))) result sets now
+    pub then_tracks : {E : Type 0} (acts : ProbeActs F S) (result : Result (Unit {0}) E) (sets now : ℕ → Option TrackedPeers) → ManagerTracks acts result sets now → ManagerTracks (probe_bind acts (λ s. Goes (g s))) result sets now
     then_tracks acts (Ok u) sets now tracks = λ n. tracks n ∙ sym (then_tracked acts sets n)
     then_tracks acts (Err e) sets now tracks = elim tracks [ inl same ↦ inl same | inr all ↦ inr (λ n. all n ∙ sym (then_tracked acts sets n)) ]

@@ -9,7 +9,7 @@ use Rattle.dkg_infos.specs.declared.participants.TrackedPeers.{TrackedPeers}
 use Rattle.dkg_types.specs.Tracking.{AnswersTracking, with_set}
 use Rattle.dkg_probe.specs.declared.event.ProbeStop.{ProbeStop}
 use Rattle.dkg_probe.specs.declared.state.State.{State}
-use Rattle.dkg_probe.specs.Acts.{ProbeActs, Goes, says_all, IsFront, ProbeRuns, Tracks, tracked_after}
+use Rattle.dkg_probe.specs.Acts.{ProbeActs, Goes, says_all, IsFront, ProbeRuns, ManagerTracks, tracked_after}
 use Rattle.dkg_probe.specs.Probing.{ProbeFixed, latest_request, with_sample, one_more, is_done, is_first, tracked_of, activates, subscribes, ended_in, probe_ended_by}
 use Rattle.dkg_probe.specs.Sampling.{sample_forgotten}
 use Rattle.dkg_probe.specs.Stopping.{stop_for}
@@ -47,13 +47,13 @@ begin_tracks c lack st sets now none said n =
     rw none (said n ∙ sym e)
 
 -- however the step then ends
-pub tracks_all : {F S E : Type 0} (acts : ProbeActs F S) (result : Result (Unit {0}) E) (sets now : ℕ → Option TrackedPeers) → ((n : ℕ) → now n ≡ tracked_after acts sets n) → Tracks acts result sets now
+pub tracks_all : {F S E : Type 0} (acts : ProbeActs F S) (result : Result (Unit {0}) E) (sets now : ℕ → Option TrackedPeers) → ((n : ℕ) → now n ≡ tracked_after acts sets n) → ManagerTracks acts result sets now
 tracks_all acts (Ok u) sets now all = all
 tracks_all acts (Err e) sets now all = inr all
 
 -- and so has a first subscriber
 pub subscribe_tracks : {Dir : Type 0} (c : ProbeFixed Dir) (lack : Option ℕ) (st : State Dir) (more : ℕ) (sets now : ℕ → Option TrackedPeers) (result : Result (Unit {0}) ProbeStop) → is_done st ≡ false → is_first st ≡ true → more ≡ st.subscribers + 1
-    → Tracks (activates c lack (record st { subscribers = more })) result sets now → Tracks (subscribes c lack st) result sets now
+    → ManagerTracks (activates c lack (record st { subscribers = more })) result sets now → ManagerTracks (subscribes c lack st) result sets now
 subscribe_tracks {Dir} c lack st more sets now result done first is tracks =
-    let one : Tracks (activates c lack (one_more st)) result sets now = subst (λ (k : ℕ). Tracks (activates c lack (record st { subscribers = k })) result sets now) is tracks in
+    let one : ManagerTracks (activates c lack (one_more st)) result sets now = subst (λ (k : ℕ). ManagerTracks (activates c lack (record st { subscribers = k })) result sets now) is tracks in
     rw (done, first) one

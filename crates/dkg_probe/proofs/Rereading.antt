@@ -15,7 +15,7 @@ use Rattle.dkg_probe.specs.declared.wire.Message.TheVariants.{BoundaryRequest, B
 use Rattle.dkg_probe.specs.declared.wire.Message.{Message}
 use Rattle.dkg_probe.specs.declared.wire.Request.{Request}
 use Rattle.dkg_probe.specs.declared.wire.Request.TheVariants as request
-use Rattle.dkg_probe.specs.Wire.{tag_after, epoch_number_at, found_as, request_of, reply_of, ProbeReply, IsBoundary, IsBlock, IsLatest, block_reply, probe_message_spelling, ProbeMessageFits, request_asked_by, answered_by}
+use Rattle.dkg_probe.specs.Wire.{tag_after, epoch_number_at, found_as, request_of, reply_of, ProbeReply, BoundaryReply, BlockReply, LatestReply, block_reply, probe_message_spelling, ProbeMessageFits, request_asked_by, answered_by}
 use Rattle.dkg_probe.specs.WireLaws.{SpellsRequest, SpellsReply, AreRequests, AreReplies, AreReadAgain}
 
 number_whole : (n : ℕ) → n < 2 ^ 64 → whole (epoch_number_at (uint n)) ≡ Ok n
@@ -38,11 +38,11 @@ requests_again block_fits spelling (LatestResponse f) fit = refl
 responses_again : {Dir Cfg : Type 0} (block_fits : Block Dir → Type 0) (spelling : Dir → List ℕ) (m : Message Dir Cfg) → ProbeMessageFits block_fits m → reply_of (probe_message_spelling spelling m) ≡ Ok (answered_by spelling m)
 unfolding byte_at tag_after
 responses_again block_fits spelling (BoundaryRequest epoch) fit = refl
-responses_again block_fits spelling (BoundaryResponse f) fit = ap (found_as IsBoundary) (finalization_whole f fit)
+responses_again block_fits spelling (BoundaryResponse f) fit = ap (found_as BoundaryReply) (finalization_whole f fit)
 responses_again block_fits spelling (BlockRequest epoch) fit = refl
 responses_again block_fits spelling (BlockResponse epoch block) fit = ap (found_as block_reply) (u64_grammar.again epoch (block_spelling spelling block) fit.0)
 responses_again block_fits spelling LatestRequest fit = refl
-responses_again block_fits spelling (LatestResponse f) fit = ap (found_as IsLatest) (finalization_whole f fit)
+responses_again block_fits spelling (LatestResponse f) fit = ap (found_as LatestReply) (finalization_whole f fit)
 
 pub messages_again : {Dir : Type 0} (Cfg : Type 0) (spelling : Dir → List ℕ) → AreReadAgain Cfg spelling
 messages_again {Dir} Cfg spelling m fit = (requests_again (λ (b : Block Dir). Unit {0}) spelling m fit, responses_again (λ (b : Block Dir). Unit {0}) spelling m fit)
@@ -124,41 +124,41 @@ unfolding byte_at tag_after
 replies_found [] answered are e = absurd cc
 replies_found (zero ∷ rest) answered are e = answers (0 ∷ rest) None answered (is_none answered e) (inl (rest, refl))
 replies_found (suc zero ∷ rest) answered are e =
-    let f = found IsBoundary (whole (finalization_at rest)) answered e in
+    let f = found BoundaryReply (whole (finalization_at rest)) answered e in
     let n = finalization_found rest f.0 (later 1 rest are) f.1 in
-    answers (1 ∷ rest) (Some (IsBoundary f.0)) answered f.2 (n.0, ap (λ (bs : List ℕ). 1 ∷ bs) n.1)
+    answers (1 ∷ rest) (Some (BoundaryReply f.0)) answered f.2 (n.0, ap (λ (bs : List ℕ). 1 ∷ bs) n.1)
 replies_found (suc (suc zero) ∷ rest) answered are e = answers (2 ∷ rest) None answered (is_none answered e) (inr (inl (rest, refl)))
 replies_found (suc (suc (suc zero)) ∷ rest) answered are e =
     let f = found block_reply (epoch_number_at rest) answered e in
     let n = u64_grammar.found rest f.0.0 f.0.1 (later 3 rest are) f.1 in
-    answers (3 ∷ rest) (Some (IsBlock f.0.0 f.0.1)) answered f.2 (n.0, ap (λ (bs : List ℕ). 3 ∷ bs) n.1)
+    answers (3 ∷ rest) (Some (BlockReply f.0.0 f.0.1)) answered f.2 (n.0, ap (λ (bs : List ℕ). 3 ∷ bs) n.1)
 replies_found (suc (suc (suc (suc zero))) ∷ rest) answered are e = answers (4 ∷ rest) None answered (is_none answered e) (inr (inr (rest, refl)))
 replies_found (suc (suc (suc (suc (suc zero)))) ∷ rest) answered are e =
-    let f = found IsLatest (whole (finalization_at rest)) answered e in
+    let f = found LatestReply (whole (finalization_at rest)) answered e in
     let n = finalization_found rest f.0 (later 5 rest are) f.1 in
-    answers (5 ∷ rest) (Some (IsLatest f.0)) answered f.2 (n.0, ap (λ (bs : List ℕ). 5 ∷ bs) n.1)
+    answers (5 ∷ rest) (Some (LatestReply f.0)) answered f.2 (n.0, ap (λ (bs : List ℕ). 5 ∷ bs) n.1)
 replies_found (suc (suc (suc (suc (suc (suc n))))) ∷ rest) answered are e = absurd cc
 
 reply_starts : (rest : List ℕ) → (reply_of (0 ∷ rest) ≡ Ok None) × (reply_of (2 ∷ rest) ≡ Ok None) × (reply_of (4 ∷ rest) ≡ Ok None)
 unfolding byte_at tag_after
 reply_starts rest = (refl, refl, refl)
 
-gives_boundary : (f : Finalization) → FinalizationFits f → reply_of (1 ∷ finalization_spelling f) ≡ Ok (Some (IsBoundary f))
+gives_boundary : (f : Finalization) → FinalizationFits f → reply_of (1 ∷ finalization_spelling f) ≡ Ok (Some (BoundaryReply f))
 unfolding byte_at tag_after
-gives_boundary f fit = ap (found_as IsBoundary) (finalization_whole f fit)
+gives_boundary f fit = ap (found_as BoundaryReply) (finalization_whole f fit)
 
-gives_latest : (f : Finalization) → FinalizationFits f → reply_of (5 ∷ finalization_spelling f) ≡ Ok (Some (IsLatest f))
+gives_latest : (f : Finalization) → FinalizationFits f → reply_of (5 ∷ finalization_spelling f) ≡ Ok (Some (LatestReply f))
 unfolding byte_at tag_after
-gives_latest f fit = ap (found_as IsLatest) (finalization_whole f fit)
+gives_latest f fit = ap (found_as LatestReply) (finalization_whole f fit)
 
-gives_block : (epoch : ℕ) (body : List ℕ) → epoch < 2 ^ 64 → reply_of (3 ∷ (uint epoch ++ body)) ≡ Ok (Some (IsBlock epoch body))
+gives_block : (epoch : ℕ) (body : List ℕ) → epoch < 2 ^ 64 → reply_of (3 ∷ (uint epoch ++ body)) ≡ Ok (Some (BlockReply epoch body))
 unfolding byte_at tag_after
 gives_block epoch body small = ap (found_as block_reply) (u64_grammar.again epoch body small)
 
 replies_spelled : (bytes : List ℕ) (answered : Option ProbeReply) → SpellsReply bytes answered → reply_of bytes ≡ Ok answered
-replies_spelled bytes (Some (IsBoundary f)) is = at reply_of bytes (1 ∷ finalization_spelling f) (Some (IsBoundary f)) is.1 (gives_boundary f is.0)
-replies_spelled bytes (Some (IsBlock epoch body)) is = at reply_of bytes (3 ∷ (uint epoch ++ body)) (Some (IsBlock epoch body)) is.1 (gives_block epoch body is.0)
-replies_spelled bytes (Some (IsLatest f)) is = at reply_of bytes (5 ∷ finalization_spelling f) (Some (IsLatest f)) is.1 (gives_latest f is.0)
+replies_spelled bytes (Some (BoundaryReply f)) is = at reply_of bytes (1 ∷ finalization_spelling f) (Some (BoundaryReply f)) is.1 (gives_boundary f is.0)
+replies_spelled bytes (Some (BlockReply epoch body)) is = at reply_of bytes (3 ∷ (uint epoch ++ body)) (Some (BlockReply epoch body)) is.1 (gives_block epoch body is.0)
+replies_spelled bytes (Some (LatestReply f)) is = at reply_of bytes (5 ∷ finalization_spelling f) (Some (LatestReply f)) is.1 (gives_latest f is.0)
 replies_spelled bytes None (inl is) = at reply_of bytes (0 ∷ is.0) None is.1 (reply_starts is.0).0
 replies_spelled bytes None (inr (inl is)) = at reply_of bytes (2 ∷ is.0) None is.1 (reply_starts is.0).1
 replies_spelled bytes None (inr (inr is)) = at reply_of bytes (4 ∷ is.0) None is.1 (reply_starts is.0).2

@@ -24,7 +24,7 @@ use Rattle.dkg_probe.specs.Probing as probing
 use Rattle.dkg_probe.specs.Probing.{ProbeFixed, Probes, latest_request, with_sample, with_awaited, asks_dealers, asks_peer_for, asks_next, one_more, is_done, is_first, activates, subscribes, retries_in, retries, with_known, artifact_line, of_genesis, resolves, begins_at, awaits_block, from_floor, dealers_in, samples, chooses, is_dealer, hears_latest, adds_candidate, hears_boundary, info_for, info_at_height, found_in, from_body, hears_body, hears_block, hears_in, discovers, response_to, answers_peer, serves, hears, takes}
 use Rattle.dkg_probe.specs.Sampling.{awaits, sample_recorded, selected, floor_of, sample_forgotten}
 use Rattle.dkg_probe.specs.Sources.{ProbeSource}
-use Rattle.dkg_probe.specs.Wire.{ProbeReply, IsBoundary, IsBlock, IsLatest, with_commitment, request_of, reply_of}
+use Rattle.dkg_probe.specs.Wire.{ProbeReply, BoundaryReply, BlockReply, LatestReply, with_commitment, request_of, reply_of}
 
 -- what was said is of P where all that may be said is
 pub none_more : (P : Entry → Type 0) (out new : List Entry) → new ≡ out → SaidSince P out new
@@ -181,11 +181,11 @@ module _ {Dir : Type 0} (c : ProbeFixed Dir) (P : Entry → Probes Dir → Type 
       (λ e. if_fine (not (c.certifies f)) (probing.blocks_peer peer why.Invalid st) x4 (λ e. (blocked peer why.Invalid _, tt)) (λ e. samples_fine peer f st))))
 
   hears_in_fine : (awaited : Option Awaiting) (peer : ℕ) (reply : ProbeReply) (st : State Dir) → Fine (hears_in c awaited peer reply st)
-  hears_in_fine awaited peer (IsLatest f) st = latest_fine peer f st
-  hears_in_fine None peer (IsBoundary f) st = tt
-  hears_in_fine None peer (IsBlock epoch body) st = tt
-  hears_in_fine (Some a) peer (IsBoundary f) st = boundary_fine a peer f st
-  hears_in_fine (Some a) peer (IsBlock epoch body) st = block_fine a a.asked peer epoch body st
+  hears_in_fine awaited peer (LatestReply f) st = latest_fine peer f st
+  hears_in_fine None peer (BoundaryReply f) st = tt
+  hears_in_fine None peer (BlockReply epoch body) st = tt
+  hears_in_fine (Some a) peer (BoundaryReply f) st = boundary_fine a peer f st
+  hears_in_fine (Some a) peer (BlockReply epoch body) st = block_fine a a.asked peer epoch body st
 
   discovers_fine : (peer : ℕ) (reply : Result (Option ProbeReply) CodecError) (st : State Dir) → Fine (discovers c peer reply st)
   discovers_fine peer (Err e) st = (blocked peer why.Reply _, tt)

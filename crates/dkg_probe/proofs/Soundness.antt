@@ -32,7 +32,7 @@ use Rattle.dkg_probe.specs.Probing.{ProbeFixed, Probes, latest_request, request_
 use Rattle.dkg_probe.specs.Sampling.{Sampled, Replies, reply_at, awaits, sample_recorded, better, is_higher, highest, is_enough, selected, floor_of, sample_forgotten}
 use Rattle.dkg_probe.specs.Sound.{CountsAsReply, IsFloor, OffersBlock, Waits, FromBlock, FromGenesis, IsFound, IsSoundState, KeepsArtifact}
 use Rattle.dkg_probe.specs.Sources.{ProbeSource}
-use Rattle.dkg_probe.specs.Wire.{ProbeReply, IsBoundary, IsBlock, IsLatest, with_commitment, request_of, reply_of}
+use Rattle.dkg_probe.specs.Wire.{ProbeReply, BoundaryReply, BlockReply, LatestReply, with_commitment, request_of, reply_of}
 
 -- ---- small things
 
@@ -429,11 +429,11 @@ module _ {Dir : Type 0} (c : ProbeFixed Dir) where
   -- ---- a step
 
   hears_in_sound : (awaited : Option Awaiting) (peer : ℕ) (reply : ProbeReply) (st : State Dir) → IsSoundState c st → st.awaited ≡ awaited → Ends (IsSoundState c) (hears_in c awaited peer reply st)
-  hears_in_sound awaited peer (IsLatest f) st sound is = latest_sound peer f st sound
-  hears_in_sound None peer (IsBoundary f) st sound is = sound
-  hears_in_sound None peer (IsBlock epoch body) st sound is = sound
-  hears_in_sound (Some a) peer (IsBoundary f) st sound is = boundary_sound a peer f st sound is
-  hears_in_sound (Some a) peer (IsBlock epoch body) st sound is = block_sound a a.asked peer epoch body st sound is (waits_at st a sound is).candidates
+  hears_in_sound awaited peer (LatestReply f) st sound is = latest_sound peer f st sound
+  hears_in_sound None peer (BoundaryReply f) st sound is = sound
+  hears_in_sound None peer (BlockReply epoch body) st sound is = sound
+  hears_in_sound (Some a) peer (BoundaryReply f) st sound is = boundary_sound a peer f st sound is
+  hears_in_sound (Some a) peer (BlockReply epoch body) st sound is = block_sound a a.asked peer epoch body st sound is (waits_at st a sound is).candidates
 
   discovers_sound : (peer : ℕ) (reply : Result (Option ProbeReply) CodecError) (st : State Dir) → IsSoundState c st → Ends (IsSoundState c) (discovers c peer reply st)
   discovers_sound peer (Err e) st sound = sound
@@ -469,13 +469,13 @@ module _ {Dir : Type 0} (c : ProbeFixed Dir) where
         or_true false = refl
 
     hears_kept : (peer : ℕ) (reply : ProbeReply) → Ends (KeepsArtifact st) (hears_in c None peer reply st)
-    hears_kept peer (IsLatest f) = let no : awaits st.sample peer ≡ false = not_awaited st.sample.chosen chosen in rw no here
+    hears_kept peer (LatestReply f) = let no : awaits st.sample peer ≡ false = not_awaited st.sample.chosen chosen in rw no here
       where
         not_awaited : (o : Option Finalization) → is_some o ≡ true → (is_none o && is_none (reply_at peer st.sample.replies)) ≡ false
         not_awaited None e = absurd cc
         not_awaited (Some f) e = refl
-    hears_kept peer (IsBoundary f) = here
-    hears_kept peer (IsBlock epoch body) = here
+    hears_kept peer (BoundaryReply f) = here
+    hears_kept peer (BlockReply epoch body) = here
 
     discovers_kept : (peer : ℕ) (reply : Result (Option ProbeReply) CodecError) → Ends (KeepsArtifact st) (discovers c peer reply st)
     discovers_kept peer (Err e) = here

@@ -5,7 +5,7 @@ use Rattle.dkg_infos.specs.declared.participants.TrackedPeers.{TrackedPeers}
 use Rattle.dkg_probe.specs.declared.event.ProbeStop.{ProbeStop}
 use Rattle.dkg_probe.specs.declared.event.ProbeStop.TheVariants.{PeerSet, NoMemory, Failed}
 use Rattle.dkg_probe.specs.declared.state.State.{State}
-use Rattle.dkg_probe.specs.Acts.{Goes, probe_bind, ProbeCompletes, ProbeRuns, went, Tracks}
+use Rattle.dkg_probe.specs.Acts.{Goes, probe_bind, ProbeCompletes, ProbeRuns, went, ManagerTracks}
 use Rattle.dkg_probe.specs.Probing.{Probes, then_serves, probe_ended_by}
 use Rattle.dkg_probe.proofs.Acting.{then_completes, then_faults, then_breaks, then_tracks}
 
@@ -17,5 +17,5 @@ stops_run acts mid new (PeerSet peer) out after ran = then_faults then_serves ac
 stops_run acts mid new NoMemory out after ran = then_breaks then_serves acts out after ran
 stops_run acts mid new Failed out after ran = then_breaks then_serves acts out after ran
 
-pub step_tracks : {Dir : Type 0} (acts : Probes Dir) (result : Result (Unit {0}) ProbeStop) (sets now : ℕ → Option TrackedPeers) → Tracks acts result sets now → Tracks (probe_bind acts (λ st. Goes (then_serves st))) result sets now
+pub step_tracks : {Dir : Type 0} (acts : Probes Dir) (result : Result (Unit {0}) ProbeStop) (sets now : ℕ → Option TrackedPeers) → ManagerTracks acts result sets now → ManagerTracks (probe_bind acts (λ st. Goes (then_serves st))) result sets now
 step_tracks acts result sets now tracks = then_tracks then_serves acts result sets now tracks

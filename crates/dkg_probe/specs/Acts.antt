@@ -76,9 +76,9 @@ tracked_after (Goes end) sets = sets
 tracked_after (Stops fault) sets = sets
 
 -- What a manager tracks behind acts that ended so: what they say, and where they ended early that or what it did before.
-abbrev pub Tracks : {F S E : Type 0} → ProbeActs F S → Result (Unit {0}) E → (old new : ℕ → Option TrackedPeers) → Type 0
-Tracks acts (Ok u) old new = (n : ℕ) → new n ≡ tracked_after acts old n
-Tracks acts (Err e) old new = ((n : ℕ) → new n ≡ old n) ⊎ ((n : ℕ) → new n ≡ tracked_after acts old n)
+abbrev pub ManagerTracks : {F S E : Type 0} → ProbeActs F S → Result (Unit {0}) E → (old new : ℕ → Option TrackedPeers) → Type 0
+ManagerTracks acts (Ok u) old new = (n : ℕ) → new n ≡ tracked_after acts old n
+ManagerTracks acts (Err e) old new = ((n : ℕ) → new n ≡ old n) ⊎ ((n : ℕ) → new n ≡ tracked_after acts old n)
 
 -- P of each line that is said and of the acts behind it, and Q where peers are tracked
 abbrev pub Each : {F S : Type 0} → (Entry → ProbeActs F S → Type 0) → (Q : Type 0) → ProbeActs F S → Type 0

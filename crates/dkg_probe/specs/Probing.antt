@@ -32,7 +32,7 @@ use Rattle.dkg_probe.specs.Acts.{ProbeActs, Say, Track, Goes, Stops, probe_bind,
 use Rattle.dkg_probe.specs.Candidates.{Awaiting, Candidate, is_candidate, new_awaiting, with_candidate, first_candidate, next_asked}
 use Rattle.dkg_probe.specs.Sampling.{Sampled, new_sample, awaits, sample_recorded, selected, floor_of, sample_forgotten}
 use Rattle.dkg_probe.specs.Sources.{ProbeSource}
-use Rattle.dkg_probe.specs.Wire.{ProbeReply, IsBoundary, IsBlock, IsLatest, with_commitment, request_of, reply_of}
+use Rattle.dkg_probe.specs.Wire.{ProbeReply, BoundaryReply, BlockReply, LatestReply, with_commitment, request_of, reply_of}
 
 -- What a probe never changes: its checkpoint, genesis, the number of blocks an epoch has, which finalizations are certified, how a directory is
 -- spelled, and how a block is read.
@@ -207,11 +207,11 @@ hears_block c a None peer epoch body st = Goes st
 hears_block c a (Some asked) peer epoch body st = if (asked.0 == peer) && (epoch == a.floor.epoch) then hears_body c a asked body st else Goes st
 
 abbrev pub hears_in : {Dir : Type 0} → ProbeFixed Dir → Option Awaiting → (peer : ℕ) → ProbeReply → State Dir → Probes Dir
-hears_in c awaited peer (IsLatest f) st = hears_latest c peer f st
-hears_in c None peer (IsBoundary f) st = Goes st
-hears_in c None peer (IsBlock epoch body) st = Goes st
-hears_in c (Some a) peer (IsBoundary f) st = hears_boundary c a peer f st
-hears_in c (Some a) peer (IsBlock epoch body) st = hears_block c a a.asked peer epoch body st
+hears_in c awaited peer (LatestReply f) st = hears_latest c peer f st
+hears_in c None peer (BoundaryReply f) st = Goes st
+hears_in c None peer (BlockReply epoch body) st = Goes st
+hears_in c (Some a) peer (BoundaryReply f) st = hears_boundary c a peer f st
+hears_in c (Some a) peer (BlockReply epoch body) st = hears_block c a a.asked peer epoch body st
 
 abbrev pub discovers : {Dir : Type 0} → ProbeFixed Dir → (peer : ℕ) → Result (Option ProbeReply) CodecError → State Dir → Probes Dir
 discovers c peer (Err e) st = blocks_peer peer why.Reply st

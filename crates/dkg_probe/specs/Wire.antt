@@ -75,20 +75,20 @@ request_of bytes = tag_at bytes >>= λ t. request_after t.0 t.1
 
 -- what a response says, as lists
 pub data ProbeReply : Type 0 where
-  IsBoundary : Finalization → ProbeReply
-  IsBlock : (epoch : ℕ) → (body : List ℕ) → ProbeReply
-  IsLatest : Finalization → ProbeReply
+  BoundaryReply : Finalization → ProbeReply
+  BlockReply : (epoch : ℕ) → (body : List ℕ) → ProbeReply
+  LatestReply : Finalization → ProbeReply
 
 abbrev pub block_reply : ℕ × List ℕ → ProbeReply
-block_reply p = IsBlock p.0 p.1
+block_reply p = BlockReply p.0 p.1
 
 abbrev pub reply_after : Tag → List ℕ → Result (Option ProbeReply) CodecError
 reply_after tag.BoundaryRequest rest = Ok None
-reply_after tag.BoundaryResponse rest = found_as IsBoundary (whole (finalization_at rest))
+reply_after tag.BoundaryResponse rest = found_as BoundaryReply (whole (finalization_at rest))
 reply_after tag.BlockRequest rest = Ok None
 reply_after tag.BlockResponse rest = found_as block_reply (epoch_number_at rest)
 reply_after tag.LatestRequest rest = Ok None
-reply_after tag.LatestResponse rest = found_as IsLatest (whole (finalization_at rest))
+reply_after tag.LatestResponse rest = found_as LatestReply (whole (finalization_at rest))
 
 -- what some bytes answer; none where they are a request's
 abbrev pub reply_of : List ℕ → Result (Option ProbeReply) CodecError
@@ -100,9 +100,9 @@ with_commitment commitment (Ok b) = if bytes_eq b.digest commitment then Ok b el
 with_commitment commitment (Err e) = Err e
 
 abbrev pub said_by : Response → ProbeReply
-said_by (response.Boundary f) = IsBoundary f
-said_by (response.Block epoch body) = IsBlock epoch body.now
-said_by (response.Latest f) = IsLatest f
+said_by (response.Boundary f) = BoundaryReply f
+said_by (response.Block epoch body) = BlockReply epoch body.now
+said_by (response.Latest f) = LatestReply f
 
 -- what a call answered is what reading gives, unless memory ran out
 abbrev pub AnswersReply : Result (Option ProbeReply) CodecError → Result (Option Response) CodecError → Type 0
@@ -163,8 +163,8 @@ request_asked_by (LatestResponse f) = None
 
 abbrev pub answered_by : {Dir Cfg : Type 0} → (Dir → List ℕ) → Message Dir Cfg → Option ProbeReply
 answered_by spelling (BoundaryRequest epoch) = None
-answered_by spelling (BoundaryResponse f) = Some (IsBoundary f)
+answered_by spelling (BoundaryResponse f) = Some (BoundaryReply f)
 answered_by spelling (BlockRequest epoch) = None
-answered_by spelling (BlockResponse epoch block) = Some (IsBlock epoch (block_spelling spelling block))
+answered_by spelling (BlockResponse epoch block) = Some (BlockReply epoch (block_spelling spelling block))
 answered_by spelling LatestRequest = None
-answered_by spelling (LatestResponse f) = Some (IsLatest f)
+answered_by spelling (LatestResponse f) = Some (LatestReply f)

@@ -6,7 +6,7 @@ use Rattle.dkg_types.specs.FinalizationCodes.{finalization_spelling, Finalizatio
 use Rattle.dkg_probe.specs.declared.wire.Message.{Message}
 use Rattle.dkg_probe.specs.declared.wire.Request.{Request}
 use Rattle.dkg_probe.specs.declared.wire.Request.TheVariants as request
-use Rattle.dkg_probe.specs.Wire.{ProbeReply, IsBoundary, IsBlock, IsLatest, request_of, reply_of, probe_message_spelling, ProbeMessageFits, request_asked_by, answered_by}
+use Rattle.dkg_probe.specs.Wire.{ProbeReply, BoundaryReply, BlockReply, LatestReply, request_of, reply_of, probe_message_spelling, ProbeMessageFits, request_asked_by, answered_by}
 
 abbrev pub BeginsWith : ℕ → List ℕ → Type 0
 BeginsWith first bytes = (rest : List ℕ) × (bytes ≡ first ∷ rest)
@@ -20,9 +20,9 @@ SpellsRequest bytes None = BeginsWith 1 bytes ⊎ (BeginsWith 3 bytes ⊎ Begins
 
 -- The bytes that answer this. What answers nothing is a request's, by its first byte.
 abbrev pub SpellsReply : List ℕ → Option ProbeReply → Type 0
-SpellsReply bytes (Some (IsBoundary f)) = FinalizationFits f × (bytes ≡ 1 ∷ finalization_spelling f)
-SpellsReply bytes (Some (IsBlock epoch body)) = (epoch < 2 ^ 64) × (bytes ≡ 3 ∷ (uint epoch ++ body))
-SpellsReply bytes (Some (IsLatest f)) = FinalizationFits f × (bytes ≡ 5 ∷ finalization_spelling f)
+SpellsReply bytes (Some (BoundaryReply f)) = FinalizationFits f × (bytes ≡ 1 ∷ finalization_spelling f)
+SpellsReply bytes (Some (BlockReply epoch body)) = (epoch < 2 ^ 64) × (bytes ≡ 3 ∷ (uint epoch ++ body))
+SpellsReply bytes (Some (LatestReply f)) = FinalizationFits f × (bytes ≡ 5 ∷ finalization_spelling f)
 SpellsReply bytes None = BeginsWith 0 bytes ⊎ (BeginsWith 2 bytes ⊎ BeginsWith 4 bytes)
 
 -- some bytes are read as a request exactly where they spell it

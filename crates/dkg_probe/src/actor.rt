@@ -2,7 +2,7 @@
 ghost use Rattle.std.specs.Prelude.{◌≡◌, ◌+◌, ◌<◌, ◌^◌, true, false, max, length, IfSome, OnOk, OnErr, IsErrOf, IsTrue, is_err};
 ghost use Rattle.std.specs.Option.{option_copied, option_map_or};
 ghost use Rattle.std.specs.Int.NonZero.{non_zero_u64_get};
-ghost use Rattle.dkg_probe.specs.Acts.{ProbeRuns, Tracks};
+ghost use Rattle.dkg_probe.specs.Acts.{ProbeRuns, ManagerTracks};
 ghost use Rattle.dkg_probe.specs.Candidates.{are_apart, candidate_keys};
 ghost use Rattle.dkg_probe.specs.OneEpoch.{OfOneEpoch, SaidSince, TellsKnown};
 ghost use Rattle.dkg_probe.specs.Probing.{probe_ended_by, ended_in, fixed, hears, new_state, steps, takes, then_serves, tracked_of};
@@ -104,7 +104,7 @@ where
         ProbeRuns (takes c lack (B.source source.now) event state.old) (probe_ended_by state.new result) out.old.entries out.new.entries }
     ensures tracked { let c = fixed S.verifies Dir.spelling ⟦<Block<Dir> as Read>⟧.read_of terms.now.limits terms.now in
         let lack = M.lacks terms.now.bootstrap.directory (tracked_of terms.now.bootstrap.participants) in
-        IsTrue M.tells → Tracks (takes c lack (B.source source.now) event state.old) result (M.sets manager.old) (M.sets manager.new) }
+        IsTrue M.tells → ManagerTracks (takes c lack (B.source source.now) event state.old) result (M.sets manager.old) (M.sets manager.new) }
     ensures error_kinds { IsErrOf result ProbeStop.Failed → ⊥ }
     ensures kept { OnErr result (state.new.known ≡ state.old.known) }
 {
@@ -213,7 +213,7 @@ where
         ensures tracked { let c = fixed S.verifies Dir.spelling ⟦<Block<Dir> as Read>⟧.read_of self.old.terms.limits self.old.terms in
             let lack = M.lacks self.old.terms.bootstrap.directory (tracked_of self.old.terms.bootstrap.participants) in
             IsTrue M.tells → self.old.failed ≡ false
-            → Tracks (steps c lack (B.source source.now) event self.old.state) result (M.sets self.old.manager) (M.sets self.new.manager) }
+            → ManagerTracks (steps c lack (B.source source.now) event self.old.state) result (M.sets self.old.manager) (M.sets self.new.manager) }
         // An artifact that is told is the one that is known.
         ensures artifact { SaidSince (TellsKnown Dir.spelling self.new.state.known) out.old.entries out.new.entries }
         // What is found rests on what it should, and an artifact that is known stays.

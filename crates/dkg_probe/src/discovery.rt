@@ -4,10 +4,10 @@ ghost use Rattle.dkg_values.specs.Codec.{whole};
 ghost use Rattle.dkg_types.specs.FinalizationCodes.{finalization_spelling};
 ghost use Rattle.dkg_types.specs.PayloadCodes.{payload_spelling, info_payload};
 ghost use Rattle.dkg_types.specs.Tracking.{AnswersTracking, with_set};
-ghost use Rattle.dkg_probe.specs.Acts.{IsFront, ProbeRuns, Tracks};
+ghost use Rattle.dkg_probe.specs.Acts.{IsFront, ProbeRuns, ManagerTracks};
 ghost use Rattle.dkg_probe.specs.Candidates.{first_candidate, next_asked};
 ghost use Rattle.dkg_probe.specs.Probing.{activates, asks_dealers, begins_at, discovers, probe_ended_by, ended_in, fixed, from_floor, hears_body, hears_in, hears_latest, info_at_height, is_done, is_first, latest_request, refuses, request_line, resolves, retries, samples, subscribes, tracked_of};
-ghost use Rattle.dkg_probe.specs.Wire.{IsBlock, IsBoundary, with_commitment, reply_of, said_by};
+ghost use Rattle.dkg_probe.specs.Wire.{BlockReply, BoundaryReply, with_commitment, reply_of, said_by};
 
 use crate::artifact::Artifact;
 use crate::candidates::Awaited;
@@ -140,7 +140,7 @@ where
         ProbeRuns (activates c lack state.old) (probe_ended_by state.new result) out.old.entries out.new.entries }
     ensures tracked { let c = fixed S.verifies Dir.spelling ⟦<Block<Dir> as Read>⟧.read_of terms.now.limits terms.now in
         let lack = M.lacks terms.now.bootstrap.directory (tracked_of terms.now.bootstrap.participants) in
-        IsTrue M.tells → Tracks (activates c lack state.old) result (M.sets manager.old) (M.sets manager.new) }
+        IsTrue M.tells → ManagerTracks (activates c lack state.old) result (M.sets manager.old) (M.sets manager.new) }
     ensures error_kinds { IsErrOf result ProbeStop.Failed → ⊥ }
     ensures kept { state.new.known ≡ state.old.known }
 {
@@ -179,7 +179,7 @@ where
         ProbeRuns (subscribes c lack state.old) (probe_ended_by state.new result) out.old.entries out.new.entries }
     ensures tracked { let c = fixed S.verifies Dir.spelling ⟦<Block<Dir> as Read>⟧.read_of terms.now.limits terms.now in
         let lack = M.lacks terms.now.bootstrap.directory (tracked_of terms.now.bootstrap.participants) in
-        IsTrue M.tells → Tracks (subscribes c lack state.old) result (M.sets manager.old) (M.sets manager.new) }
+        IsTrue M.tells → ManagerTracks (subscribes c lack state.old) result (M.sets manager.old) (M.sets manager.new) }
     ensures error_kinds { IsErrOf result ProbeStop.Failed → ⊥ }
     ensures kept { OnErr result (state.new.known ≡ state.old.known) }
 {
@@ -368,7 +368,7 @@ fn hear_boundary<S: Scheme, Dir: Directory + Drop>(
 where
     Dir::Cfg: Drop,
     ensures acts { ProbeRuns (hears_in (fixed S.verifies Dir.spelling ⟦<Block<Dir> as Read>⟧.read_of terms.now.limits terms.now)
-        state.old.awaited peer (IsBoundary finalization) state.old)
+        state.old.awaited peer (BoundaryReply finalization) state.old)
         (ended_in state.new result) out.old.entries out.new.entries }
     ensures kept { state.new.known ≡ state.old.known }
 {
@@ -500,7 +500,7 @@ fn hear_block<S: Scheme, Dir: Directory + Drop>(
 where
     Dir::Cfg: Drop,
     ensures acts { ProbeRuns (hears_in (fixed S.verifies Dir.spelling ⟦<Block<Dir> as Read>⟧.read_of terms.now.limits terms.now)
-        state.old.awaited peer (IsBlock epoch body.now) state.old)
+        state.old.awaited peer (BlockReply epoch body.now) state.old)
         (ended_in state.new result) out.old.entries out.new.entries }
     ensures kept { OnErr result (state.new.known ≡ state.old.known) }
 {

@@ -34,7 +34,7 @@ use Rattle.dkg_core.specs.Forms.{Applied, judged_block, round_for}
 use Rattle.dkg_core.specs.Including.{Lacks}
 use Rattle.dkg_core.specs.Laws.{IsAmong}
 use Rattle.dkg_core.specs.Live as core
-use Rattle.dkg_core.specs.Live.{Cancel, Deals, Ends, EpochInfoOf, Feed, Finalized, Follows, Includes, Job, Live, Mail, Message, NextLog, NodeStop, Over, Peer, ReleaseLog, Request, Sent, Stage, Work, is_last_height, phase_of}
+use Rattle.dkg_core.specs.Live.{Cancel, Deals, Ends, EpochInfoOf, Feed, Finalized, Follows, Includes, Job, Live, Mail, Message, NextLog, NodeStop, Over, Peer, ReleaseLog, Request, Mailed, Stage, Work, is_last_height, phase_of}
 use Rattle.dkg_core.specs.Logs.{canonical, filled_by}
 use Rattle.dkg_core.specs.Node.{node_step}
 use Rattle.dkg_laws.specs.NodeSaying.{IsHalfLine}
@@ -265,8 +265,8 @@ module _ {Known : Knows} (g : Lived) (here : IsLifeInForm g) (i : ℕ) (its : Ev
 
   -- MAIL
 
-  module _ (mail : Mail U) (sent : m.message ≡ Sent mail) where
-    its_brings : Brings g its (Sent mail)
+  module _ (mail : Mail U) (sent : m.message ≡ Mailed mail) where
+    its_brings : Brings g its (Mailed mail)
     its_brings = subst (λ (x : Message U). Brings g its x) sent m.brings
 
     part : IsSamePart c st (asked_by mail st)
@@ -296,7 +296,7 @@ module _ {Known : Knows} (g : Lived) (here : IsLifeInForm g) (i : ℕ) (its : Ev
   waits_on : (number : ℕ) → ((s : RequestStanding) → IsUncancelled s → IsUncancelled (turns number s its)) → IsAwaited g Known e i st.inclusion.running st.participation.round number → IsUncancelled (request_standing g.life number (suc i))
   waits_on number keeps one = subst IsUncancelled (sym (stands_more number g.life i its is)) (keeps (request_standing g.life number i) one.uncancelled)
 
-  mail_answers : (mail : Mail U) → m.message ≡ Sent mail → (line : Entry) → IsMailLine c st mail line → IsSaidHere line
+  mail_answers : (mail : Mail U) → m.message ≡ Mailed mail → (line : Entry) → IsMailLine c st mail line → IsSaidHere line
   mail_answers (Peer from bytes) sent line said = unasked_so line said
   mail_answers (NextLog number height) sent line said = subst (λ (x : Entry). IsSaidHere x) (sym said.1) tt
   mail_answers (ReleaseLog height) sent line said = absurd said

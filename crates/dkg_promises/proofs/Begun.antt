@@ -25,7 +25,7 @@ use Rattle.dkg_lives.specs.Epochs.{IsChecked}
 use Rattle.dkg_lives.specs.Given.{AreBytes}
 use Rattle.dkg_promises.specs.GivesBack.{StaysValid}
 use Rattle.dkg_lives.specs.Lives.{RunsOver, never}
-use Rattle.dkg_promises.specs.Over.{Over}
+use Rattle.dkg_promises.specs.Over.{DevicesAround}
 use Rattle.dkg_promises.specs.Promised.{DoesRun}
 use Rattle.dkg_promises.specs.SharesStand.{CommitsExactly, CommitsFit}
 use Rattle.dkg_lives.proofs.Checked.{anchor_above, long_epochs, supported_mode}
@@ -66,7 +66,7 @@ given_setting script files secrets form checked bytes = record {
 stands : {files : Files} {image : Files → Type 0} → image files → Lands files image → Stands files image
 stands here lands = record { lands = lands; itself = here }
 
-module _ (script : Script) (form : IsFormOfInclusion script) (checked : IsChecked script) (bytes : AreBytes script.blocks) (o : Over) (disk_of : o.tells → o.disk_tells) (answered : Result (Unit {0}) Fault) (old new added : List Entry)
+module _ (script : Script) (form : IsFormOfInclusion script) (checked : IsChecked script) (bytes : AreBytes script.blocks) (o : DevicesAround) (disk_of : o.tells → o.disk_tells) (answered : Result (Unit {0}) Fault) (old new added : List Entry)
     (is : new ≡ old ++ added) (runs : DoesRun script o old answered new) (itself : o.disk_tells → o.before.image o.before.files) (left : o.disk_tells → o.now.image o.now.files) where
   -- the script as these entries say that it was cut
   abbrev pub cut_script : Script

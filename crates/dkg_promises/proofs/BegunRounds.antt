@@ -23,7 +23,7 @@ use Rattle.dkg_core.specs.Courses.{Course, EndsSo}
 use Rattle.dkg_core.specs.Fixed.{stand_in}
 use Rattle.dkg_core.specs.Forms.{IsNodeBegun, IsSeated, IsSetUpIn, LeavesHeld, held_behind, seed_read, share_read, started}
 use Rattle.dkg_core.specs.Laws.{reach_of}
-use Rattle.dkg_core.specs.Live.{Finalized, Live, Message, NodeStop, Participation, Sent, is_last_height}
+use Rattle.dkg_core.specs.Live.{Finalized, Live, Message, NodeStop, Participation, Mailed, is_last_height}
 use Rattle.dkg_core.specs.Node.{node_opening, node_step}
 use Rattle.dkg_core.specs.Seen.{Seen}
 use Rattle.dkg_core.specs.Setup.{Standing, Uncommitted}
@@ -174,7 +174,7 @@ module _ (g : Lived) (here : IsLifeInForm g) where
     where
       by_brought : BringsBlock g e message ⊎ BringsMail e message → (number : ℕ) × (slice_get (blocks_in g.script) number ≡ Some block)
       by_brought (inl b) = (b.0, (b.1).is ∙ ap (λ (x : Block directory.Unit). Some x) (the_block (sym b.3 ∙ is)))
-      by_brought (inr mail) = absurd (let wrong : ◌≡◌ {A = Message directory.Unit} (Sent mail.0) (Finalized block) = sym mail.1 ∙ is in cc)
+      by_brought (inr mail) = absurd (let wrong : ◌≡◌ {A = Message directory.Unit} (Mailed mail.0) (Finalized block) = sym mail.1 ∙ is in cc)
 
   module _ (i : ℕ) (its : Event) (is : slice_get g.life.events i ≡ Some its) (reached : IsReached g.life.cut (suc i)) (st : Live directory.Unit) (at : IsAtEvent g i st) where
     abbrev m : IsMessage g its

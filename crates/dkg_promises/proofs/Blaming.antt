@@ -36,7 +36,7 @@ use Rattle.dkg_core.specs.Courses.{Course, on_devices}
 use Rattle.dkg_core.specs.Fixed.{Fixed}
 use Rattle.dkg_core.specs.Forms.{IsNodeBegun, IsOpeningStop}
 use Rattle.dkg_core.specs.Laws.{IsQuiet}
-use Rattle.dkg_core.specs.Live.{Cancel, EpochInfoOf, Faulted, Feed, Finalized, Inclusion, Live, Message, NodeStop, NextLog, Over, ReleaseLog, Sent, Work}
+use Rattle.dkg_core.specs.Live.{Cancel, EpochInfoOf, Faulted, Feed, Finalized, Inclusion, Live, Message, NodeStop, NextLog, Over, ReleaseLog, Mailed, Work}
 use Rattle.dkg_core.specs.Behind.{event_of}
 use Rattle.dkg_core.specs.Node.{node_opening, node_step}
 use Rattle.dkg_core.specs.NodeEndings.{IsFaultBy}
@@ -211,22 +211,22 @@ module _ (g : Lived) (here : IsLifeInForm g) where
             either (inl its) = inr (inl (inl (at_block (λ b. IsBlockCause g.script g.number g.life i b own) its)))
             either (inr (inl its)) = inr (inr (inl (at_block (λ b. IsBlockOwn g.script g.number g.life i b own) its)))
             either (inr (inr reads)) = reads_why own reads
-        by_event (event.Next request height) is message brings stop = absurd (as_brought message (Sent (NextLog request height)) brings stop)
-        by_event (event.Release height) is message brings stop = absurd (as_brought message (Sent (ReleaseLog height)) brings stop)
+        by_event (event.Next request height) is message brings stop = absurd (as_brought message (Mailed (NextLog request height)) brings stop)
+        by_event (event.Release height) is message brings stop = absurd (as_brought message (Mailed (ReleaseLog height)) brings stop)
         by_event (event.Info request) is message brings stop =
-            let its = as_brought message (Sent (EpochInfoOf request)) brings stop in
+            let its = as_brought message (Mailed (EpochInfoOf request)) brings stop in
             reads_why own (info_cause g here i e e_is reached m st its_live (stood.at).stands stood.tip stood.carried (reading (event.Info request) is tt) (ap delivered_number is) request is its.0 own its.1)
         by_event (event.Feed request number) is message brings stop =
-            let its = as_brought message (Sent (Feed request (brings.0).block)) brings.1 stop in
+            let its = as_brought message (Mailed (Feed request (brings.0).block)) brings.1 stop in
             reads_why own (mail_cause g here i e e_is reached m st its_live (stood.at).stands stood.tip stood.carried (reading (event.Feed request number) is tt) (ap delivered_number is) stood.made its.0 own its.1)
         by_event (event.Over request) is message brings stop =
-            let its = as_brought message (Sent (Over request)) brings stop in
+            let its = as_brought message (Mailed (Over request)) brings stop in
             reads_why own (mail_cause g here i e e_is reached m st its_live (stood.at).stands stood.tip stood.carried (reading (event.Over request) is tt) (ap delivered_number is) stood.made its.0 own its.1)
         by_event (event.Cancel request) is message brings stop =
-            let its = as_brought message (Sent (Cancel request)) brings stop in
+            let its = as_brought message (Mailed (Cancel request)) brings stop in
             reads_why own (mail_cause g here i e e_is reached m st its_live (stood.at).stands stood.tip stood.carried (reading (event.Cancel request) is tt) (ap delivered_number is) stood.made its.0 own its.1)
         by_event event.Work is message brings stop =
-            let its = as_brought message (Sent (Work None)) brings stop in
+            let its = as_brought message (Mailed (Work None)) brings stop in
             reads_why own (mail_cause g here i e e_is reached m st its_live (stood.at).stands stood.tip stood.carried (reading event.Work is tt) (ap delivered_number is) stood.made its.0 own its.1)
         by_event other is message brings stop = absurd brings
 

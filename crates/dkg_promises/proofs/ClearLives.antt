@@ -41,7 +41,7 @@ use Rattle.dkg_core.specs.Endings.{CameTo, first_block}
 use Rattle.dkg_core.specs.Fixed.{Fixed}
 use Rattle.dkg_core.specs.Forms.{Applied, IsNodeBegun, IsOpeningStop, IsSetupFault, Judged, LeavesHeld, Passed, Refusal, committed_by, held_behind, judged_block, seed_read, share_read, with_share}
 use Rattle.dkg_core.specs.Heard.{recovered_in}
-use Rattle.dkg_core.specs.Live.{Cancel, Deals, Ends, EpochInfoOf, Faulted, Feed, Finalized, Follows, Includes, Live, Mail, Message, NextLog, NodeStop, Over, Peer, ReleaseLog, Sent, Stage, Work, is_last_height}
+use Rattle.dkg_core.specs.Live.{Cancel, Deals, Ends, EpochInfoOf, Faulted, Feed, Finalized, Follows, Includes, Live, Mail, Message, NextLog, NodeStop, Over, Peer, ReleaseLog, Mailed, Stage, Work, is_last_height}
 use Rattle.dkg_core.specs.Meant.{ReadsRecords}
 use Rattle.dkg_core.specs.Node.{node_opening}
 use Rattle.dkg_core.specs.NodeEndings.{IsFaultBy}
@@ -409,7 +409,7 @@ module _ (s : Setting) (ends : List (Option CutAt)) (valid : IsValidCase s ends)
       local_never : (cause : LocalCause) → Stops m.message cause → ⊥
       local_never cause stop = by_brought (brings_so g its m.message m.brings)
         where
-          of_mail : (mail : Mail directory.Unit) → Stops (Sent mail) cause → ⊥
+          of_mail : (mail : Mail directory.Unit) → Stops (Mailed mail) cause → ⊥
           of_mail (Peer from bytes) why = why
           of_mail (NextLog request height) why = why
           of_mail (ReleaseLog height) why = why

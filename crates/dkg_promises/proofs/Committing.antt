@@ -41,14 +41,14 @@ use Rattle.dkg_store.specs.Acts.{Ended, Held, went}
 use Rattle.dkg_core.specs.Behind.{event_of}
 use Rattle.dkg_core.specs.Blocks as b
 use Rattle.dkg_core.specs.Core.{begun_life, opening, opens_in, step}
-use Rattle.dkg_core.specs.Courses.{Ask, Call, Course, Do, Goes, Say, Stops, bind, on_devices, under}
+use Rattle.dkg_core.specs.Courses.{Ask, CallOutside, Course, Do, Goes, Say, Stops, bind, on_devices, under}
 use Rattle.dkg_core.specs.Endings.{first_block, first_epoch, validity}
 use Rattle.dkg_core.specs.Entering.{acked_at, takes_delivered}
 use Rattle.dkg_core.specs.Fixed.{Fixed, Material, OneShot, has, start}
 use Rattle.dkg_core.specs.Forms.{Applied, IsForm, Judged, Passed, Refusal, judged_block}
 use Rattle.dkg_core.specs.Including as i
 use Rattle.dkg_core.specs.Including.{Continuation, cached_for}
-use Rattle.dkg_core.specs.Live.{Artifact, Cancel, Deals, Ends, EpochInfoOf, Faulted, Feed, Finalized, Follows, Includes, Live, Mail, Message, NextLog, NodeStop, Over, Peer, ReleaseLog, Sent, Stage, Verified, VerifiedLogs, Work, awaited_height, is_last_height, with_participation, with_tip}
+use Rattle.dkg_core.specs.Live.{Artifact, Cancel, Deals, Ends, EpochInfoOf, Faulted, Feed, Finalized, Follows, Includes, Live, Mail, Message, NextLog, NodeStop, Over, Peer, ReleaseLog, Mailed, Stage, Verified, VerifiedLogs, Work, awaited_height, is_last_height, with_participation, with_tip}
 use Rattle.dkg_core.specs.Logs.{canonical}
 use Rattle.dkg_core.specs.Node.{kept_material, node_opening, node_step, unless_once}
 use Rattle.dkg_laws.specs.NodeSaying.{IsHalfLine}
@@ -81,7 +81,7 @@ U = directory.Unit
 abbrev pub TellsOne : {Dir F S : Type 0} → (Entry → Type 0) → Course Dir F S → Type 0
 TellsOne P (Say line course) = P line ⊎ TellsOne P course
 TellsOne P (Do op course) = TellsOne P course
-TellsOne P (Call outer course) = TellsOne P course
+TellsOne P (CallOutside outer course) = TellsOne P course
 TellsOne P (Ask f) = (h : Held) → TellsOne P (f h)
 TellsOne P (Goes end) = ⊥
 TellsOne P (Stops fault) = Unit {0}
@@ -99,7 +99,7 @@ one_first : {Dir F S T : Type 0} (P : Entry → Type 0) (course : Course Dir F S
 one_first P (Say line course) next (inl is) = inl is
 one_first P (Say line course) next (inr so) = inr (one_first P course next so)
 one_first P (Do op course) next so = one_first P course next so
-one_first P (Call outer course) next so = one_first P course next so
+one_first P (CallOutside outer course) next so = one_first P course next so
 one_first P (Ask f) next so = λ h. one_first P (f h) next (so h)
 one_first P (Goes end) next so = absurd so
 one_first P (Stops fault) next so = tt
@@ -108,7 +108,7 @@ one_first P (Stops fault) next so = tt
 one_behind : {Dir F S T : Type 0} (P : Entry → Type 0) (course : Course Dir F S) (next : S → Course Dir F T) → ((end : S) → TellsOne P (next end)) → TellsOne P (bind course next)
 one_behind P (Say line course) next so = inr (one_behind P course next so)
 one_behind P (Do op course) next so = one_behind P course next so
-one_behind P (Call outer course) next so = one_behind P course next so
+one_behind P (CallOutside outer course) next so = one_behind P course next so
 one_behind P (Ask f) next so = λ h. one_behind P (f h) next so
 one_behind P (Goes end) next so = so end
 one_behind P (Stops fault) next so = tt
@@ -117,7 +117,7 @@ one_under : {Dir F G S : Type 0} (P : Entry → Type 0) (name : F → G) (course
 one_under P name (Say line course) (inl is) = inl is
 one_under P name (Say line course) (inr so) = inr (one_under P name course so)
 one_under P name (Do op course) so = one_under P name course so
-one_under P name (Call outer course) so = one_under P name course so
+one_under P name (CallOutside outer course) so = one_under P name course so
 one_under P name (Ask f) so = λ h. one_under P name (f h) (so h)
 one_under P name (Goes end) so = absurd so
 one_under P name (Stops fault) so = tt
@@ -137,7 +137,7 @@ module _ (P : Entry → Type 0) where
   all_one (Say line course) end lines (inl is) by = first_has line by.0 lines by.1 is
   all_one (Say line course) end lines (inr so) by = rest_has line by.0 lines by.1 (all_one course end by.0 so by.2)
   all_one (Do op course) end lines so by = all_one course end lines so by
-  all_one (Call outer course) end lines so by = all_one course end lines so by
+  all_one (CallOutside outer course) end lines so by = all_one course end lines so by
   all_one (Ask f) end lines so by = all_one (f by.0) end lines (so by.0) by.1
   all_one (Goes its) end lines so by = absurd so
   all_one (Stops fault) end lines so by = absurd by
@@ -164,7 +164,7 @@ may_commit Into At x line may = tt
 leads_commit : {Dir F S : Type 0} (Into : ℕ → Type 0) (most : ℕ) (At : Option (ℕ × Part) → Type 0) (goes : Telling → S → Type 0) (x : Telling) (course : Course Dir F S) → LeadsTo Into most At goes x course → SaysSo (OnCommit Into) course
 leads_commit Into most At goes x (Say line course) so = (may_commit Into At x line so.0, leads_commit Into most At goes (after_line x line) course so.1)
 leads_commit Into most At goes x (Do op course) so = leads_commit Into most At goes (after_op x op) course so.1
-leads_commit Into most At goes x (Call outer course) so = leads_commit Into most At goes x course so
+leads_commit Into most At goes x (CallOutside outer course) so = leads_commit Into most At goes x course so
 leads_commit Into most At goes x (Ask f) so = λ h. leads_commit Into most At goes x (f h) (so h)
 leads_commit Into most At goes x (Goes end) so = tt
 leads_commit Into most At goes x (Stops fault) so = tt
@@ -172,7 +172,7 @@ leads_commit Into most At goes x (Stops fault) so = tt
 quiet_commit : {Dir F S : Type 0} (Into : ℕ → Type 0) (course : Course Dir F S) → IsQuiet course → SaysSo (OnCommit Into) course
 quiet_commit Into (Say line course) so = (plain_commit Into line so.0, quiet_commit Into course so.1)
 quiet_commit Into (Do op course) so = quiet_commit Into course so.1
-quiet_commit Into (Call outer course) so = quiet_commit Into course so
+quiet_commit Into (CallOutside outer course) so = quiet_commit Into course so
 quiet_commit Into (Ask f) so = λ h. quiet_commit Into (f h) (so h)
 quiet_commit Into (Goes end) so = tt
 quiet_commit Into (Stops fault) so = tt
@@ -524,7 +524,7 @@ module _ (g : Lived) (here : IsLifeInForm g) where
     abbrev IntoHere : ℕ → Type 0
     IntoHere = ComesInto (alone g.script) g.number g.life (suc i)
 
-    mail_commits : (mail : Mail U) → m.message ≡ Sent mail → (line : Entry) → IsLineThrough c any_shares st m.message line ⊎ IsHalfLine line → OnCommit IntoHere line
+    mail_commits : (mail : Mail U) → m.message ≡ Mailed mail → (line : Entry) → IsLineThrough c any_shares st m.message line ⊎ IsHalfLine line → OnCommit IntoHere line
     mail_commits mail sent line (inr said) = half line said
       where
         half : (line : Entry) → IsHalfLine line → OnCommit IntoHere line

@@ -3,7 +3,7 @@ use Rattle.std.proofs.Common.{◌≡◌, ◌⊎◌, inl, inr, ℕ, List, [], ◌
 use Rattle.std.specs.Prelude.{IfErr}
 use Rattle.dkg_journal.specs.Gated.{gated, gated_behind}
 use Rattle.dkg_journal.specs.Names.{Files}
-use Rattle.dkg_journal.specs.Opening.{broken}
+use Rattle.dkg_journal.specs.Opening.{first_break}
 use Rattle.dkg_journal.specs.Records.{SectionEntry as Record, entries}
 use Rattle.dkg_journal.specs.Views.{views}
 use Rattle.dkg_journal.specs.declared.opening.JournalEntry.{JournalEntry}
@@ -42,11 +42,11 @@ bare_views [] = refl
 bare_views (e ∷ es) = ap (λ (l : List Record). (e.section, e.body) ∷ l) (bare_views es)
 
 -- where all are whole, and events, none is corrupt
-uncorrupt : (limit : ℕ) (name : Name) (place : ℕ) (files : Files) → broken files ≡ None → AreEvents limit (entries files) → IsCorruptAt limit files name place → ⊥
+uncorrupt : (limit : ℕ) (name : Name) (place : ℕ) (files : Files) → first_break files ≡ None → AreEvents limit (entries files) → IsCorruptAt limit files name place → ⊥
 uncorrupt limit name place files whole events at = by_cause at.so
   where
-    by_cause : (broken files ≡ Some (name, place)) ⊎ ((broken files ≡ None) × HasNoEvent limit files name place) → ⊥
-    by_cause (inl torn) = no_place (broken files) (name, place) torn whole
+    by_cause : (first_break files ≡ Some (name, place)) ⊎ ((first_break files ≡ None) × HasNoEvent limit files name place) → ⊥
+    by_cause (inl torn) = no_place (first_break files) (name, place) torn whole
     by_cause (inr other) =
         let same : views other.1.read ≡ entries files = sym (bare_views other.1.read) ∙ ap (map bare) other.1.are ∙ bare_behind 0 0 (entries files) in
         no_place (no_event_at limit other.1.read) (name, place) other.1.first (no_other limit other.1.read (subst (AreEvents limit) (sym same) events))

@@ -65,7 +65,7 @@ use Rattle.dkg_core.proofs.Heights.{epoch_is}
 use Rattle.dkg_core.proofs.Same.{infos_agree, infos_are_one}
 use Rattle.dkg_lives.specs.Epochs.{IsLifeInForm, any_shares}
 use Rattle.dkg_lives.specs.Given.{AreBytes, Lived, at_step, blocks_in, lived, provided_by}
-use Rattle.dkg_promises.specs.SharesStand.{HeldShare, StandsBy, WasCutInto, Plays as PartPlays}
+use Rattle.dkg_promises.specs.SharesStand.{HeldShare, StandsBy, WasCutInto, PartPlays}
 use Rattle.dkg_lives.specs.Ways.{by_worlds}
 use Rattle.dkg_along.proofs.Alone.{epoch_alike, follows_alike}
 use Rattle.dkg_lives.proofs.Awaiting.{IsReached}

@@ -41,7 +41,7 @@ use Rattle.dkg_core.specs.Fixed.{Fixed, OneShot, has}
 use Rattle.dkg_core.specs.Forms.{Applied, IsNodeBegun, IsOpeningStop, IsSeated, IsSetUpIn, Judged, LeavesHeld, Passed, Refusal, held_behind, judged_block, seed_read, share_read, started}
 use Rattle.dkg_laws.specs.Idle.{IsAskedLine, LeavesIdle}
 use Rattle.dkg_core.specs.Live as core
-use Rattle.dkg_core.specs.Live.{Deals, Ends, Finalized, Follows, Includes, Live, Mail, Message, NodeStop, Peer, Plays, Seat, Sent, Stage, Watches, is_last_height, records_of_epoch}
+use Rattle.dkg_core.specs.Live.{Deals, Ends, Finalized, Follows, Includes, Live, Mail, Message, NodeStop, Peer, Plays, Seat, Mailed, Stage, Watches, is_last_height, records_of_epoch}
 use Rattle.dkg_core.specs.Logs.{logs_of}
 use Rattle.dkg_core.specs.Node.{node_opening, node_step}
 use Rattle.dkg_core.specs.NodeEndings.{IsFaultBy}
@@ -437,8 +437,8 @@ module _ (s : Setting) (ends : List (Option CutAt)) (form : IsFormOfInclusion s.
     quiet message same none so =
         inr (none, run_stores Into most Never begun_w x0 (λ y end. y ≡ x0) (node_step C (event_of message) st) ended begun_w new x0 (quiet_to Into most Never x0 (node_step C (event_of message) st) so) (start Never) (run_of message same))
 
-    no_block : (mail : Mail U) → m.message ≡ Sent mail → TakesNone
-    no_block mail same block is_block applied last stage = let wrong : ◌≡◌ {A = Message U} (Sent mail) (Finalized block) = sym same ∙ is_block in cc
+    no_block : (mail : Mail U) → m.message ≡ Mailed mail → TakesNone
+    no_block mail same block is_block applied last stage = let wrong : ◌≡◌ {A = Message U} (Mailed mail) (Finalized block) = sym same ∙ is_block in cc
 
     stored : Stored ended
     stored = by_kind (brings_kind g its m.message m.brings)
@@ -526,11 +526,11 @@ module _ (s : Setting) (ends : List (Option CutAt)) (form : IsFormOfInclusion s.
 
         by_kind : BringsBlock g its m.message ⊎ (BringsPeer its m.message ⊎ BringsOther its m.message) → Stored ended
         by_kind (inl x) = by_block x.0 x.1 x.2 x.3
-        by_kind (inr (inl p)) = quiet (Sent (Peer p.0 p.1)) p.3 (no_block (Peer p.0 p.1) p.3) (peer_quiet C p.0 p.1 st)
+        by_kind (inr (inl p)) = quiet (Mailed (Peer p.0 p.1)) p.3 (no_block (Peer p.0 p.1) p.3) (peer_quiet C p.0 p.1 st)
         by_kind (inr (inr o)) = inr (no_block o.0 o.1, idle_stores)
           where
             left : LeavesIdle st ended begun_w new
-            left = mails_are_idle C o.0 st ended begun_w new o.2 active.active.unawaited (run_of (Sent o.0) o.1)
+            left = mails_are_idle C o.0 st ended begun_w new o.2 active.active.unawaited (run_of (Mailed o.0) o.1)
 
             told : Stores Into most Never begun_w x0 new x0
             told = record {

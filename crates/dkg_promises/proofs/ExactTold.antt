@@ -40,7 +40,7 @@ use Rattle.dkg_core.specs.Courses.{EndsSo, on_devices}
 use Rattle.dkg_core.specs.Fixed.{Fixed}
 use Rattle.dkg_core.specs.Forms.{Applied, judged_block}
 use Rattle.dkg_core.specs.Laws.{IsQuiet}
-use Rattle.dkg_core.specs.Live.{Finalized, Live, Message, NodeStop, Sent, is_last_height}
+use Rattle.dkg_core.specs.Live.{Finalized, Live, Message, NodeStop, Mailed, is_last_height}
 use Rattle.dkg_core.specs.Node.{node_opening}
 use Rattle.dkg_core.specs.Seen.{Seen}
 use Rattle.dkg_core.specs.Stepping.{next_epoch}
@@ -389,7 +389,7 @@ module _ (s : Setting) (ends : List (Option CutAt)) (reshares : is_oneshot s ≡
         where
           by_brought : (block : made.Block U) → m.message ≡ Finalized block → judged_block C block st ≡ Applied → AtCommits (λ x. x ≡ set_up_last None before) (set_up_last None before) added → BringsBlock g one m.message ⊎ BringsMail one m.message
               → EachTold s (ExactEntry s ends) marks before added
-          by_brought block is_block applied commits (inr mail) = absurd (let wrong : ◌≡◌ {A = Message U} (Sent mail.0) (Finalized block) = sym mail.1 ∙ is_block in cc)
+          by_brought block is_block applied commits (inr mail) = absurd (let wrong : ◌≡◌ {A = Message U} (Mailed mail.0) (Finalized block) = sym mail.1 ∙ is_block in cc)
           by_brought block is_block applied commits (inl (number, made_it, final, sent)) =
               subst (λ (b : List Entry). EachTold s (ExactEntry s ends) marks b added) (append-nil before)
               (last_told number made_it final sent (subst (λ (b : made.Block U). judged_block C b st ≡ Applied) (the_block (sym is_block ∙ sent)) applied) [] added marks (λ known. known)

@@ -42,7 +42,7 @@ use Rattle.dkg_core.specs.Fixed.{Fixed, stand_in}
 use Rattle.dkg_core.specs.Forms.{Applied, IsOpeningStop, IsSeated, IsSetUpIn, IsSetupFault, Judged, LeavesHeld, Passed, Refusal, StoresBoth, committed_by, held_behind, judged_block, judged_over_tip, seed_read, set_up_by, share_read, started}
 use Rattle.dkg_core.specs.Heard.{KeepsFrom, recovered_in}
 use Rattle.dkg_core.specs.Laws.{IsOther}
-use Rattle.dkg_core.specs.Live.{Cancel, Deals, Ends, EpochInfoOf, Faulted, Feed, Finalized, Follows, Includes, Live, Mail, Message, NextLog, NodeStop, Over, Peer, Records, ReleaseLog, Sent, Stage, Work, is_last_height, with_tip}
+use Rattle.dkg_core.specs.Live.{Cancel, Deals, Ends, EpochInfoOf, Faulted, Feed, Finalized, Follows, Includes, Live, Mail, Message, NextLog, NodeStop, Over, Peer, Records, ReleaseLog, Mailed, Stage, Work, is_last_height, with_tip}
 use Rattle.dkg_laws.specs.NodeThrough.{IsNodeThrough}
 use Rattle.dkg_core.specs.Node.{node_opening, node_step}
 use Rattle.dkg_core.specs.Setup as s
@@ -618,15 +618,15 @@ module _ (g : Lived) (here : IsLifeInForm g) (bytes : AreBytes g.script.blocks) 
           by_judged Applied so stops = by_stage so st.participation.stage refl stops
 
     -- ANY OTHER MESSAGE touches no device
-    module _ (mail : Mail directory.Unit) (other : IsOther {Dir = directory.Unit} (Sent mail)) where
-      mail_knows : (end : Live directory.Unit) → EndsSo (node_step c (event_of (Sent mail)) st) (went end) w new → Knows end.records new.held
-      mail_knows end run = went_knows (Sent mail) st.records.dealings (asks c given st.records.dealings mail st w.held other refl (known st.records.dealings)) end run
+    module _ (mail : Mail directory.Unit) (other : IsOther {Dir = directory.Unit} (Mailed mail)) where
+      mail_knows : (end : Live directory.Unit) → EndsSo (node_step c (event_of (Mailed mail)) st) (went end) w new → Knows end.records new.held
+      mail_knows end run = went_knows (Mailed mail) st.records.dealings (asks c given st.records.dealings mail st w.held other refl (known st.records.dealings)) end run
 
-      mail_shows : (cause : LocalCause) → IsStopThrough c any_shares st (Sent mail) (Some w.held) (fault.LocalState cause) → EndsSo (node_step c (event_of (Sent mail)) st) (stopped (Faulted (fault.LocalState cause))) w new
+      mail_shows : (cause : LocalCause) → IsStopThrough c any_shares st (Mailed mail) (Some w.held) (fault.LocalState cause) → EndsSo (node_step c (event_of (Mailed mail)) st) (stopped (Faulted (fault.LocalState cause))) w new
           → Shows (fault.LocalState cause)
       mail_shows cause why run = by_cause cause (of_mail mail why)
         where
-          of_mail : (mail : Mail directory.Unit) → IsStopThrough c any_shares st (Sent mail) (Some w.held) (fault.LocalState cause) → IsAskStop c st (fault.LocalState cause)
+          of_mail : (mail : Mail directory.Unit) → IsStopThrough c any_shares st (Mailed mail) (Some w.held) (fault.LocalState cause) → IsAskStop c st (fault.LocalState cause)
           of_mail (Peer from bytes) why = absurd why
           of_mail (NextLog request height) why = absurd why
           of_mail (ReleaseLog height) why = absurd why
@@ -658,17 +658,17 @@ module _ (g : Lived) (here : IsLifeInForm g) (bytes : AreBytes g.script.blocks) 
       where
         by_event : (e : Event) → slice_get g.life.events i ≡ Some e → (message : Message directory.Unit) → Brings g e message → EndsSo (node_step c (event_of message) st) (went end) w new → Knows end.records new.held
         by_event (event.Peer from bytes) there message brings its_run =
-            went_knows (Sent (Peer from bytes)) [] (hears c given [] from bytes st st.participation.stage w.held (message_fits c from bytes limit_is (event_in_form g here i (event.Peer from bytes) there)) (known [])) end
-            (run_as message (Sent (Peer from bytes)) (went end) brings its_run)
+            went_knows (Mailed (Peer from bytes)) [] (hears c given [] from bytes st st.participation.stage w.held (message_fits c from bytes limit_is (event_in_form g here i (event.Peer from bytes) there)) (known [])) end
+            (run_as message (Mailed (Peer from bytes)) (went end) brings its_run)
         by_event (event.Final number) there message brings its_run = block_goes number brings.0 end (run_as message (Finalized (brings.0).block) (went end) brings.1 its_run)
-        by_event (event.Next request height) there message brings its_run = mail_knows (NextLog request height) tt end (run_as message (Sent (NextLog request height)) (went end) brings its_run)
-        by_event (event.Release height) there message brings its_run = mail_knows (ReleaseLog height) tt end (run_as message (Sent (ReleaseLog height)) (went end) brings its_run)
-        by_event (event.Info request) there message brings its_run = mail_knows (EpochInfoOf request) tt end (run_as message (Sent (EpochInfoOf request)) (went end) brings its_run)
+        by_event (event.Next request height) there message brings its_run = mail_knows (NextLog request height) tt end (run_as message (Mailed (NextLog request height)) (went end) brings its_run)
+        by_event (event.Release height) there message brings its_run = mail_knows (ReleaseLog height) tt end (run_as message (Mailed (ReleaseLog height)) (went end) brings its_run)
+        by_event (event.Info request) there message brings its_run = mail_knows (EpochInfoOf request) tt end (run_as message (Mailed (EpochInfoOf request)) (went end) brings its_run)
         by_event (event.Feed request number) there message brings its_run =
-            mail_knows (Feed request (brings.0).block) tt end (run_as message (Sent (Feed request (brings.0).block)) (went end) brings.1 its_run)
-        by_event (event.Over request) there message brings its_run = mail_knows (Over request) tt end (run_as message (Sent (Over request)) (went end) brings its_run)
-        by_event (event.Cancel request) there message brings its_run = mail_knows (Cancel request) tt end (run_as message (Sent (Cancel request)) (went end) brings its_run)
-        by_event event.Work there message brings its_run = mail_knows (Work None) tt end (run_as message (Sent (Work None)) (went end) brings its_run)
+            mail_knows (Feed request (brings.0).block) tt end (run_as message (Mailed (Feed request (brings.0).block)) (went end) brings.1 its_run)
+        by_event (event.Over request) there message brings its_run = mail_knows (Over request) tt end (run_as message (Mailed (Over request)) (went end) brings its_run)
+        by_event (event.Cancel request) there message brings its_run = mail_knows (Cancel request) tt end (run_as message (Mailed (Cancel request)) (went end) brings its_run)
+        by_event event.Work there message brings its_run = mail_knows (Work None) tt end (run_as message (Mailed (Work None)) (went end) brings its_run)
         by_event other there message brings its_run = absurd brings
 
     pub step_shows : (own : Fault) → EndsSo (step_of g (suc i) its st) (stopped (Faulted own)) w new → ShowsIn g.script (recovered_in new.held) new.held.secrets own
@@ -689,20 +689,20 @@ module _ (g : Lived) (here : IsLifeInForm g) (bytes : AreBytes g.script.blocks) 
             End : Ended NodeStop (Live directory.Unit)
             End = stopped (Faulted (fault.LocalState cause))
 
-            asks_show : (mail : Mail directory.Unit) → IsOther {Dir = directory.Unit} (Sent mail) → IsTakenThrough c (Sent mail) st → EndsSo (node_step c (event_of (Sent mail)) st) End w new → Shows (fault.LocalState cause)
-            asks_show mail other taken its_run = mail_shows mail other cause (why (Sent mail) taken its_run) its_run
+            asks_show : (mail : Mail directory.Unit) → IsOther {Dir = directory.Unit} (Mailed mail) → IsTakenThrough c (Mailed mail) st → EndsSo (node_step c (event_of (Mailed mail)) st) End w new → Shows (fault.LocalState cause)
+            asks_show mail other taken its_run = mail_shows mail other cause (why (Mailed mail) taken its_run) its_run
 
             by_event : (e : Event) (message : Message directory.Unit) → Brings g e message → EndsSo (node_step c (event_of message) st) End w new → Shows (fault.LocalState cause)
-            by_event (event.Peer from bytes) message brings its_run = absurd (why (Sent (Peer from bytes)) tt (run_as message (Sent (Peer from bytes)) End brings its_run))
+            by_event (event.Peer from bytes) message brings its_run = absurd (why (Mailed (Peer from bytes)) tt (run_as message (Mailed (Peer from bytes)) End brings its_run))
             by_event (event.Final number) message brings its_run =
                 let now = run_as message (Finalized (brings.0).block) End brings.1 its_run in block_shows number brings.0 cause (why (Finalized (brings.0).block) tt now) now
-            by_event (event.Next request height) message brings its_run = asks_show (NextLog request height) tt tt (run_as message (Sent (NextLog request height)) End brings its_run)
-            by_event (event.Release height) message brings its_run = asks_show (ReleaseLog height) tt tt (run_as message (Sent (ReleaseLog height)) End brings its_run)
-            by_event (event.Info request) message brings its_run = asks_show (EpochInfoOf request) tt tt (run_as message (Sent (EpochInfoOf request)) End brings its_run)
-            by_event (event.Feed request number) message brings its_run = asks_show (Feed request (brings.0).block) tt tt (run_as message (Sent (Feed request (brings.0).block)) End brings.1 its_run)
-            by_event (event.Over request) message brings its_run = asks_show (Over request) tt tt (run_as message (Sent (Over request)) End brings its_run)
-            by_event (event.Cancel request) message brings its_run = asks_show (Cancel request) tt tt (run_as message (Sent (Cancel request)) End brings its_run)
-            by_event event.Work message brings its_run = asks_show (Work None) tt tt (run_as message (Sent (Work None)) End brings its_run)
+            by_event (event.Next request height) message brings its_run = asks_show (NextLog request height) tt tt (run_as message (Mailed (NextLog request height)) End brings its_run)
+            by_event (event.Release height) message brings its_run = asks_show (ReleaseLog height) tt tt (run_as message (Mailed (ReleaseLog height)) End brings its_run)
+            by_event (event.Info request) message brings its_run = asks_show (EpochInfoOf request) tt tt (run_as message (Mailed (EpochInfoOf request)) End brings its_run)
+            by_event (event.Feed request number) message brings its_run = asks_show (Feed request (brings.0).block) tt tt (run_as message (Mailed (Feed request (brings.0).block)) End brings.1 its_run)
+            by_event (event.Over request) message brings its_run = asks_show (Over request) tt tt (run_as message (Mailed (Over request)) End brings its_run)
+            by_event (event.Cancel request) message brings its_run = asks_show (Cancel request) tt tt (run_as message (Mailed (Cancel request)) End brings its_run)
+            by_event event.Work message brings its_run = asks_show (Work None) tt tt (run_as message (Mailed (Work None)) End brings its_run)
             by_event other message brings its_run = absurd brings
 
         by_own : (own : Fault) → EndsSo (node_step c (event_of m.message) st) (stopped (Faulted own)) w new → Shows own

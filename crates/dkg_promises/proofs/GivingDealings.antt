@@ -27,7 +27,7 @@ use Rattle.dkg_core.specs.Fixed.{Fixed, Rules, has, stand_in}
 use Rattle.dkg_core.specs.Forms.{IsMine, IsNodeBegun, LeavesHeld, held_behind}
 use Rattle.dkg_core.specs.Heard.{Fits, MayHave, recovered_in}
 use Rattle.dkg_core.specs.Laws.{IsAmong, reach_of}
-use Rattle.dkg_core.specs.Live.{Finalized, Live, Message, NodeStop, Peer, Sent, Stage}
+use Rattle.dkg_core.specs.Live.{Finalized, Live, Message, NodeStop, Peer, Mailed, Stage}
 use Rattle.dkg_core.specs.Meant.{ReadsRecords}
 use Rattle.dkg_core.specs.Node.{node_opening, node_step}
 use Rattle.dkg_core.specs.Seen.{Seen}
@@ -156,11 +156,11 @@ module _ (s : Setting) (cuts : List (Option CutAt)) (form : IsFormOfInclusion s.
     same_round round other epoch of number made = some_is (sym (passing.rounds round of) ∙ ap (round_at s) (sym number) ∙ made)
 
     -- A MESSAGE
-    module _ (from : ℕ) (bytes : List ℕ) (fit : Fits c (from, bytes)) (ended : Ended NodeStop (Live directory.Unit)) (run : EndsSo (node_step c (event_of (Sent (Peer from bytes))) st) ended w new) where
+    module _ (from : ℕ) (bytes : List ℕ) (fit : Fits c (from, bytes)) (ended : Ended NodeStop (Live directory.Unit)) (run : EndsSo (node_step c (event_of (Mailed (Peer from bytes))) st) ended w new) where
       -- without a round nothing is done
       pub unheard : st.participation.round ≡ None → new.held ≡ w.held
       unheard none =
-          let b : RunsBehind (step c (Sent (Peer from bytes)) st) ended w new = steps_run_behind c st (Sent (Peer from bytes)) ended w new run in
+          let b : RunsBehind (step c (Mailed (Peer from bytes)) st) ended w new = steps_run_behind c st (Mailed (Peer from bytes)) ended w new run in
           b.held ∙ ap (λ (x : World). x.held) (goes_nothing st b.half w b.mid (subst (λ (stage : Stage). EndsSo (hears_peer_in c from bytes st stage) b.half w b.mid) (live.stands.without none).0 b.run))
 
       more_pass : (round : Round) → st.participation.round ≡ Some round → (now : Pairs) → MayHave c st from round (recovered_in w.held) now → PassesAll s now
@@ -237,9 +237,9 @@ module _ (s : Setting) (cuts : List (Option CutAt)) (form : IsFormOfInclusion s.
 
           by_kind : BringsBlock g its m.message ⊎ (BringsPeer its m.message ⊎ BringsOther its m.message) → PassHeld s new.held
           by_kind (inl b) = block_passes (b.1).block (subst (λ (x : Message directory.Unit). CanRecord c st x) b.3 can) ended (as_run (Finalized (b.1).block) b.3)
-          by_kind (inr (inl p)) = heard p.0 p.1 (subst (BringsRecords c) p.3 can.brings) ended (as_run (Sent (Peer p.0 p.1)) p.3) st.participation.round refl
+          by_kind (inr (inl p)) = heard p.0 p.1 (subst (BringsRecords c) p.3 can.brings) ended (as_run (Mailed (Peer p.0 p.1)) p.3) st.participation.round refl
           by_kind (inr (inr mail)) =
-              subst (PassHeld s) (sym (idle_held c mail.0 mail.2 st ended w new (passing.at).active (as_run (Sent mail.0) mail.1))) ((passing.agreed).whole, passing.passes)
+              subst (PassHeld s) (sym (idle_held c mail.0 mail.2 st ended w new (passing.at).active (as_run (Mailed mail.0) mail.1))) ((passing.agreed).whole, passing.passes)
 
     step_goes : (end : Live directory.Unit) → EndsSo (step_of g (suc i) its st) (went end) w new → IsPassing (suc i) end new.held
     step_goes end run =

@@ -25,7 +25,7 @@ use Rattle.dkg_core.specs.Fixed.{Fixed}
 use Rattle.dkg_core.specs.Forms.{IsNodeBegun, LeavesHeld, held_behind}
 use Rattle.dkg_core.specs.Heard.{Fits, recovered_in}
 use Rattle.dkg_core.specs.Laws.{reach_of}
-use Rattle.dkg_core.specs.Live.{Finalized, Live, Message, NodeStop, Peer, Sent, Stage}
+use Rattle.dkg_core.specs.Live.{Finalized, Live, Message, NodeStop, Peer, Mailed, Stage}
 use Rattle.dkg_core.specs.Meant.{ReadsRecords}
 use Rattle.dkg_core.specs.Node.{node_opening, node_step}
 use Rattle.dkg_core.specs.Seen.{Seen}
@@ -113,10 +113,10 @@ module _ (g : Lived) (here : IsLifeInForm g) (reads : ReadsRecords g.seen) (byte
     can = record { acks = acks_fit g here (suc i); dealing = own_fits g here (suc i) st live here_at.in_bound; brings = brings_fit g here bytes heights i its is m }
 
     -- A MESSAGE: without a round nothing is done
-    module _ (from : ℕ) (sent : List ℕ) (fit : Fits c (from, sent)) (ended : Ended NodeStop (Live directory.Unit)) (run : EndsSo (node_step c (event_of (Sent (Peer from sent))) st) ended w new) where
+    module _ (from : ℕ) (sent : List ℕ) (fit : Fits c (from, sent)) (ended : Ended NodeStop (Live directory.Unit)) (run : EndsSo (node_step c (event_of (Mailed (Peer from sent))) st) ended w new) where
       unheard : st.participation.round ≡ None → new.held ≡ w.held
       unheard none =
-          let b : RunsBehind (step c (Sent (Peer from sent)) st) ended w new = steps_run_behind c st (Sent (Peer from sent)) ended w new run in
+          let b : RunsBehind (step c (Mailed (Peer from sent)) st) ended w new = steps_run_behind c st (Mailed (Peer from sent)) ended w new run in
           b.held ∙ ap (λ (x : World). x.held) (goes_nothing st b.half w b.mid (subst (λ (stage : Stage). EndsSo (hears_peer_in c from sent st stage) b.half w b.mid) (live.stands.without none).0 b.run))
 
       heard : (o : Option Round) → st.participation.round ≡ o → WholeHeld new.held
@@ -145,9 +145,9 @@ module _ (g : Lived) (here : IsLifeInForm g) (reads : ReadsRecords g.seen) (byte
 
           by_kind : BringsBlock g its m.message ⊎ (BringsPeer its m.message ⊎ BringsOther its m.message) → WholeHeld new.held
           by_kind (inl b) = block_whole (b.1).block (subst (λ (x : Message directory.Unit). CanRecord c st x) b.3 can) ended (as_run (Finalized (b.1).block) b.3)
-          by_kind (inr (inl p)) = heard p.0 p.1 (subst (BringsRecords c) p.3 can.brings) ended (as_run (Sent (Peer p.0 p.1)) p.3) st.participation.round refl
+          by_kind (inr (inl p)) = heard p.0 p.1 (subst (BringsRecords c) p.3 can.brings) ended (as_run (Mailed (Peer p.0 p.1)) p.3) st.participation.round refl
           by_kind (inr (inr mail)) =
-              subst WholeHeld (sym (idle_held c mail.0 mail.2 st ended w new (here_at.at).active (as_run (Sent mail.0) mail.1))) (here_at.agreed).whole
+              subst WholeHeld (sym (idle_held c mail.0 mail.2 st ended w new (here_at.at).active (as_run (Mailed mail.0) mail.1))) (here_at.agreed).whole
 
     step_goes : (end : Live directory.Unit) → EndsSo (step_of g (suc i) its st) (went end) w new → IsWholeAt (suc i) end new.held
     step_goes end run =

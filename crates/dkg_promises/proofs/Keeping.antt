@@ -49,7 +49,7 @@ use Rattle.dkg_script.proofs.Listed.{gives_all, pair_of-restored_list}
 use Rattle.dkg_script.proofs.EachEntry.{all_splits, at_each}
 use Rattle.dkg_core.specs.Agreeing.{BringsRecords}
 use Rattle.dkg_core.specs.Heard.{recovered_in}
-use Rattle.dkg_core.specs.Live.{Cancel, EpochInfoOf, Feed, Finalized, Message, NextLog, Over, Peer, ReleaseLog, Sent, Work}
+use Rattle.dkg_core.specs.Live.{Cancel, EpochInfoOf, Feed, Finalized, Message, NextLog, Over, Peer, ReleaseLog, Mailed, Work}
 use Rattle.dkg_core.specs.Seen.{Seen}
 use Rattle.dkg_life.specs.Planless.{seen_planless}
 use Rattle.dkg_lives.specs.Epochs.{IsAnchorAbove, IsLifeInForm}
@@ -122,15 +122,15 @@ module _ (s : Setting) (ends : List (Option CutAt)) (built : IsGivenSetting s) (
         brought_as message other is brings = subst (λ (y : Message U). BringsRecords (at_step g (suc i)) y) (sym is) brings
 
         by_event : (x : script_event.Event) → IsEventIn s.script.blocks x → (message : Message U) → Brings g x message → BringsRecords (at_step g (suc i)) message
-        by_event (event.Peer from bytes) form message brings = brought_as message (Sent (Peer from bytes)) brings (message_fits (at_step g (suc i)) from bytes (limit_given (suc i)) form)
+        by_event (event.Peer from bytes) form message brings = brought_as message (Mailed (Peer from bytes)) brings (message_fits (at_step g (suc i)) from bytes (limit_given (suc i)) form)
         by_event (event.Final number) form message brings = brought_as message (Finalized (brings.0).block) brings.1 (block_fits g built.bytes built.heights built.form.in_bound (suc i) number brings.0)
-        by_event (event.Next request height) form message brings = brought_as message (Sent (NextLog request height)) brings tt
-        by_event (event.Release height) form message brings = brought_as message (Sent (ReleaseLog height)) brings tt
-        by_event (event.Info request) form message brings = brought_as message (Sent (EpochInfoOf request)) brings tt
-        by_event (event.Feed request number) form message brings = brought_as message (Sent (Feed request (brings.0).block)) brings.1 tt
-        by_event (event.Over request) form message brings = brought_as message (Sent (Over request)) brings tt
-        by_event (event.Cancel request) form message brings = brought_as message (Sent (Cancel request)) brings tt
-        by_event event.Work form message brings = brought_as message (Sent (Work None)) brings tt
+        by_event (event.Next request height) form message brings = brought_as message (Mailed (NextLog request height)) brings tt
+        by_event (event.Release height) form message brings = brought_as message (Mailed (ReleaseLog height)) brings tt
+        by_event (event.Info request) form message brings = brought_as message (Mailed (EpochInfoOf request)) brings tt
+        by_event (event.Feed request number) form message brings = brought_as message (Mailed (Feed request (brings.0).block)) brings.1 tt
+        by_event (event.Over request) form message brings = brought_as message (Mailed (Over request)) brings tt
+        by_event (event.Cancel request) form message brings = brought_as message (Mailed (Cancel request)) brings tt
+        by_event event.Work form message brings = brought_as message (Mailed (Work None)) brings tt
         by_event other form message brings = absurd brings
 
     meant : IsLifeOfSetting s ends g

@@ -32,7 +32,7 @@ use Rattle.dkg_core.specs.Dealing as d
 use Rattle.dkg_core.specs.Fixed.{Fixed}
 use Rattle.dkg_core.specs.Forms.{Applied, judged_block}
 use Rattle.dkg_core.specs.Heard.{Fits, MayHave, recovered_in}
-use Rattle.dkg_core.specs.Live.{Deals, Ends, Finalized, Follows, Includes, Live, Message, NodeStop, Peer, Sent, Stage}
+use Rattle.dkg_core.specs.Live.{Deals, Ends, Finalized, Follows, Includes, Live, Message, NodeStop, Peer, Mailed, Stage}
 use Rattle.dkg_core.specs.Meant.{ReadsRecords}
 use Rattle.dkg_core.specs.Node.{node_opening, node_step}
 use Rattle.dkg_core.specs.Seen.{Seen}
@@ -196,9 +196,9 @@ module _ (s : Setting) (cuts : List (Option CutAt)) (form : IsFormOfInclusion s.
 
       -- A MESSAGE, of another node
       module _ (from : ℕ) (bytes : List ℕ) (other : from ≡ me s → ⊥) (fit : Fits c (from, bytes)) (ended : Ended NodeStop (Live directory.Unit))
-          (run : EndsSo (node_step c (event_of (Sent (Peer from bytes))) st) ended w new) where
+          (run : EndsSo (node_step c (event_of (Mailed (Peer from bytes))) st) ended w new) where
         kept : KeepsSeeds 0 w.held new
-        kept = (node_steps_keep_secrets c st (Sent (Peer from bytes)) ended 0 w new (reads_at (suc i)) (omega arith) run).0
+        kept = (node_steps_keep_secrets c st (Mailed (Peer from bytes)) ended 0 w new (reads_at (suc i)) (omega arith) run).0
 
         still : (epoch : ℕ) → HoldsStill s form w.held.secrets new.held.secrets epoch
         still epoch = record { seeds = λ seed got. kept epoch seed (omega arith) got }
@@ -237,9 +237,9 @@ module _ (s : Setting) (cuts : List (Option CutAt)) (form : IsFormOfInclusion s.
           by_kind (inr (inl p)) =
               heard_backed p.0 p.1
               (holds_at (IsFromAnother (me s)) life.events i (event.Peer p.0 p.1) (holds_at (λ (life : Life). AllByRecursion (IsFromAnother (me s)) life.events) s.script.lives l life consistent.others life_is) (is ∙ ap (λ (e : Event). Some e) p.2))
-              (subst (BringsRecords c) p.3 its_can.brings) ended (as_run (Sent (Peer p.0 p.1)) p.3) st.participation.round refl
+              (subst (BringsRecords c) p.3 its_can.brings) ended (as_run (Mailed (Peer p.0 p.1)) p.3) st.participation.round refl
           by_kind (inr (inr mail)) =
-              subst (λ (h : Held). AreBacked s form (recovered_in h) h.secrets) (sym (idle_held c mail.0 mail.2 st ended w new ((owning.passing).at).active (as_run (Sent mail.0) mail.1))) owning.own
+              subst (λ (h : Held). AreBacked s form (recovered_in h) h.secrets) (sym (idle_held c mail.0 mail.2 st ended w new ((owning.passing).at).active (as_run (Mailed mail.0) mail.1))) owning.own
 
     pub step_keeps : FitsRecords s cuts form consistent l life seen files life_is here records → (i : ℕ) (its : Event) (st : Live directory.Unit) (h : Held) → slice_get life.events i ≡ Some its → IsReached life.cut (suc i) → IsOwning i st h
         → KeepsSo ValidHeld (IsOwning (suc i)) (step_of g (suc i) its st) h

@@ -31,7 +31,7 @@ use Rattle.dkg_lives.specs.Given.{AreBytes}
 use Rattle.dkg_promises.specs.GivesBack.{GivesBack, NamesNoRecord, limit_in}
 use Rattle.dkg_promises.specs.Leaves.{LeavesSo}
 use Rattle.dkg_lives.specs.Lives.{AnyFiles, RunsSo, TellsEnd}
-use Rattle.dkg_promises.specs.Over.{Over}
+use Rattle.dkg_promises.specs.Over.{DevicesAround}
 use Rattle.dkg_promises.specs.Promised.{DoesRun, Promised}
 use Rattle.dkg_promises.specs.Refusals.{BlamesOnlySkips}
 use Rattle.dkg_promises.specs.SharesStand.{CommitsEach, CommitsExactly, CommitsFit, FitsCarried}
@@ -111,7 +111,7 @@ all_run : (script : Script) (old new : List Entry) (picks : List ℕ) (answered 
 all_run script old new picks (Ok done) added is run = added_so old new added (RunsAll script) is (run_all_lives script AnyFiles (trace old []) (trace new picks) run)
 all_run script old new picks (Err its) added is run = tt
 
-module _ (script : Script) (form : IsFormOfInclusion script) (o : Over) (disk_of : o.tells → o.disk_tells) (old new : List Entry) (picks : List ℕ) (answered : Result (Unit {0}) Fault)
+module _ (script : Script) (form : IsFormOfInclusion script) (o : DevicesAround) (disk_of : o.tells → o.disk_tells) (old new : List Entry) (picks : List ℕ) (answered : Result (Unit {0}) Fault)
     (run : RunsSo by_lines script AnyFiles (trace old []) answered (trace new picks)) (runs : DoesRun script o old answered new) (itself : o.disk_tells → o.before.image o.before.files) (left : o.disk_tells → o.now.image o.now.files)
     (causes : IfErr answered (λ its. HasDeviceCause its o.disk_rose o.secrets_rose)) (records : IfErr answered (λ its. o.disk_tells → IsFoundRecord (limit_in script) o.now.files its))
     (fit : o.disk_tells → AreFit (limit_in script) o.before.image → AreFit (limit_in script) o.now.image) (stood : OnOk answered (o.disk_tells → Stands o.before.files o.before.image → Stands o.now.files o.now.image)) where

@@ -26,7 +26,7 @@ use Rattle.dkg_core.specs.Asked.{IsInformed, OfShares, ReadsShare}
 use Rattle.dkg_core.specs.Behind.{event_of}
 use Rattle.dkg_core.specs.Blocks as b
 use Rattle.dkg_core.specs.Core.{step}
-use Rattle.dkg_core.specs.Courses.{Course, Say, Do, Call, Ask, Goes, Stops, bind, on_devices, under}
+use Rattle.dkg_core.specs.Courses.{Course, Say, Do, CallOutside, Ask, Goes, Stops, bind, on_devices, under}
 use Rattle.dkg_core.specs.Dealing as d
 use Rattle.dkg_core.specs.Endings.{validity}
 use Rattle.dkg_core.specs.Entering as half
@@ -35,7 +35,7 @@ use Rattle.dkg_core.specs.Fixed.{Fixed, OneShot}
 use Rattle.dkg_core.specs.Forms.{Applied, judged_block, round_for}
 use Rattle.dkg_core.specs.Including as i
 use Rattle.dkg_core.specs.Including.{Fed, Need, Found, Lacks, Continuation, can_finish, cached_for, is_need, job_for, read_of, job_result_of, retained_for}
-use Rattle.dkg_core.specs.Live.{Artifact, Cached, Cancel, Deals, Ends, EpochInfoOf, Faulted, Feed, Finalized, Follows, Inclusion, Includes, Job, Live, Mail, Message, NextLog, NodeStop, Over, Participation, Peer, ReleaseLog, Request, Sent, Stage, VerifiedLogs, Verified, Work, is_last_height, recorded_at, with_inclusion, with_participation, with_queue, with_tip, with_used}
+use Rattle.dkg_core.specs.Live.{Artifact, Cached, Cancel, Deals, Ends, EpochInfoOf, Faulted, Feed, Finalized, Follows, Inclusion, Includes, Job, Live, Mail, Message, NextLog, NodeStop, Over, Participation, Peer, ReleaseLog, Request, Mailed, Stage, VerifiedLogs, Verified, Work, is_last_height, recorded_at, with_inclusion, with_participation, with_queue, with_tip, with_used}
 use Rattle.dkg_core.specs.Logs.{canonical, filled_by, is_accepted, carried_log_event}
 use Rattle.dkg_core.specs.Node.{node_step, unless_once}
 use Rattle.dkg_laws.specs.NodeSaying.{IsHalfLine}
@@ -68,7 +68,7 @@ IsInfoIf P line = Unit {0}
 so_any : {Dir F S : Type 0} (P : Entry → Type 0) → ((line : Entry) → P line) → (course : Course Dir F S) → SaysSo P course
 so_any P so (Say line course) = (so line, so_any P so course)
 so_any P so (Do op course) = so_any P so course
-so_any P so (Call outer course) = so_any P so course
+so_any P so (CallOutside outer course) = so_any P so course
 so_any P so (Ask f) = λ h. so_any P so (f h)
 so_any P so (Goes end) = tt
 so_any P so (Stops fault) = tt
@@ -76,7 +76,7 @@ so_any P so (Stops fault) = tt
 so_under : {Dir F G S : Type 0} (P : Entry → Type 0) (name : F → G) (course : Course Dir F S) → SaysSo P course → SaysSo P (under name course)
 so_under P name (Say line course) so = (so.0, so_under P name course so.1)
 so_under P name (Do op course) so = so_under P name course so
-so_under P name (Call outer course) so = so_under P name course so
+so_under P name (CallOutside outer course) so = so_under P name course so
 so_under P name (Ask f) so = λ h. so_under P name (f h) (so h)
 so_under P name (Goes end) so = tt
 so_under P name (Stops fault) so = tt
@@ -243,7 +243,7 @@ module _ (c : Fixed U) (epoch : ℕ) where
           changed : (number : ℕ) (f : Request U → Request U) → SaysSo P (i.advanced c (i.changed number f st))
           changed number f = advanced_so (i.changed number f st) refl refl refl
 
-          mail_so : (mail : Mail U) → SaysSo P (step c (Sent mail) st)
+          mail_so : (mail : Mail U) → SaysSo P (step c (Mailed mail) st)
           mail_so (Peer from bytes) = hears_so c P plain from bytes st st.participation.stage
           mail_so (NextLog number height) = given number height (i.served_now (with_used number st))
           mail_so (ReleaseLog height) = tt
@@ -348,7 +348,7 @@ module _ (c : Fixed U) (stored : OfShares) (form : IsFormThrough c) (reads : Rea
     where
       by_message : IsStuck c here → IsBare c here st → (m : Message U) → SaysSo Q (step c m st)
       by_message stuck bare (Finalized block) = block_so c here form.form.reshare stuck (IsProvidedIn c here) st bare runs stored form reads live block
-      by_message stuck bare (Sent mail) = mail_so c here form.form.reshare stuck (IsProvidedIn c here) st bare runs mail
+      by_message stuck bare (Mailed mail) = mail_so c here form.form.reshare stuck (IsProvidedIn c here) st bare runs mail
 
       by_provider : st.inclusion.cached ≡ None → IsProvidedIn c here ⊎ IsStuck c here → SaysSo Q (step c message st)
       by_provider none (inl provided) = so_any Q (any_line provided) (step c message st)
@@ -363,8 +363,8 @@ module _ (c : Fixed U) (stored : OfShares) (form : IsFormThrough c) (reads : Rea
       so_behind Q (under Faulted (step c (Finalized block) st))
       (λ now. unless_once c (bind (takes_delivered c block now) (λ left. half.acked_at block.height left.answer left.live)) (Say (Acked block.height) (Goes now)))
       (so_under Q Faulted (step c (Finalized block) st) (step_so (Finalized block))) (λ now. behind_block c Q half_says block now)
-  node_so (Sent mail) =
-      so_behind Q (under Faulted (step c (Sent mail) st)) (λ now. unless_once c (half.asks_again c now) (Goes now)) (so_under Q Faulted (step c (Sent mail) st) (step_so (Sent mail)))
+  node_so (Mailed mail) =
+      so_behind Q (under Faulted (step c (Mailed mail) st)) (λ now. unless_once c (half.asks_again c now) (Goes now)) (so_under Q Faulted (step c (Mailed mail) st) (step_so (Mailed mail)))
       (λ now. so_if Q (is_some c.oneshot) (Goes now) (half.asks_again c now) (λ e. tt) (λ e. again c Q half_says now))
 
   pub info_lines : (message : Message U) (ended : Ended NodeStop (Live U)) (old new : List Entry) → Said (on_devices (node_step c (event_of message) st)) ended old new

@@ -32,7 +32,7 @@ use Rattle.dkg_core.specs.Fixed.{Fixed}
 use Rattle.dkg_core.specs.Forms.{Applied, Judged, Passed, Refusal, judged_block}
 use Rattle.dkg_core.specs.Laws.{reach_of}
 use Rattle.dkg_core.specs.Live as core
-use Rattle.dkg_core.specs.Live.{Finalized, Follows, Live, Mail, Message, NodeStop, Participation, Sent, is_last_height}
+use Rattle.dkg_core.specs.Live.{Finalized, Follows, Live, Mail, Message, NodeStop, Participation, Mailed, is_last_height}
 use Rattle.dkg_laws.specs.LogsRecorded.{IsNotedNow}
 use Rattle.dkg_core.specs.Node.{node_opening, node_step}
 use Rattle.dkg_laws.specs.NodeThrough.{IsNodeThrough}
@@ -218,7 +218,7 @@ module _ (s : Setting) (ends : List (Option CutAt)) (whole : IsWholePast s ends)
                     top x y z is low = omega (arith, is, low)
 
       -- A MESSAGE
-      module _ (mail : Mail U) (sent : m.message ≡ Sent mail) (none : delivered_number its ≡ None) where
+      module _ (mail : Mail U) (sent : m.message ≡ Mailed mail) (none : delivered_number its ≡ None) where
         same_height : h (suc i) ≡ h i
         same_height = event_behind s l life i its is reached none
 

@@ -28,7 +28,7 @@ use Rattle.dkg_core.specs.Forms.{Applied, Judged, Passed, Refusal, judged_block}
 use Rattle.dkg_core.specs.Including.{Found, read_of, releases, is_served_at}
 use Rattle.dkg_core.specs.Laws.{IsAmong}
 use Rattle.dkg_core.specs.Live as core
-use Rattle.dkg_core.specs.Live.{Cancel, Deals, Ends, EpochInfoOf, Feed, Finalized, Follows, Inclusion, Includes, Job, Live, Mail, Message, NextLog, Over, Peer, ReleaseLog, Request, Sent, Stage, VerifiedLogs, Work, is_last_height, recorded_at, with_inclusion, with_participation, with_tip}
+use Rattle.dkg_core.specs.Live.{Cancel, Deals, Ends, EpochInfoOf, Feed, Finalized, Follows, Inclusion, Includes, Job, Live, Mail, Message, NextLog, Over, Peer, ReleaseLog, Request, Mailed, Stage, VerifiedLogs, Work, is_last_height, recorded_at, with_inclusion, with_participation, with_tip}
 use Rattle.dkg_core.specs.Logs.{canonical, filled_by, is_accepted}
 use Rattle.dkg_laws.specs.NodeThrough.{IsNodeThrough}
 use Rattle.dkg_core.specs.Setup.{begins_inclusion}
@@ -36,7 +36,7 @@ use Rattle.dkg_core.specs.Stepping.{dealt_behind, given_itself}
 use Rattle.dkg_core.specs.Through.{IsAppliedThrough, IsBlockThrough, IsEndThrough, IsFollowedThrough, IsIncludedThrough, IsLiveThrough, IsReadFrom, asked_by, verification_ended, included, observed, observed_log, waits_for}
 use Rattle.dkg_core.proofs.Heights.{epoch_is}
 use Rattle.dkg_core.proofs.StepDealing as dealing
-use Rattle.dkg_lives.specs.Asks.{RequestStanding, Unmade, Open, Closed, Cancelled, IsUncancelled, WereAsked, bounds_in, fed_in, scan_tip, request_standing, turns}
+use Rattle.dkg_lives.specs.Asks.{RequestStanding, Unmade, Open, FullyFed, Cancelled, IsUncancelled, WereAsked, bounds_in, fed_in, scan_tip, request_standing, turns}
 use Rattle.dkg_lives.specs.Blamed.{per_epoch, tip_in}
 use Rattle.dkg_lives.specs.Epochs.{IsLifeInForm, StandsInScript, any_shares, epoch_by}
 use Rattle.dkg_lives.specs.Given.{Lived, at_step, blocks_in, numbered}
@@ -60,7 +60,7 @@ less_one n = omega arith
 
 -- an open request, or one whose ancestry has ended
 abbrev pub stands_as : (ended : Bool) → RequestStanding
-stands_as ended = if ended then Closed else Open
+stands_as ended = if ended then FullyFed else Open
 
 uncancelled : (ended : Bool) → IsUncancelled (stands_as ended)
 uncancelled true = tt
@@ -102,10 +102,10 @@ module _ (number : ℕ) where
 
     pub spares_over : Spares (event.Over request) number
     spares_over true = (refl, refl)
-    spares_over false = (ap (λ (t : Bool). if t then Closed else Open) other, refl)
+    spares_over false = (ap (λ (t : Bool). if t then FullyFed else Open) other, refl)
 
     pub spares_cancel : Spares (event.Cancel request) number
-    spares_cancel true = (ap (λ (t : Bool). if t then Cancelled else Closed) other, refl)
+    spares_cancel true = (ap (λ (t : Bool). if t then Cancelled else FullyFed) other, refl)
     spares_cancel false = (ap (λ (t : Bool). if t then Cancelled else Open) other, refl)
 
 other_way : (a b : ℕ) → (a ≡ b → ⊥) → (b == a) ≡ false
@@ -209,7 +209,7 @@ untold epoch read round recorded = Unit {0}
 
 -- The life in which requests are read in a step.
 abbrev pub IsReadFor : Fixed U → Live U → Message U → Live U → Type 0
-IsReadFor c st (Sent mail) x = x ≡ asked_by mail st
+IsReadFor c st (Mailed mail) x = x ≡ asked_by mail st
 IsReadFor c st (Finalized b) x =
     (judged_block c b st ≡ Applied)
     × (((st.participation.stage ≡ Deals) × (x ≡ dealt_behind c b (given_itself c st)))
@@ -277,31 +277,31 @@ module _ (g : Lived) (Known : Knows) where
 
 module _ (g : Lived) where
   -- an event's kind, by what it sends
-  pub sends_info : (x : Event) (number : ℕ) → Brings g x (Sent (EpochInfoOf number)) → x ≡ event.Info number
+  pub sends_info : (x : Event) (number : ℕ) → Brings g x (Mailed (EpochInfoOf number)) → x ≡ event.Info number
   sends_info (event.Info request) number brings = let same : number ≡ request = the_number brings in ap event.Info (sym same)
     where
-      the_number : {a b : ℕ} → ◌≡◌ {A = Message U} (Sent (EpochInfoOf a)) (Sent (EpochInfoOf b)) → a ≡ b
+      the_number : {a b : ℕ} → ◌≡◌ {A = Message U} (Mailed (EpochInfoOf a)) (Mailed (EpochInfoOf b)) → a ≡ b
       the_number e = cc
-  sends_info (event.Peer from bytes) number brings = absurd (let no : ◌≡◌ {A = Message U} (Sent (EpochInfoOf number)) (Sent (Peer from bytes)) = brings in cc)
-  sends_info (event.Final block) number brings = absurd (let no : ◌≡◌ {A = Message U} (Sent (EpochInfoOf number)) (Finalized (brings.0).block) = brings.1 in cc)
-  sends_info (event.Next request height) number brings = absurd (let no : ◌≡◌ {A = Message U} (Sent (EpochInfoOf number)) (Sent (NextLog request height)) = brings in cc)
-  sends_info (event.Release height) number brings = absurd (let no : ◌≡◌ {A = Message U} (Sent (EpochInfoOf number)) (Sent (ReleaseLog height)) = brings in cc)
-  sends_info (event.Feed request block) number brings = absurd (let no : ◌≡◌ {A = Message U} (Sent (EpochInfoOf number)) (Sent (Feed request (brings.0).block)) = brings.1 in cc)
-  sends_info (event.Over request) number brings = absurd (let no : ◌≡◌ {A = Message U} (Sent (EpochInfoOf number)) (Sent (Over request)) = brings in cc)
-  sends_info (event.Cancel request) number brings = absurd (let no : ◌≡◌ {A = Message U} (Sent (EpochInfoOf number)) (Sent (Cancel request)) = brings in cc)
-  sends_info event.Work number brings = absurd (let no : ◌≡◌ {A = Message U} (Sent (EpochInfoOf number)) (Sent (Work None)) = brings in cc)
+  sends_info (event.Peer from bytes) number brings = absurd (let no : ◌≡◌ {A = Message U} (Mailed (EpochInfoOf number)) (Mailed (Peer from bytes)) = brings in cc)
+  sends_info (event.Final block) number brings = absurd (let no : ◌≡◌ {A = Message U} (Mailed (EpochInfoOf number)) (Finalized (brings.0).block) = brings.1 in cc)
+  sends_info (event.Next request height) number brings = absurd (let no : ◌≡◌ {A = Message U} (Mailed (EpochInfoOf number)) (Mailed (NextLog request height)) = brings in cc)
+  sends_info (event.Release height) number brings = absurd (let no : ◌≡◌ {A = Message U} (Mailed (EpochInfoOf number)) (Mailed (ReleaseLog height)) = brings in cc)
+  sends_info (event.Feed request block) number brings = absurd (let no : ◌≡◌ {A = Message U} (Mailed (EpochInfoOf number)) (Mailed (Feed request (brings.0).block)) = brings.1 in cc)
+  sends_info (event.Over request) number brings = absurd (let no : ◌≡◌ {A = Message U} (Mailed (EpochInfoOf number)) (Mailed (Over request)) = brings in cc)
+  sends_info (event.Cancel request) number brings = absurd (let no : ◌≡◌ {A = Message U} (Mailed (EpochInfoOf number)) (Mailed (Cancel request)) = brings in cc)
+  sends_info event.Work number brings = absurd (let no : ◌≡◌ {A = Message U} (Mailed (EpochInfoOf number)) (Mailed (Work None)) = brings in cc)
   sends_info other number brings = absurd brings
 
-  pub sends_work : (x : Event) (handed : Option VerifiedLogs) → Brings g x (Sent (Work handed)) → x ≡ event.Work
+  pub sends_work : (x : Event) (handed : Option VerifiedLogs) → Brings g x (Mailed (Work handed)) → x ≡ event.Work
   sends_work event.Work handed brings = refl
-  sends_work (event.Peer from bytes) handed brings = absurd (let no : ◌≡◌ {A = Message U} (Sent (Work handed)) (Sent (Peer from bytes)) = brings in cc)
-  sends_work (event.Final block) handed brings = absurd (let no : ◌≡◌ {A = Message U} (Sent (Work handed)) (Finalized (brings.0).block) = brings.1 in cc)
-  sends_work (event.Next request height) handed brings = absurd (let no : ◌≡◌ {A = Message U} (Sent (Work handed)) (Sent (NextLog request height)) = brings in cc)
-  sends_work (event.Release height) handed brings = absurd (let no : ◌≡◌ {A = Message U} (Sent (Work handed)) (Sent (ReleaseLog height)) = brings in cc)
-  sends_work (event.Info request) handed brings = absurd (let no : ◌≡◌ {A = Message U} (Sent (Work handed)) (Sent (EpochInfoOf request)) = brings in cc)
-  sends_work (event.Feed request block) handed brings = absurd (let no : ◌≡◌ {A = Message U} (Sent (Work handed)) (Sent (Feed request (brings.0).block)) = brings.1 in cc)
-  sends_work (event.Over request) handed brings = absurd (let no : ◌≡◌ {A = Message U} (Sent (Work handed)) (Sent (Over request)) = brings in cc)
-  sends_work (event.Cancel request) handed brings = absurd (let no : ◌≡◌ {A = Message U} (Sent (Work handed)) (Sent (Cancel request)) = brings in cc)
+  sends_work (event.Peer from bytes) handed brings = absurd (let no : ◌≡◌ {A = Message U} (Mailed (Work handed)) (Mailed (Peer from bytes)) = brings in cc)
+  sends_work (event.Final block) handed brings = absurd (let no : ◌≡◌ {A = Message U} (Mailed (Work handed)) (Finalized (brings.0).block) = brings.1 in cc)
+  sends_work (event.Next request height) handed brings = absurd (let no : ◌≡◌ {A = Message U} (Mailed (Work handed)) (Mailed (NextLog request height)) = brings in cc)
+  sends_work (event.Release height) handed brings = absurd (let no : ◌≡◌ {A = Message U} (Mailed (Work handed)) (Mailed (ReleaseLog height)) = brings in cc)
+  sends_work (event.Info request) handed brings = absurd (let no : ◌≡◌ {A = Message U} (Mailed (Work handed)) (Mailed (EpochInfoOf request)) = brings in cc)
+  sends_work (event.Feed request block) handed brings = absurd (let no : ◌≡◌ {A = Message U} (Mailed (Work handed)) (Mailed (Feed request (brings.0).block)) = brings.1 in cc)
+  sends_work (event.Over request) handed brings = absurd (let no : ◌≡◌ {A = Message U} (Mailed (Work handed)) (Mailed (Over request)) = brings in cc)
+  sends_work (event.Cancel request) handed brings = absurd (let no : ◌≡◌ {A = Message U} (Mailed (Work handed)) (Mailed (Cancel request)) = brings in cc)
   sends_work other handed brings = absurd brings
 
 -- ONE EVENT MORE
@@ -344,11 +344,11 @@ module _ (g : Lived) (here : IsLifeInForm g) (i : ℕ) (its : Event) (is : slice
         before = more held.at held.before;
         made = held.made;
         same = held.same;
-        stands = stands_more r.number g.life i its is ∙ ap (λ (s : RequestStanding). turns r.number s its) (held.stands ∙ ap stands_as ended) ∙ ap (turns r.number Closed) of ∙ sym (ap stands_as ended);
+        stands = stands_more r.number g.life i its is ∙ ap (λ (s : RequestStanding). turns r.number s its) (held.stands ∙ ap stands_as ended) ∙ ap (turns r.number FullyFed) of ∙ sym (ap stands_as ended);
         fed = held.fed ∙ sym (
             fed_more r.number g.life i its is g.script
             ∙ ap (λ (s : RequestStanding). fed_in g.script g.life r.number i ++ numbered (blocks_in g.script) (adds r.number s its)) (held.stands ∙ ap stands_as ended)
-            ∙ ap (λ (x : Event). fed_in g.script g.life r.number i ++ numbered (blocks_in g.script) (adds r.number Closed x)) of
+            ∙ ap (λ (x : Event). fed_in g.script g.life r.number i ++ numbered (blocks_in g.script) (adds r.number FullyFed x)) of
             ∙ append-nil (fed_in g.script g.life r.number i)
             );
       }
@@ -392,9 +392,9 @@ module _ (g : Lived) (here : IsLifeInForm g) (i : ℕ) (its : Event) (is : slice
       itself : (a : ℕ) → (a == a) ≡ true
       itself a = grind (arith, nat_tests)
 
-      over : (ended : Bool) → turns r.number (stands_as ended) (event.Over r.number) ≡ Closed
+      over : (ended : Bool) → turns r.number (stands_as ended) (event.Over r.number) ≡ FullyFed
       over true = refl
-      over false = ap (λ (t : Bool). if t then Closed else Open) (itself r.number)
+      over false = ap (λ (t : Bool). if t then FullyFed else Open) (itself r.number)
 
       adds_none : (ended : Bool) → adds r.number (stands_as ended) (event.Over r.number) ≡ []
       adds_none true = refl
@@ -446,59 +446,59 @@ module _ (number : ℕ) where
   pub keeps_peer : (from : ℕ) (bytes : List ℕ) (s : RequestStanding) → IsUncancelled s → IsUncancelled (turns number s (event.Peer from bytes))
   keeps_peer from bytes Unmade is = is
   keeps_peer from bytes Open is = is
-  keeps_peer from bytes Closed is = is
+  keeps_peer from bytes FullyFed is = is
   keeps_peer from bytes Cancelled is = is
 
   pub keeps_final : (block : ℕ) (s : RequestStanding) → IsUncancelled s → IsUncancelled (turns number s (event.Final block))
   keeps_final block Unmade is = is
   keeps_final block Open is = is
-  keeps_final block Closed is = is
+  keeps_final block FullyFed is = is
   keeps_final block Cancelled is = is
 
   pub keeps_next : (request height : ℕ) (s : RequestStanding) → IsUncancelled s → IsUncancelled (turns number s (event.Next request height))
   keeps_next request height Unmade is = is
   keeps_next request height Open is = is
-  keeps_next request height Closed is = is
+  keeps_next request height FullyFed is = is
   keeps_next request height Cancelled is = is
 
   pub keeps_release : (height : ℕ) (s : RequestStanding) → IsUncancelled s → IsUncancelled (turns number s (event.Release height))
   keeps_release height Unmade is = is
   keeps_release height Open is = is
-  keeps_release height Closed is = is
+  keeps_release height FullyFed is = is
   keeps_release height Cancelled is = is
 
   pub keeps_info : (request : ℕ) (s : RequestStanding) → IsUncancelled s → IsUncancelled (turns number s (event.Info request))
   keeps_info request Unmade is = absurd is
   keeps_info request Open is = is
-  keeps_info request Closed is = is
+  keeps_info request FullyFed is = is
   keeps_info request Cancelled is = is
 
   pub keeps_feed : (request block : ℕ) (s : RequestStanding) → IsUncancelled s → IsUncancelled (turns number s (event.Feed request block))
   keeps_feed request block Unmade is = is
   keeps_feed request block Open is = is
-  keeps_feed request block Closed is = is
+  keeps_feed request block FullyFed is = is
   keeps_feed request block Cancelled is = is
 
   pub keeps_over : (request : ℕ) (s : RequestStanding) → IsUncancelled s → IsUncancelled (turns number s (event.Over request))
   keeps_over request Unmade is = absurd is
   keeps_over request Open is = by_test (request == number)
     where
-      by_test : (t : Bool) → IsUncancelled (if t then Closed else Open)
+      by_test : (t : Bool) → IsUncancelled (if t then FullyFed else Open)
       by_test true = tt
       by_test false = tt
-  keeps_over request Closed is = is
+  keeps_over request FullyFed is = is
   keeps_over request Cancelled is = is
 
   pub keeps_cancel : (request : ℕ) → (request == number) ≡ false → (s : RequestStanding) → IsUncancelled s → IsUncancelled (turns number s (event.Cancel request))
   keeps_cancel request other Unmade is = absurd is
   keeps_cancel request other Open is = subst IsUncancelled (sym (ap (λ (t : Bool). if t then Cancelled else Open) other)) tt
-  keeps_cancel request other Closed is = subst IsUncancelled (sym (ap (λ (t : Bool). if t then Cancelled else Closed) other)) tt
+  keeps_cancel request other FullyFed is = subst IsUncancelled (sym (ap (λ (t : Bool). if t then Cancelled else FullyFed) other)) tt
   keeps_cancel request other Cancelled is = is
 
   pub keeps_work : (s : RequestStanding) → IsUncancelled s → IsUncancelled (turns number s event.Work)
   keeps_work Unmade is = is
   keeps_work Open is = is
-  keeps_work Closed is = is
+  keeps_work FullyFed is = is
   keeps_work Cancelled is = is
 
 -- WHAT AN EVENT SAYS of requests
@@ -638,7 +638,7 @@ module _ {Known : Knows} (g : Lived) (here : IsLifeInForm g) (i : ℕ) (its : Ev
       waits (Some number) its = λ same. apart number (sym same) its.uncancelled
 
   -- .. where an event sends one
-  pub sent_new : (m : IsMessage g its) (c : Fixed U) (reshare : c.oneshot ≡ None) (mail : Mail U) → m.message ≡ Sent mail → IsNewOne c reshare st mail
+  pub sent_new : (m : IsMessage g its) (c : Fixed U) (reshare : c.oneshot ≡ None) (mail : Mail U) → m.message ≡ Mailed mail → IsNewOne c reshare st mail
   sent_new m c reshare (EpochInfoOf request) sent = new_one request (sends_info g its request (subst (λ (x : Message U). Brings g its x) sent m.brings))
   sent_new m c reshare (Peer from bytes) sent = tt
   sent_new m c reshare (NextLog request height) sent = tt
@@ -649,13 +649,13 @@ module _ {Known : Knows} (g : Lived) (here : IsLifeInForm g) (i : ℕ) (its : Ev
   sent_new m c reshare (Work handed) sent = tt
 
   -- what an event's mail says of requests
-  pub mail_said : (mail : Mail U) → Brings g its (Sent mail) → Ready (asked_by mail st).inclusion
+  pub mail_said : (mail : Mail U) → Brings g its (Mailed mail) → Ready (asked_by mail st).inclusion
   mail_said mail brings = by_event its refl mail brings
     where
-      the_mail : {x y : Mail U} → ◌≡◌ {A = Message U} (Sent x) (Sent y) → y ≡ x
+      the_mail : {x y : Mail U} → ◌≡◌ {A = Message U} (Mailed x) (Mailed y) → y ≡ x
       the_mail e = cc
 
-      as_mail : (mail other : Mail U) → ◌≡◌ {A = Message U} (Sent mail) (Sent other) → Ready (asked_by other st).inclusion → Ready (asked_by mail st).inclusion
+      as_mail : (mail other : Mail U) → ◌≡◌ {A = Message U} (Mailed mail) (Mailed other) → Ready (asked_by other st).inclusion → Ready (asked_by mail st).inclusion
       as_mail mail other same ready = subst (λ (x : Mail U). Ready (asked_by x st).inclusion) (the_mail same) ready
 
       release : (height : ℕ) → its ≡ event.Release height → Ready (releases height st).inclusion
@@ -665,10 +665,10 @@ module _ {Known : Knows} (g : Lived) (here : IsLifeInForm g) (i : ℕ) (its : Ev
           by_test true = said_none (event.Release height) of (λ n. spares_release n height) (λ n. keeps_release n height) (record st.inclusion { served = None }) refl refl refl
           by_test false = said_none (event.Release height) of (λ n. spares_release n height) (λ n. keeps_release n height) st.inclusion refl refl refl
 
-      by_event : (x : Event) → its ≡ x → (mail : Mail U) → Brings g x (Sent mail) → Ready (asked_by mail st).inclusion
+      by_event : (x : Event) → its ≡ x → (mail : Mail U) → Brings g x (Mailed mail) → Ready (asked_by mail st).inclusion
       by_event (event.Peer from bytes) of mail brings =
           as_mail mail (Peer from bytes) brings (said_none (event.Peer from bytes) of (λ n. spares_peer n from bytes) (λ n. keeps_peer n from bytes) st.inclusion refl refl refl)
-      by_event (event.Final number) of mail brings = absurd (let no : ◌≡◌ {A = Message U} (Sent mail) (Finalized (brings.0).block) = brings.1 in cc)
+      by_event (event.Final number) of mail brings = absurd (let no : ◌≡◌ {A = Message U} (Mailed mail) (Finalized (brings.0).block) = brings.1 in cc)
       by_event (event.Next request height) of mail brings =
           as_mail mail (NextLog request height) brings (said_none (event.Next request height) of (λ n. spares_next n request height) (λ n. keeps_next n request height) (asked_by (NextLog request height) st).inclusion refl refl refl)
       by_event (event.Release height) of mail brings = as_mail mail (ReleaseLog height) brings (release height of)
@@ -886,29 +886,29 @@ module _ {Known : Knows} (g : Lived) (here : IsLifeInForm g) (i : ℕ) (its : Ev
         inl (unmoved (said_none g here i its is st held (event.Peer from bytes) of (λ n. spares_peer n from bytes) (λ n. keeps_peer n from bytes) mid.inclusion (ap (λ (x : Inclusion U). x.queue) same)
         (ap (λ (x : Inclusion U). x.waiter) same) (ap (λ (x : Inclusion U). x.running) same)))
     by_event (event.Final number) of message sent brings next = by_block (brings.0).block number of (sent ∙ brings.1) (subst (λ (x : Message U). IsEndThrough c any_shares st x devices mid left) brings.1 next)
-    by_event (event.Next request height) of message sent brings next = of_mail (NextLog request height) (sent ∙ brings) (subst (λ (x : Event). Brings g x (Sent (NextLog request height))) (sym of) refl)
+    by_event (event.Next request height) of message sent brings next = of_mail (NextLog request height) (sent ∙ brings) (subst (λ (x : Event). Brings g x (Mailed (NextLog request height))) (sym of) refl)
         (subst (λ (x : Message U). IsEndThrough c any_shares st x devices mid left) brings next).0
       where
-        of_mail : (mail : Mail U) → m.message ≡ Sent mail → Brings g its (Sent mail) → IsReadFrom c (asked_by mail st) mid → IsLeft ⊎ IsEmptied mid.inclusion
-        of_mail mail sent its_mail read = inl (read_on (asked_by mail st) (known_in (Sent mail) sent (asked_by mail st) refl) read (mail_said g here i its is st held mail its_mail))
+        of_mail : (mail : Mail U) → m.message ≡ Mailed mail → Brings g its (Mailed mail) → IsReadFrom c (asked_by mail st) mid → IsLeft ⊎ IsEmptied mid.inclusion
+        of_mail mail sent its_mail read = inl (read_on (asked_by mail st) (known_in (Mailed mail) sent (asked_by mail st) refl) read (mail_said g here i its is st held mail its_mail))
     by_event (event.Release height) of message sent brings next =
-        inl (read_on (asked_by (ReleaseLog height) st) (known_in (Sent (ReleaseLog height)) (sent ∙ brings) (asked_by (ReleaseLog height) st) refl) (subst (λ (x : Message U). IsEndThrough c any_shares st x devices mid left) brings next).0
-        (mail_said g here i its is st held (ReleaseLog height) (subst (λ (x : Event). Brings g x (Sent (ReleaseLog height))) (sym of) refl)))
+        inl (read_on (asked_by (ReleaseLog height) st) (known_in (Mailed (ReleaseLog height)) (sent ∙ brings) (asked_by (ReleaseLog height) st) refl) (subst (λ (x : Message U). IsEndThrough c any_shares st x devices mid left) brings next).0
+        (mail_said g here i its is st held (ReleaseLog height) (subst (λ (x : Event). Brings g x (Mailed (ReleaseLog height))) (sym of) refl)))
     by_event (event.Info request) of message sent brings next =
-        inl (read_on (asked_by (EpochInfoOf request) st) (known_in (Sent (EpochInfoOf request)) (sent ∙ brings) (asked_by (EpochInfoOf request) st) refl) (subst (λ (x : Message U). IsEndThrough c any_shares st x devices mid left) brings next).0
-        (mail_said g here i its is st held (EpochInfoOf request) (subst (λ (x : Event). Brings g x (Sent (EpochInfoOf request))) (sym of) refl)))
+        inl (read_on (asked_by (EpochInfoOf request) st) (known_in (Mailed (EpochInfoOf request)) (sent ∙ brings) (asked_by (EpochInfoOf request) st) refl) (subst (λ (x : Message U). IsEndThrough c any_shares st x devices mid left) brings next).0
+        (mail_said g here i its is st held (EpochInfoOf request) (subst (λ (x : Event). Brings g x (Mailed (EpochInfoOf request))) (sym of) refl)))
     by_event (event.Feed request number) of message sent brings next =
-        inl (read_on (asked_by (Feed request (brings.0).block) st) (known_in (Sent (Feed request (brings.0).block)) (sent ∙ brings.1) (asked_by (Feed request (brings.0).block) st) refl) (subst (λ (x : Message U). IsEndThrough c any_shares st x devices mid left) brings.1 next).0
-        (mail_said g here i its is st held (Feed request (brings.0).block) (subst (λ (x : Event). Brings g x (Sent (Feed request (brings.0).block))) (sym of) (brings.0, refl))))
+        inl (read_on (asked_by (Feed request (brings.0).block) st) (known_in (Mailed (Feed request (brings.0).block)) (sent ∙ brings.1) (asked_by (Feed request (brings.0).block) st) refl) (subst (λ (x : Message U). IsEndThrough c any_shares st x devices mid left) brings.1 next).0
+        (mail_said g here i its is st held (Feed request (brings.0).block) (subst (λ (x : Event). Brings g x (Mailed (Feed request (brings.0).block))) (sym of) (brings.0, refl))))
     by_event (event.Over request) of message sent brings next =
-        inl (read_on (asked_by (Over request) st) (known_in (Sent (Over request)) (sent ∙ brings) (asked_by (Over request) st) refl) (subst (λ (x : Message U). IsEndThrough c any_shares st x devices mid left) brings next).0
-        (mail_said g here i its is st held (Over request) (subst (λ (x : Event). Brings g x (Sent (Over request))) (sym of) refl)))
+        inl (read_on (asked_by (Over request) st) (known_in (Mailed (Over request)) (sent ∙ brings) (asked_by (Over request) st) refl) (subst (λ (x : Message U). IsEndThrough c any_shares st x devices mid left) brings next).0
+        (mail_said g here i its is st held (Over request) (subst (λ (x : Event). Brings g x (Mailed (Over request))) (sym of) refl)))
     by_event (event.Cancel request) of message sent brings next =
-        inl (read_on (asked_by (Cancel request) st) (known_in (Sent (Cancel request)) (sent ∙ brings) (asked_by (Cancel request) st) refl) (subst (λ (x : Message U). IsEndThrough c any_shares st x devices mid left) brings next).0
-        (mail_said g here i its is st held (Cancel request) (subst (λ (x : Event). Brings g x (Sent (Cancel request))) (sym of) refl)))
+        inl (read_on (asked_by (Cancel request) st) (known_in (Mailed (Cancel request)) (sent ∙ brings) (asked_by (Cancel request) st) refl) (subst (λ (x : Message U). IsEndThrough c any_shares st x devices mid left) brings next).0
+        (mail_said g here i its is st held (Cancel request) (subst (λ (x : Event). Brings g x (Mailed (Cancel request))) (sym of) refl)))
     by_event event.Work of message sent brings next =
-        inl (read_on (asked_by (Work None) st) (known_in (Sent (Work None)) (sent ∙ brings) (asked_by (Work None) st) refl) (subst (λ (x : Message U). IsEndThrough c any_shares st x devices mid left) brings next).0
-        (mail_said g here i its is st held (Work None) (subst (λ (x : Event). Brings g x (Sent (Work None))) (sym of) refl)))
+        inl (read_on (asked_by (Work None) st) (known_in (Mailed (Work None)) (sent ∙ brings) (asked_by (Work None) st) refl) (subst (λ (x : Message U). IsEndThrough c any_shares st x devices mid left) brings next).0
+        (mail_said g here i its is st held (Work None) (subst (λ (x : Event). Brings g x (Mailed (Work None))) (sym of) refl)))
     by_event other of message sent brings next = absurd brings
 
   none_now : mid.inclusion.queue ≡ [] → mid.inclusion.waiter ≡ None → AreReady g Known (epoch_by g (suc i)) (suc i) mid.participation.round mid.inclusion
@@ -981,14 +981,14 @@ module _ {Known : Knows} (g : Lived) (here : IsLifeInForm g) (i : ℕ) (its : Ev
 
         by_message : (message : Message U) → m.message ≡ message → IsEndThrough c any_shares st message devices mid left → IsApart end.inclusion
         by_message (Finalized b) is its_end = block_apart b is its_end
-        by_message (Sent (Peer from bytes)) is its_end = unread (heard_same c st from mid its_end)
-        by_message (Sent (NextLog request height)) is its_end = sent (Sent (NextLog request height)) is tt
-        by_message (Sent (ReleaseLog height)) is its_end = sent (Sent (ReleaseLog height)) is tt
-        by_message (Sent (EpochInfoOf request)) is its_end = sent (Sent (EpochInfoOf request)) is tt
-        by_message (Sent (Feed request b)) is its_end = sent (Sent (Feed request b)) is tt
-        by_message (Sent (Over request)) is its_end = sent (Sent (Over request)) is tt
-        by_message (Sent (Cancel request)) is its_end = sent (Sent (Cancel request)) is tt
-        by_message (Sent (Work handed)) is its_end = sent (Sent (Work handed)) is tt
+        by_message (Mailed (Peer from bytes)) is its_end = unread (heard_same c st from mid its_end)
+        by_message (Mailed (NextLog request height)) is its_end = sent (Mailed (NextLog request height)) is tt
+        by_message (Mailed (ReleaseLog height)) is its_end = sent (Mailed (ReleaseLog height)) is tt
+        by_message (Mailed (EpochInfoOf request)) is its_end = sent (Mailed (EpochInfoOf request)) is tt
+        by_message (Mailed (Feed request b)) is its_end = sent (Mailed (Feed request b)) is tt
+        by_message (Mailed (Over request)) is its_end = sent (Mailed (Over request)) is tt
+        by_message (Mailed (Cancel request)) is its_end = sent (Mailed (Cancel request)) is tt
+        by_message (Mailed (Work handed)) is its_end = sent (Mailed (Work handed)) is tt
 
   -- the requests that are left are held so, where their numbers are apart
   pub step_held : IsApart end.inclusion → AreHeld g Known (suc i) end

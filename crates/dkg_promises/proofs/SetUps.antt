@@ -41,7 +41,7 @@ use Rattle.dkg_store.specs.Acts.{Changes, Held, OnDisk, Operation}
 use Rattle.dkg_core.specs.Behind.{IsAside, IsSameBeside, OnlySays, event_of}
 use Rattle.dkg_core.specs.Blocks as b
 use Rattle.dkg_core.specs.Core.{begun_life, opening, opens_in, step}
-use Rattle.dkg_core.specs.Courses.{Ask, Call, Course, Do, Goes, Say, Stops, bind, under}
+use Rattle.dkg_core.specs.Courses.{Ask, CallOutside, Course, Do, Goes, Say, Stops, bind, under}
 use Rattle.dkg_core.specs.Dealing as d
 use Rattle.dkg_core.specs.Endings.{validity}
 use Rattle.dkg_core.specs.Entering.{acked_at, asks_again, takes_delivered}
@@ -50,7 +50,7 @@ use Rattle.dkg_core.specs.Forms.{Applied, IsForm, Judged, Passed, judged_block}
 use Rattle.dkg_laws.specs.Idle.{IsAskedLine}
 use Rattle.dkg_core.specs.Including as i
 use Rattle.dkg_core.specs.Including.{Continuation, cached_for}
-use Rattle.dkg_core.specs.Live.{Artifact, Deals, Dealer, Ends, Faulted, Finalized, Follows, GaveNone, Includes, Job, Live, NodeStop, Peer, Plays, Request, Seat, Sent, Stage, Verified, VerifiedLogs, Watches, awaited_height, is_last_height, records_of_epoch, phase_of, recorded_at, with_participation, with_queue, with_tip, with_told}
+use Rattle.dkg_core.specs.Live.{Artifact, Deals, Dealer, Ends, Faulted, Finalized, Follows, GaveNone, Includes, Job, Live, NodeStop, Peer, Plays, Request, Seat, Mailed, Stage, Verified, VerifiedLogs, Watches, awaited_height, is_last_height, records_of_epoch, phase_of, recorded_at, with_participation, with_queue, with_tip, with_told}
 use Rattle.dkg_core.specs.Logs.{canonical, is_accepted, carried_log_event, logs_of}
 use Rattle.dkg_core.specs.Node.{kept_material, node_opening, node_step, unless_once}
 use Rattle.dkg_core.specs.Plans as p
@@ -60,7 +60,7 @@ use Rattle.dkg_core.specs.Sources.{Tip, startup}
 use Rattle.dkg_core.proofs.Applied.{judged_is}
 use Rattle.dkg_core.proofs.Behind.{block_aside, heard_aside, opened_aside}
 use Rattle.dkg_laws.proofs.Idle as idle
-use Rattle.dkg_promises.specs.SharesStand.{Plays as PartPlays, WasSetUp, is_set_up}
+use Rattle.dkg_promises.specs.SharesStand.{PartPlays, WasSetUp, is_set_up}
 use Rattle.dkg_lives.proofs.HalfLines as halves
 
 -- THE LAST SETUP of some lines
@@ -167,7 +167,7 @@ spares_keeps x (OnDisk op) is = refl
 abbrev pub IsQuiet : {Dir F S : Type 0} → Course Dir F S → Type 0
 IsQuiet (Say line course) = IsPlain line × IsQuiet course
 IsQuiet (Do op course) = Spares op × IsQuiet course
-IsQuiet (Call outer course) = IsQuiet course
+IsQuiet (CallOutside outer course) = IsQuiet course
 IsQuiet (Ask f) = (h : Held) → IsQuiet (f h)
 IsQuiet (Goes end) = Unit {0}
 IsQuiet (Stops fault) = Unit {0}
@@ -183,7 +183,7 @@ quiet_option f (Some a) none some without = some a
 quiet_behind : {Dir F S T : Type 0} (course : Course Dir F S) (next : S → Course Dir F T) → IsQuiet course → ((end : S) → IsQuiet (next end)) → IsQuiet (bind course next)
 quiet_behind (Say line course) next so more = (so.0, quiet_behind course next so.1 more)
 quiet_behind (Do op course) next so more = (so.0, quiet_behind course next so.1 more)
-quiet_behind (Call outer course) next so more = quiet_behind course next so more
+quiet_behind (CallOutside outer course) next so more = quiet_behind course next so more
 quiet_behind (Ask f) next so more = λ h. quiet_behind (f h) next (so h) more
 quiet_behind (Goes end) next so more = more end
 quiet_behind (Stops fault) next so more = tt
@@ -191,7 +191,7 @@ quiet_behind (Stops fault) next so more = tt
 quiet_under : {Dir F G S : Type 0} (name : F → G) (course : Course Dir F S) → IsQuiet course → IsQuiet (under name course)
 quiet_under name (Say line course) so = (so.0, quiet_under name course so.1)
 quiet_under name (Do op course) so = (so.0, quiet_under name course so.1)
-quiet_under name (Call outer course) so = quiet_under name course so
+quiet_under name (CallOutside outer course) so = quiet_under name course so
 quiet_under name (Ask f) so = λ h. quiet_under name (f h) (so h)
 quiet_under name (Goes end) so = tt
 quiet_under name (Stops fault) so = tt
@@ -200,7 +200,7 @@ quiet_under name (Stops fault) so = tt
 quiet_only : {Dir F S : Type 0} (L : Entry → Type 0) (Q : S → Type 0) (course : Course Dir F S) → ((line : Entry) → L line → IsPlain line) → OnlySays L Q course → IsQuiet course
 quiet_only L Q (Say line course) so only = (so line only.0, quiet_only L Q course so only.1)
 quiet_only L Q (Do op course) so only = absurd only
-quiet_only L Q (Call outer course) so only = quiet_only L Q course so only
+quiet_only L Q (CallOutside outer course) so only = quiet_only L Q course so only
 quiet_only L Q (Ask f) so only = λ h. quiet_only L Q (f h) so (only h)
 quiet_only L Q (Goes end) so only = tt
 quiet_only L Q (Stops fault) so only = tt
@@ -208,7 +208,7 @@ quiet_only L Q (Stops fault) so only = tt
 quiet_both : {Dir F S : Type 0} (L : Entry → Type 0) (Q : S → Type 0) (course : Course Dir F S) → SaysSo IsPlain course → OnlySays L Q course → IsQuiet course
 quiet_both L Q (Say line course) so only = (so.0, quiet_both L Q course so.1 only.1)
 quiet_both L Q (Do op course) so only = absurd only
-quiet_both L Q (Call outer course) so only = quiet_both L Q course so only
+quiet_both L Q (CallOutside outer course) so only = quiet_both L Q course so only
 quiet_both L Q (Ask f) so only = λ h. quiet_both L Q (f h) (so h) (only h)
 quiet_both L Q (Goes end) so only = tt
 quiet_both L Q (Stops fault) so only = tt
@@ -231,7 +231,7 @@ module _ (Into : ℕ → Type 0) (most : ℕ) (At : Option (ℕ × Part) → Typ
   abbrev pub LeadsTo : {Dir F S : Type 0} → (goes : Telling → S → Type 0) → Telling → Course Dir F S → Type 0
   LeadsTo goes x (Say line course) = MaySay Into At x line × LeadsTo goes (after_line x line) course
   LeadsTo goes x (Do op course) = MayDo x op × LeadsTo goes (after_op x op) course
-  LeadsTo goes x (Call outer course) = LeadsTo goes x course
+  LeadsTo goes x (CallOutside outer course) = LeadsTo goes x course
   LeadsTo goes x (Ask f) = (h : Held) → LeadsTo goes x (f h)
   LeadsTo goes x (Goes end) = goes x end
   LeadsTo goes x (Stops fault) = Unit {0}
@@ -251,7 +251,7 @@ module _ (Into : ℕ → Type 0) (most : ℕ) (At : Option (ℕ × Part) → Typ
       (plain_said Into At x line so.0, subst (λ (y : Telling). LeadsTo goes y (bind course next)) (sym (plain_keeps x line so.0)) (leads_behind goes x course next so.1 more))
   leads_behind goes x (Do op course) next so more =
       (spares_may x op so.0, subst (λ (y : Telling). LeadsTo goes y (bind course next)) (sym (spares_keeps x op so.0)) (leads_behind goes x course next so.1 more))
-  leads_behind goes x (Call outer course) next so more = leads_behind goes x course next so more
+  leads_behind goes x (CallOutside outer course) next so more = leads_behind goes x course next so more
   leads_behind goes x (Ask f) next so more = λ h. leads_behind goes x (f h) next (so h) more
   leads_behind goes x (Goes end) next so more = more end
   leads_behind goes x (Stops fault) next so more = tt
@@ -261,7 +261,7 @@ module _ (Into : ℕ → Type 0) (most : ℕ) (At : Option (ℕ × Part) → Typ
       → ((x : Telling) (end : S) → goes x end → LeadsTo goes_on x (next end)) → LeadsTo goes_on x (bind course next)
   leads_then goes goes_on x (Say line course) next so more = (so.0, leads_then goes goes_on (after_line x line) course next so.1 more)
   leads_then goes goes_on x (Do op course) next so more = (so.0, leads_then goes goes_on (after_op x op) course next so.1 more)
-  leads_then goes goes_on x (Call outer course) next so more = leads_then goes goes_on x course next so more
+  leads_then goes goes_on x (CallOutside outer course) next so more = leads_then goes goes_on x course next so more
   leads_then goes goes_on x (Ask f) next so more = λ h. leads_then goes goes_on x (f h) next (so h) more
   leads_then goes goes_on x (Goes end) next so more = more x end so
   leads_then goes goes_on x (Stops fault) next so more = tt
@@ -269,7 +269,7 @@ module _ (Into : ℕ → Type 0) (most : ℕ) (At : Option (ℕ × Part) → Typ
   leads_under : {Dir F G S : Type 0} (goes : Telling → S → Type 0) (name : F → G) (x : Telling) (course : Course Dir F S) → LeadsTo goes x course → LeadsTo goes x (under name course)
   leads_under goes name x (Say line course) so = (so.0, leads_under goes name (after_line x line) course so.1)
   leads_under goes name x (Do op course) so = (so.0, leads_under goes name (after_op x op) course so.1)
-  leads_under goes name x (Call outer course) so = leads_under goes name x course so
+  leads_under goes name x (CallOutside outer course) so = leads_under goes name x course so
   leads_under goes name x (Ask f) so = λ h. leads_under goes name x (f h) (so h)
   leads_under goes name x (Goes end) so = so
   leads_under goes name x (Stops fault) so = tt
@@ -279,7 +279,7 @@ module _ (Into : ℕ → Type 0) (most : ℕ) (At : Option (ℕ × Part) → Typ
   quiet_leads goes L Q x (Say line course) so only more =
       (plain_said Into At x line so.0, subst (λ (y : Telling). LeadsTo goes y course) (sym (plain_keeps x line so.0)) (quiet_leads goes L Q x course so.1 only.1 more))
   quiet_leads goes L Q x (Do op course) so only more = absurd only
-  quiet_leads goes L Q x (Call outer course) so only more = quiet_leads goes L Q x course so only more
+  quiet_leads goes L Q x (CallOutside outer course) so only more = quiet_leads goes L Q x course so only more
   quiet_leads goes L Q x (Ask f) so only more = λ h. quiet_leads goes L Q x (f h) (so h) (only h) more
   quiet_leads goes L Q x (Goes end) so only more = more end only
   quiet_leads goes L Q x (Stops fault) so only more = tt
@@ -697,7 +697,7 @@ module _ {Dir : Type 0} (c : Fixed Dir) where
       (λ now. halves_quiet now (unless_once c (bind (takes_delivered c block now) (λ left. acked_at block.height left.answer left.live)) (Say (Acked block.height) (Goes now)))
       (halves.behind_block c IsPlain (λ epoch. tt) tt (λ height. tt) block now) (block_aside c block now))
 
-  pub peer_quiet : (from : ℕ) (bytes : List ℕ) (st : Live Dir) → IsQuiet (node_step c (event_of (Sent (Peer from bytes))) st)
+  pub peer_quiet : (from : ℕ) (bytes : List ℕ) (st : Live Dir) → IsQuiet (node_step c (event_of (Mailed (Peer from bytes))) st)
   peer_quiet from bytes st =
-      quiet_behind (under Faulted (step c (Sent (Peer from bytes)) st)) (λ end. unless_once c (asks_again c end) (Goes end)) (quiet_under Faulted (step c (Sent (Peer from bytes)) st) (hears_plain from bytes st st.participation.stage))
+      quiet_behind (under Faulted (step c (Mailed (Peer from bytes)) st)) (λ end. unless_once c (asks_again c end) (Goes end)) (quiet_under Faulted (step c (Mailed (Peer from bytes)) st) (hears_plain from bytes st st.participation.stage))
       (λ now. halves_quiet now (unless_once c (asks_again c now) (Goes now)) (halves.behind_mail c IsPlain (λ epoch. tt) tt (λ height. tt) now) (heard_aside c now))

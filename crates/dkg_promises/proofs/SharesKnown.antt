@@ -44,7 +44,7 @@ use Rattle.dkg_core.specs.Same.{same_info}
 use Rattle.dkg_laws.specs.SharesMoved.{IsSuchShare}
 use Rattle.dkg_core.specs.Through.{IsCarriedOn, IsLiveThrough, IsShareTaken, IsStopThrough}
 use Rattle.dkg_core.specs.Including.{can_finish}
-use Rattle.dkg_core.specs.Live.{Artifact, Deals, Ends, Finalized, Follows, Includes, Live, Message, NodeStop, Peer, Sent, Stage, is_last_height, with_orchestrator}
+use Rattle.dkg_core.specs.Live.{Artifact, Deals, Ends, Finalized, Follows, Includes, Live, Message, NodeStop, Peer, Mailed, Stage, is_last_height, with_orchestrator}
 use Rattle.dkg_core.specs.Node.{node_opening, node_step}
 use Rattle.dkg_core.specs.Seen.{Seen}
 use Rattle.dkg_core.specs.Setup.{Uncommitted, recovered_share}
@@ -366,8 +366,8 @@ module _ (s : Setting) (cuts : List (Option CutAt)) (form : IsFormOfInclusion s.
               block_such (IsMineAt s) c b.1.block (last_serves i b.0 (is ∙ ap (λ (e : Event). Some e) b.2) reached b.1.block b.1.is) (λ ends. boundary_serves (suc i) came (epoch_of c.blocks_per_epoch (b.1.block.height + 1)))
               (mine s) (through_at g here (suc i)) st live (such_mine b.0 b.2 b.1.block b.1.is) w
               (λ h epoch found. subst (λ (x : Held). mine s epoch (lookup epoch (c.seen x).shares)) (sym found) (said_of (suc i) w.held q epoch)) q ended new (run_of (Finalized b.1.block) b.3)
-          by_kind (inr (inl p)) = message_such (IsMineAt s) c p.0 p.1 st ended w new q (run_of (Sent (Peer p.0 p.1)) p.3)
-          by_kind (inr (inr o)) = same_shares (IsMineAt s) w.held new.held (ap (λ (h : Held). h.secrets.shares) (idle_held c o.0 o.2 st ended w new active (run_of (Sent o.0) o.1))) q
+          by_kind (inr (inl p)) = message_such (IsMineAt s) c p.0 p.1 st ended w new q (run_of (Mailed (Peer p.0 p.1)) p.3)
+          by_kind (inr (inr o)) = same_shares (IsMineAt s) w.held new.held (ap (λ (h : Held). h.secrets.shares) (idle_held c o.0 o.2 st ended w new active (run_of (Mailed o.0) o.1))) q
 
       -- .. and what it leaves fits
       known_behind : (devices left : Option Held) (end : Live directory.Unit) → IsNodeThrough c (mine s) st m.message devices end left → (round : Round) → end.participation.round ≡ Some round
@@ -391,7 +391,7 @@ module _ (s : Setting) (cuts : List (Option CutAt)) (form : IsFormOfInclusion s.
               the_block e = cc
 
               by_brought : BringsBlock g its m.message ⊎ BringsMail its m.message → IsSomeAnd node.mid.participation.current (IsScripts s)
-              by_brought (inr mail) = absurd (let wrong : ◌≡◌ {A = Message directory.Unit} (Sent mail.0) (Finalized over.block) = sym mail.1 ∙ over.is in cc)
+              by_brought (inr mail) = absurd (let wrong : ◌≡◌ {A = Message directory.Unit} (Mailed mail.0) (Finalized over.block) = sym mail.1 ∙ over.is in cc)
               by_brought (inl b) = subst (λ (o : Option (EpochInfo directory.Unit)). IsSomeAnd o (IsScripts s)) (sym current)
                   (last_known i b.0 (is ∙ ap (λ (e : Event). Some e) b.2) reached over.block (b.1.is ∙ ap (λ (x : made.Block directory.Unit). Some x) (the_block (sym b.3 ∙ over.is))) over.last on.info on.carried on.of_next)
 

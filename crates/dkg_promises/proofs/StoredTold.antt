@@ -18,7 +18,7 @@ use Rattle.dkg_infos.specs.declared.entry.Entry.{Entry}
 use Rattle.dkg_infos.specs.declared.entry.Entry.TheVariants.{Committed, Opened, Setup}
 use Rattle.dkg_infos.specs.declared.entry.Part.{Part}
 use Rattle.dkg_store.specs.Acts.{Cause, Changes, Ended, OnDisk, Operation, Tears, World, broken, does, says, stopped, went}
-use Rattle.dkg_core.specs.Courses.{Ask, Call, Course, Do, EndsSo, Goes, Say, Stops}
+use Rattle.dkg_core.specs.Courses.{Ask, CallOutside, Course, Do, EndsSo, Goes, Say, Stops}
 use Rattle.dkg_promises.proofs.SetUps.{IsQuiet, LeadsTo, MayDo, MaySay, Telling, after_line, after_op, last_line, plain_keeps, plain_said, set_up_last, spares_keeps, spares_may}
 
 none_some : {A : Type 0} {x : A} → ◌≡◌ {A = Option A} None (Some x) → ⊥
@@ -250,9 +250,9 @@ module _ (Into : ℕ → Type 0) (most : ℕ) (At : Option (ℕ × Part) → Typ
     run_stores (Do op course) (stopped fault) w new x leads its run = run_stores course (stopped fault) (does w op) new (after_op x op) leads.1 (does_stores w x op leads.0 its) run
     run_stores (Do op course) (broken cause) w new x leads its (inl torn) = torn_stores cause w new x op leads.0 torn its
     run_stores (Do op course) (broken cause) w new x leads its (inr run) = run_stores course (broken cause) (does w op) new (after_op x op) leads.1 (does_stores w x op leads.0 its) run
-    run_stores (Call outer course) (went end) w new x leads its run = run_stores course (went end) w new x leads its run
-    run_stores (Call outer course) (stopped fault) w new x leads its run = run_stores course (stopped fault) w new x leads its run
-    run_stores (Call outer course) (broken cause) w new x leads its run = run_stores course (broken cause) w new x leads its run
+    run_stores (CallOutside outer course) (went end) w new x leads its run = run_stores course (went end) w new x leads its run
+    run_stores (CallOutside outer course) (stopped fault) w new x leads its run = run_stores course (stopped fault) w new x leads its run
+    run_stores (CallOutside outer course) (broken cause) w new x leads its run = run_stores course (broken cause) w new x leads its run
     run_stores (Ask f) (went end) w new x leads its run = run_stores (f w.held) (went end) w new x (leads w.held) its run
     run_stores (Ask f) (stopped fault) w new x leads its run = run_stores (f w.held) (stopped fault) w new x (leads w.held) its run
     run_stores (Ask f) (broken cause) w new x leads its run = run_stores (f w.held) (broken cause) w new x (leads w.held) its run
@@ -270,7 +270,7 @@ quiet_to {Dir} {F} {S} Into most At x course so = by_course course x refl so
     by_course : (course : Course Dir F S) (y : Telling) → y ≡ x → IsQuiet course → LeadsTo Into most At (λ z end. z ≡ x) y course
     by_course (Say line course) y same so = (plain_said Into At y line so.0, by_course course (after_line y line) (plain_keeps y line so.0 ∙ same) so.1)
     by_course (Do op course) y same so = (spares_may Into most At y op so.0, by_course course (after_op y op) (spares_keeps y op so.0 ∙ same) so.1)
-    by_course (Call outer course) y same so = by_course course y same so
+    by_course (CallOutside outer course) y same so = by_course course y same so
     by_course (Ask f) y same so = λ h. by_course (f h) y same (so h)
     by_course (Goes end) y same so = same
     by_course (Stops fault) y same so = tt

@@ -25,7 +25,7 @@ use Rattle.dkg_core.specs.Forms.{Applied, Judged, Passed, Refusal, judged_block}
 use Rattle.dkg_core.specs.Including.{changed, is_served_at, releases}
 use Rattle.dkg_core.specs.Laws.{IsAmong}
 use Rattle.dkg_core.specs.Live as core
-use Rattle.dkg_core.specs.Live.{Cancel, Deals, Ends, EpochInfoOf, Feed, Finalized, Follows, Inclusion, Includes, Job, Live, Mail, Message, NextLog, NodeStop, Over, Peer, ReleaseLog, Request, Sent, Stage, Work, is_last_height, with_inclusion}
+use Rattle.dkg_core.specs.Live.{Cancel, Deals, Ends, EpochInfoOf, Feed, Finalized, Follows, Inclusion, Includes, Job, Live, Mail, Message, NextLog, NodeStop, Over, Peer, ReleaseLog, Request, Mailed, Stage, Work, is_last_height, with_inclusion}
 use Rattle.dkg_core.specs.Logs.{canonical, filled_by}
 use Rattle.dkg_core.specs.Node.{node_step}
 use Rattle.dkg_laws.specs.NodeSaying.{IsHalfLine}
@@ -39,7 +39,7 @@ use Rattle.dkg_laws.proofs.NodeSaying.{node_steps_say_through}
 use Rattle.dkg_core.proofs.Splitting.{came_to}
 use Rattle.dkg_core.proofs.StepDealing as dealing
 use Rattle.dkg_promises.specs.Answers.{IsAnsweredSo, IsAskedFor}
-use Rattle.dkg_lives.specs.Asks.{RequestStanding, Unmade, Open, Closed, Cancelled, IsUncancelled, WereAsked, request_standing, turns}
+use Rattle.dkg_lives.specs.Asks.{RequestStanding, Unmade, Open, FullyFed, Cancelled, IsUncancelled, WereAsked, request_standing, turns}
 use Rattle.dkg_lives.specs.Blamed.{tip_in}
 use Rattle.dkg_lives.specs.Epochs.{IsLifeInForm, StandsInScript, any_shares, epoch_by}
 use Rattle.dkg_lives.specs.Given.{Lived, at_step}
@@ -198,7 +198,7 @@ turn_made : (n : ℕ) (s : RequestStanding) (x : Event) → IsMade s → IsMade 
 turn_made n Unmade x made = absurd made
 turn_made n Open (event.Over number) made = by_test (number == n)
   where
-    by_test : (t : Bool) → IsMade (if t then Closed else Open)
+    by_test : (t : Bool) → IsMade (if t then FullyFed else Open)
     by_test true = tt
     by_test false = tt
 turn_made n Open (event.Cancel number) made = by_test (number == n)
@@ -207,12 +207,12 @@ turn_made n Open (event.Cancel number) made = by_test (number == n)
     by_test true = tt
     by_test false = tt
 turn_made n Open x made = tt
-turn_made n Closed (event.Cancel number) made = by_test (number == n)
+turn_made n FullyFed (event.Cancel number) made = by_test (number == n)
   where
-    by_test : (t : Bool) → IsMade (if t then Cancelled else Closed)
+    by_test : (t : Bool) → IsMade (if t then Cancelled else FullyFed)
     by_test true = tt
     by_test false = tt
-turn_made n Closed x made = tt
+turn_made n FullyFed x made = tt
 turn_made n Cancelled x made = tt
 
 stays_made : (n : ℕ) (s : RequestStanding) (es : List Event) → IsMade s → IsMade (fold (turns n) s es)
@@ -225,7 +225,7 @@ info_made n Unmade = subst IsMade (sym (ap (λ (t : Bool). if t then Open else U
     itself : (a : ℕ) → (a == a) ≡ true
     itself a = grind (arith, nat_tests)
 info_made n Open = tt
-info_made n Closed = tt
+info_made n FullyFed = tt
 info_made n Cancelled = tt
 
 stands_made : (n : ℕ) (s : RequestStanding) (events : List Event) (at i : ℕ) → at < i → slice_get events at ≡ Some (event.Info n) → IsMade (fold (turns n) s (take i events))
@@ -239,19 +239,19 @@ among_right x [] ys among = among
 among_right x (y ∷ xs) ys among = inr (among_right x xs ys among)
 
 -- the event that sends a cancel
-sends_cancel : (g : Lived) (x : Event) (number : ℕ) → Brings g x (Sent (Cancel number)) → x ≡ event.Cancel number
+sends_cancel : (g : Lived) (x : Event) (number : ℕ) → Brings g x (Mailed (Cancel number)) → x ≡ event.Cancel number
 sends_cancel g (event.Cancel request) number brings = ap event.Cancel (sym (the_number brings))
   where
-    the_number : {a b : ℕ} → ◌≡◌ {A = Message U} (Sent (Cancel a)) (Sent (Cancel b)) → a ≡ b
+    the_number : {a b : ℕ} → ◌≡◌ {A = Message U} (Mailed (Cancel a)) (Mailed (Cancel b)) → a ≡ b
     the_number e = cc
-sends_cancel g (event.Info request) number brings = absurd (let no : ◌≡◌ {A = Message U} (Sent (Cancel number)) (Sent (EpochInfoOf request)) = brings in cc)
-sends_cancel g (event.Peer from bytes) number brings = absurd (let no : ◌≡◌ {A = Message U} (Sent (Cancel number)) (Sent (Peer from bytes)) = brings in cc)
-sends_cancel g (event.Final block) number brings = absurd (let no : ◌≡◌ {A = Message U} (Sent (Cancel number)) (Finalized (brings.0).block) = brings.1 in cc)
-sends_cancel g (event.Next request height) number brings = absurd (let no : ◌≡◌ {A = Message U} (Sent (Cancel number)) (Sent (NextLog request height)) = brings in cc)
-sends_cancel g (event.Release height) number brings = absurd (let no : ◌≡◌ {A = Message U} (Sent (Cancel number)) (Sent (ReleaseLog height)) = brings in cc)
-sends_cancel g (event.Feed request block) number brings = absurd (let no : ◌≡◌ {A = Message U} (Sent (Cancel number)) (Sent (Feed request (brings.0).block)) = brings.1 in cc)
-sends_cancel g (event.Over request) number brings = absurd (let no : ◌≡◌ {A = Message U} (Sent (Cancel number)) (Sent (Over request)) = brings in cc)
-sends_cancel g event.Work number brings = absurd (let no : ◌≡◌ {A = Message U} (Sent (Cancel number)) (Sent (Work None)) = brings in cc)
+sends_cancel g (event.Info request) number brings = absurd (let no : ◌≡◌ {A = Message U} (Mailed (Cancel number)) (Mailed (EpochInfoOf request)) = brings in cc)
+sends_cancel g (event.Peer from bytes) number brings = absurd (let no : ◌≡◌ {A = Message U} (Mailed (Cancel number)) (Mailed (Peer from bytes)) = brings in cc)
+sends_cancel g (event.Final block) number brings = absurd (let no : ◌≡◌ {A = Message U} (Mailed (Cancel number)) (Finalized (brings.0).block) = brings.1 in cc)
+sends_cancel g (event.Next request height) number brings = absurd (let no : ◌≡◌ {A = Message U} (Mailed (Cancel number)) (Mailed (NextLog request height)) = brings in cc)
+sends_cancel g (event.Release height) number brings = absurd (let no : ◌≡◌ {A = Message U} (Mailed (Cancel number)) (Mailed (ReleaseLog height)) = brings in cc)
+sends_cancel g (event.Feed request block) number brings = absurd (let no : ◌≡◌ {A = Message U} (Mailed (Cancel number)) (Mailed (Feed request (brings.0).block)) = brings.1 in cc)
+sends_cancel g (event.Over request) number brings = absurd (let no : ◌≡◌ {A = Message U} (Mailed (Cancel number)) (Mailed (Over request)) = brings in cc)
+sends_cancel g event.Work number brings = absurd (let no : ◌≡◌ {A = Message U} (Mailed (Cancel number)) (Mailed (Work None)) = brings in cc)
 sends_cancel g other number brings = absurd brings
 
 -- one event makes the request
@@ -307,33 +307,33 @@ module _ (g : Lived) (here : IsLifeInForm g) (i : ℕ) (its : Event) (is : slice
     where
       by_message : (message : Message U) → m.message ≡ message → IsApart (Before st message).inclusion
       by_message (Finalized b) sent = held.apart
-      by_message (Sent (Peer from bytes)) sent = held.apart
-      by_message (Sent (NextLog request height)) sent = held.apart
-      by_message (Sent (ReleaseLog height)) sent = held.apart
-      by_message (Sent (EpochInfoOf request)) sent = let new : IsNewOne c reshare st (EpochInfoOf request) = sent_new g here i its is st held m c reshare (EpochInfoOf request) sent in queued_apart c reshare st held.apart request new.0 new.1
-      by_message (Sent (Feed request b)) sent = held.apart
-      by_message (Sent (Over request)) sent = held.apart
-      by_message (Sent (Cancel request)) sent = cancelled_apart request st held.apart
-      by_message (Sent (Work handed)) sent = held.apart
+      by_message (Mailed (Peer from bytes)) sent = held.apart
+      by_message (Mailed (NextLog request height)) sent = held.apart
+      by_message (Mailed (ReleaseLog height)) sent = held.apart
+      by_message (Mailed (EpochInfoOf request)) sent = let new : IsNewOne c reshare st (EpochInfoOf request) = sent_new g here i its is st held m c reshare (EpochInfoOf request) sent in queued_apart c reshare st held.apart request new.0 new.1
+      by_message (Mailed (Feed request b)) sent = held.apart
+      by_message (Mailed (Over request)) sent = held.apart
+      by_message (Mailed (Cancel request)) sent = cancelled_apart request st held.apart
+      by_message (Mailed (Work handed)) sent = held.apart
 
   before_idle : before.inclusion.running ≡ None → before.inclusion.waiter ≡ None
   before_idle = by_message m.message
     where
       by_message : (message : Message U) → (Before st message).inclusion.running ≡ None → (Before st message).inclusion.waiter ≡ None
       by_message (Finalized b) none = live.asked.has.waits none
-      by_message (Sent (Peer from bytes)) none = live.asked.has.waits none
-      by_message (Sent (NextLog request height)) none = live.asked.has.waits none
-      by_message (Sent (ReleaseLog height)) none = live.asked.has.waits none
-      by_message (Sent (EpochInfoOf request)) none = live.asked.has.waits none
-      by_message (Sent (Feed request block)) none = live.asked.has.waits none
-      by_message (Sent (Over request)) none = live.asked.has.waits none
-      by_message (Sent (Cancel request)) none = by_test (waits_for request st) none
+      by_message (Mailed (Peer from bytes)) none = live.asked.has.waits none
+      by_message (Mailed (NextLog request height)) none = live.asked.has.waits none
+      by_message (Mailed (ReleaseLog height)) none = live.asked.has.waits none
+      by_message (Mailed (EpochInfoOf request)) none = live.asked.has.waits none
+      by_message (Mailed (Feed request block)) none = live.asked.has.waits none
+      by_message (Mailed (Over request)) none = live.asked.has.waits none
+      by_message (Mailed (Cancel request)) none = by_test (waits_for request st) none
         where
           by_test : (t : Bool) → (if t then with_inclusion (record st.inclusion { waiter = None }) st else core.with_queue (filter (λ r. not (r.number == request)) st.inclusion.queue) st).inclusion.running ≡ None
               → (if t then with_inclusion (record st.inclusion { waiter = None }) st else core.with_queue (filter (λ r. not (r.number == request)) st.inclusion.queue) st).inclusion.waiter ≡ None
           by_test true idle = refl
           by_test false idle = live.asked.has.waits idle
-      by_message (Sent (Work handed)) none = live.asked.has.waits none
+      by_message (Mailed (Work handed)) none = live.asked.has.waits none
 
   -- one that waits then waited before, or is a new one
   waited : (n : ℕ) → IsWaiting n before.inclusion → IsWaiting n st.inclusion ⊎ (its ≡ event.Info n)
@@ -341,20 +341,20 @@ module _ (g : Lived) (here : IsLifeInForm g) (i : ℕ) (its : Event) (is : slice
     where
       by_message : (message : Message U) → m.message ≡ message → IsWaiting n (Before st message).inclusion → IsWaiting n st.inclusion ⊎ (its ≡ event.Info n)
       by_message (Finalized b) sent waits = inl waits
-      by_message (Sent (Peer from bytes)) sent waits = inl waits
-      by_message (Sent (NextLog request height)) sent waits = inl waits
-      by_message (Sent (ReleaseLog height)) sent waits = inl waits
-      by_message (Sent (Feed request block)) sent waits = inl waits
-      by_message (Sent (Over request)) sent waits = inl waits
-      by_message (Sent (Work handed)) sent waits = inl waits
-      by_message (Sent (EpochInfoOf request)) sent (inr waits) = inl (inr waits)
-      by_message (Sent (EpochInfoOf request)) sent (inl (r, among, same)) = of_both (among_both r st.inclusion.queue (record { number = request; blocks = []; ended = false } ∷ []) among)
+      by_message (Mailed (Peer from bytes)) sent waits = inl waits
+      by_message (Mailed (NextLog request height)) sent waits = inl waits
+      by_message (Mailed (ReleaseLog height)) sent waits = inl waits
+      by_message (Mailed (Feed request block)) sent waits = inl waits
+      by_message (Mailed (Over request)) sent waits = inl waits
+      by_message (Mailed (Work handed)) sent waits = inl waits
+      by_message (Mailed (EpochInfoOf request)) sent (inr waits) = inl (inr waits)
+      by_message (Mailed (EpochInfoOf request)) sent (inl (r, among, same)) = of_both (among_both r st.inclusion.queue (record { number = request; blocks = []; ended = false } ∷ []) among)
         where
           of_both : IsAmong r st.inclusion.queue ⊎ IsAmong r (record { number = request; blocks = []; ended = false } ∷ []) → IsWaiting n st.inclusion ⊎ (its ≡ event.Info n)
           of_both (inl left) = inl (inl (r, left, same))
-          of_both (inr (inl new)) = inr (sends_info g its request (brings (Sent (EpochInfoOf request)) sent) ∙ ap event.Info (ap (λ (x : Request U). x.number) new ∙ same))
+          of_both (inr (inl new)) = inr (sends_info g its request (brings (Mailed (EpochInfoOf request)) sent) ∙ ap event.Info (ap (λ (x : Request U). x.number) new ∙ same))
           of_both (inr (inr none)) = absurd none
-      by_message (Sent (Cancel request)) sent waits = by_test (waits_for request st) waits
+      by_message (Mailed (Cancel request)) sent waits = by_test (waits_for request st) waits
         where
           by_test : (t : Bool) → IsWaiting n (if t then with_inclusion (record st.inclusion { waiter = None }) st else core.with_queue (filter (λ r. not (r.number == request)) st.inclusion.queue) st).inclusion → IsWaiting n st.inclusion ⊎ (its ≡ event.Info n)
           by_test true (inl queued) = inl (inl queued)
@@ -366,9 +366,9 @@ module _ (g : Lived) (here : IsLifeInForm g) (i : ℕ) (its : Event) (is : slice
   module _ (n : ℕ) (left_open : IsUncancelled (request_standing g.life n (suc i))) where
     waited_on : (message : Message U) → Brings g its message → IsWaiting n st.inclusion → IsWaiting n (Before st message).inclusion
     waited_on (Finalized b) brings waits = waits
-    waited_on (Sent (EpochInfoOf request)) brings (inl (r, among, same)) = inl (r, among_left r st.inclusion.queue (record { number = request; blocks = []; ended = false } ∷ []) among, same)
-    waited_on (Sent (EpochInfoOf request)) brings (inr waits) = inr waits
-    waited_on (Sent (Cancel request)) brings waits = by_test (waits_for request st) refl
+    waited_on (Mailed (EpochInfoOf request)) brings (inl (r, among, same)) = inl (r, among_left r st.inclusion.queue (record { number = request; blocks = []; ended = false } ∷ []) among, same)
+    waited_on (Mailed (EpochInfoOf request)) brings (inr waits) = inr waits
+    waited_on (Mailed (Cancel request)) brings waits = by_test (waits_for request st) refl
       where
         of : its ≡ event.Cancel request
         of = sends_cancel g its request brings
@@ -379,7 +379,7 @@ module _ (g : Lived) (here : IsLifeInForm g) (i : ℕ) (its : Event) (is : slice
             uncut : (s : RequestStanding) → IsUncancelled (turns n s (event.Cancel request)) → (request == n) ≡ true → ⊥
             uncut Unmade its_open same = its_open
             uncut Open its_open same = subst IsUncancelled (ap (λ (t : Bool). if t then Cancelled else Open) same) its_open
-            uncut Closed its_open same = subst IsUncancelled (ap (λ (t : Bool). if t then Cancelled else Closed) same) its_open
+            uncut FullyFed its_open same = subst IsUncancelled (ap (λ (t : Bool). if t then Cancelled else FullyFed) same) its_open
             uncut Cancelled its_open same = its_open
 
         waiter_other : (o : Option ℕ) → st.inclusion.waiter ≡ o → option_map_or (λ k. k == request) o false ≡ true → st.inclusion.waiter ≡ Some n → ⊥
@@ -416,12 +416,12 @@ module _ (g : Lived) (here : IsLifeInForm g) (i : ℕ) (its : Event) (is : slice
             by_waiting : IsWaiting n st.inclusion → IsWaiting n (core.with_queue (filter (λ r. not (r.number == request)) st.inclusion.queue) st).inclusion
             by_waiting (inl (r, among, same)) = inl (r, kept_among st.inclusion.queue r among same, same)
             by_waiting (inr waited) = inr waited
-    waited_on (Sent (Peer from bytes)) brings waits = waits
-    waited_on (Sent (NextLog request height)) brings waits = waits
-    waited_on (Sent (ReleaseLog height)) brings waits = waits
-    waited_on (Sent (Feed request b)) brings waits = waits
-    waited_on (Sent (Over request)) brings waits = waits
-    waited_on (Sent (Work handed)) brings waits = waits
+    waited_on (Mailed (Peer from bytes)) brings waits = waits
+    waited_on (Mailed (NextLog request height)) brings waits = waits
+    waited_on (Mailed (ReleaseLog height)) brings waits = waits
+    waited_on (Mailed (Feed request b)) brings waits = waits
+    waited_on (Mailed (Over request)) brings waits = waits
+    waited_on (Mailed (Work handed)) brings waits = waits
 
   follows_none : st.participation.stage ≡ Follows → (n : ℕ) → IsWaiting n st.inclusion → ⊥
   follows_none stage n (inl (r, among, same)) = subst (IsAmong r) (live.asked.has.none stage) among
@@ -467,8 +467,8 @@ module _ (g : Lived) (here : IsLifeInForm g) (i : ℕ) (its : Event) (is : slice
 
     -- WHERE NO EPOCH IS PASSED ON
     module _ (on : GoesOn c st m.message mid) where
-      peer_says : (from : ℕ) (bytes : List ℕ) → m.message ≡ Sent (Peer from bytes) → AllByRecursion IsUnanswered lines.lines
-      peer_says from bytes sent = none_of (λ line. IsLineThrough c any_shares st (Sent (Peer from bytes)) line ⊎ IsHalfLine line) none lines.lines
+      peer_says : (from : ℕ) (bytes : List ℕ) → m.message ≡ Mailed (Peer from bytes) → AllByRecursion IsUnanswered lines.lines
+      peer_says from bytes sent = none_of (λ line. IsLineThrough c any_shares st (Mailed (Peer from bytes)) line ⊎ IsHalfLine line) none lines.lines
           (subst (λ (x : Message U). AllByRecursion (λ line. IsLineThrough c any_shares st x line ⊎ IsHalfLine line) lines.lines) sent through)
         where
           none : (line : Entry) → IsUnasked line ⊎ IsHalfLine line → IsUnanswered line
@@ -532,14 +532,14 @@ module _ (g : Lived) (here : IsLifeInForm g) (i : ℕ) (its : Event) (is : slice
           where
             by_message : (message : Message U) → m.message ≡ message → IsEndThrough c any_shares st message None mid None → Stepped n
             by_message (Finalized b) sent its_end = block_kept b sent its_end
-            by_message (Sent (Peer from bytes)) sent its_end = still n (same_before (Sent (Peer from bytes)) sent refl) (heard_same c st from mid its_end) (peer_says from bytes sent)
-            by_message (Sent (NextLog request height)) sent its_end = by_mail (Sent (NextLog request height)) sent tt
-            by_message (Sent (ReleaseLog height)) sent its_end = by_mail (Sent (ReleaseLog height)) sent tt
-            by_message (Sent (EpochInfoOf request)) sent its_end = by_mail (Sent (EpochInfoOf request)) sent tt
-            by_message (Sent (Feed request b)) sent its_end = by_mail (Sent (Feed request b)) sent tt
-            by_message (Sent (Over request)) sent its_end = by_mail (Sent (Over request)) sent tt
-            by_message (Sent (Cancel request)) sent its_end = by_mail (Sent (Cancel request)) sent tt
-            by_message (Sent (Work handed)) sent its_end = by_mail (Sent (Work handed)) sent tt
+            by_message (Mailed (Peer from bytes)) sent its_end = still n (same_before (Mailed (Peer from bytes)) sent refl) (heard_same c st from mid its_end) (peer_says from bytes sent)
+            by_message (Mailed (NextLog request height)) sent its_end = by_mail (Mailed (NextLog request height)) sent tt
+            by_message (Mailed (ReleaseLog height)) sent its_end = by_mail (Mailed (ReleaseLog height)) sent tt
+            by_message (Mailed (EpochInfoOf request)) sent its_end = by_mail (Mailed (EpochInfoOf request)) sent tt
+            by_message (Mailed (Feed request b)) sent its_end = by_mail (Mailed (Feed request b)) sent tt
+            by_message (Mailed (Over request)) sent its_end = by_mail (Mailed (Over request)) sent tt
+            by_message (Mailed (Cancel request)) sent its_end = by_mail (Mailed (Cancel request)) sent tt
+            by_message (Mailed (Work handed)) sent its_end = by_mail (Mailed (Work handed)) sent tt
 
   -- EACH REQUEST
 
@@ -574,7 +574,7 @@ module _ (g : Lived) (here : IsLifeInForm g) (i : ℕ) (its : Event) (is : slice
           before_turn : (s : RequestStanding) → IsMade s → IsUncancelled (turns n s its) → IsUncancelled s
           before_turn Unmade made_so its_open = absurd made_so
           before_turn Open made_so its_open = tt
-          before_turn Closed made_so its_open = tt
+          before_turn FullyFed made_so its_open = tt
           before_turn Cancelled made_so its_open = its_open
 
       -- it was answered, waited, or is the event's
@@ -661,7 +661,7 @@ module _ (g : Lived) (here : IsLifeInForm g) (i : ℕ) (its : Event) (is : slice
           by_case : IsAnsweredIn n said ⊎ (IsWaiting n st.inclusion ⊎ (its ≡ event.Info n)) → IsWaiting n end.inclusion ⊎ IsAnsweredIn n said_now
           by_case (inl answered) = inr (from_said n answered)
           by_case (inr (inl waits)) = inr (from_lines n (by_stage waits over.stage))
-          by_case (inr (inr new)) = absurd (let no : ◌≡◌ {A = Message U} (Sent (EpochInfoOf n)) (Finalized over.block) = sym (subst (λ (x : Event). Brings g x m.message) new m.brings) ∙ over.is in cc)
+          by_case (inr (inr new)) = absurd (let no : ◌≡◌ {A = Message U} (Mailed (EpochInfoOf n)) (Finalized over.block) = sym (subst (λ (x : Event). Brings g x m.message) new m.brings) ∙ over.is in cc)
 
     -- WHERE REQUESTS ARE READ
 
@@ -686,7 +686,7 @@ module _ (g : Lived) (here : IsLifeInForm g) (i : ℕ) (its : Event) (is : slice
     later_order : (low : ℕ) → low ≤ i → InOrder g i low st.inclusion.queue → InOrder g (suc i) low st.inclusion.queue
     later_order low le order = order_later g i low st.inclusion.queue order
 
-    no_work : (message : Message U) → m.message ≡ message → (message ≡ Sent (Work None) → ⊥) → its ≡ event.Work → ⊥
+    no_work : (message : Message U) → m.message ≡ message → (message ≡ Mailed (Work None) → ⊥) → its ≡ event.Work → ⊥
     no_work message sent other of = other (subst (λ (x : Event). Brings g x message) of (brings message sent))
 
     -- in a life with the same requests
@@ -801,8 +801,8 @@ module _ (g : Lived) (here : IsLifeInForm g) (i : ℕ) (its : Event) (is : slice
       moved : IsMoved before
       moved = by_message m.message refl (node.next).is
         where
-          ready : (mail : Mail U) → m.message ≡ Sent mail → AreReady g untold e (suc i) st.participation.round (asked_by mail st).inclusion
-          ready mail sent = mail_said g here i its is st held mail (brings (Sent mail) sent)
+          ready : (mail : Mail U) → m.message ≡ Mailed mail → AreReady g untold e (suc i) st.participation.round (asked_by mail st).inclusion
+          ready mail sent = mail_said g here i its is st held mail (brings (Mailed mail) sent)
 
           queued_order : (request : ℕ) → its ≡ event.Info request → (low : ℕ) → low ≤ i → InOrder g i low st.inclusion.queue
               → InOrder g (suc i) low (st.inclusion.queue ++ record { number = request; blocks = []; ended = false } ∷ [])
@@ -811,35 +811,35 @@ module _ (g : Lived) (here : IsLifeInForm g) (i : ℕ) (its : Event) (is : slice
 
           of_block : (b : Block U) → m.message ≡ Finalized b → IsBlockThrough c any_shares b st None (judged_block c b st) mid None → BringsBlock g its m.message ⊎ BringsMail its m.message → IsMoved st
           of_block b sent its_end (inl (number, made, of, same)) = by_block b sent number of its_end
-          of_block b sent its_end (inr (mail, same, none)) = absurd (let no : ◌≡◌ {A = Message U} (Sent mail) (Finalized b) = sym same ∙ sent in cc)
+          of_block b sent its_end (inr (mail, same, none)) = absurd (let no : ◌≡◌ {A = Message U} (Mailed mail) (Finalized b) = sym same ∙ sent in cc)
 
           by_message : (message : Message U) → m.message ≡ message → IsEndThrough c any_shares st message None mid None → IsMoved (Before st message)
           by_message (Finalized b) sent its_end = of_block b sent its_end (brings_so g its m.message m.brings)
-          by_message (Sent (Peer from bytes)) sent its_end = inr (heard_same c st from mid its_end, refl, no_work (Sent (Peer from bytes)) sent (λ e. cc))
-          by_message (Sent (NextLog request height)) sent its_end =
-              inl (asked_by (NextLog request height) st, of_same (asked_by (NextLog request height) st) its_end.0 (ready (NextLog request height) sent) refl refl refl (no_work (Sent (NextLog request height)) sent (λ e. cc)))
-          by_message (Sent (ReleaseLog height)) sent its_end =
-              let same = released height in inl (releases height st, of_same (releases height st) its_end.0 (ready (ReleaseLog height) sent) same.0 same.1 same.2 (no_work (Sent (ReleaseLog height)) sent (λ e. cc)))
-          by_message (Sent (EpochInfoOf request)) sent its_end =
-              let order = queued_order request (sends_info g its request (brings (Sent (EpochInfoOf request)) sent)) in
+          by_message (Mailed (Peer from bytes)) sent its_end = inr (heard_same c st from mid its_end, refl, no_work (Mailed (Peer from bytes)) sent (λ e. cc))
+          by_message (Mailed (NextLog request height)) sent its_end =
+              inl (asked_by (NextLog request height) st, of_same (asked_by (NextLog request height) st) its_end.0 (ready (NextLog request height) sent) refl refl refl (no_work (Mailed (NextLog request height)) sent (λ e. cc)))
+          by_message (Mailed (ReleaseLog height)) sent its_end =
+              let same = released height in inl (releases height st, of_same (releases height st) its_end.0 (ready (ReleaseLog height) sent) same.0 same.1 same.2 (no_work (Mailed (ReleaseLog height)) sent (λ e. cc)))
+          by_message (Mailed (EpochInfoOf request)) sent its_end =
+              let order = queued_order request (sends_info g its request (brings (Mailed (EpochInfoOf request)) sent)) in
               inl (
                 asked_by (EpochInfoOf request) st,
                 record {
                   read = its_end.0;
                   ready = ready (EpochInfoOf request) sent;
                   order = order;
-                  goes_on = λ job runs. record { was = refl; other = no_work (Sent (EpochInfoOf request)) sent (λ e. cc); order = order; waiter = refl; waits = inl refl };
+                  goes_on = λ job runs. record { was = refl; other = no_work (Mailed (EpochInfoOf request)) sent (λ e. cc); order = order; waiter = refl; waits = inl refl };
                 },
               )
-          by_message (Sent (Feed request block)) sent its_end =
+          by_message (Mailed (Feed request block)) sent its_end =
               inl (
                 asked_by (Feed request block) st,
                 changed_reading request (λ r. if r.ended then r else record r { blocks = r.blocks ++ block ∷ [] }) its_end.0 (ready (Feed request block) sent) (fed_same block)
-                    (no_work (Sent (Feed request block)) sent (λ e. cc)),
+                    (no_work (Mailed (Feed request block)) sent (λ e. cc)),
               )
-          by_message (Sent (Over request)) sent its_end =
-              inl (asked_by (Over request) st, changed_reading request (λ r. record r { ended = true }) its_end.0 (ready (Over request) sent) (λ r. refl) (no_work (Sent (Over request)) sent (λ e. cc)))
-          by_message (Sent (Cancel request)) sent its_end =
+          by_message (Mailed (Over request)) sent its_end =
+              inl (asked_by (Over request) st, changed_reading request (λ r. record r { ended = true }) its_end.0 (ready (Over request) sent) (λ r. refl) (no_work (Mailed (Over request)) sent (λ e. cc)))
+          by_message (Mailed (Cancel request)) sent its_end =
               let its_life = cancelled_as request in
               inl (
                 cancelled request st,
@@ -847,10 +847,10 @@ module _ (g : Lived) (here : IsLifeInForm g) (i : ℕ) (its : Event) (is : slice
                   read = its_end.0;
                   ready = ready (Cancel request) sent;
                   order = its_life.0;
-                  goes_on = λ job runs. record { was = its_life.1; other = no_work (Sent (Cancel request)) sent (λ e. cc); order = its_life.0; waiter = refl; waits = its_life.2 };
+                  goes_on = λ job runs. record { was = its_life.1; other = no_work (Mailed (Cancel request)) sent (λ e. cc); order = its_life.0; waiter = refl; waits = its_life.2 };
                 },
               )
-          by_message (Sent (Work handed)) sent its_end =
+          by_message (Mailed (Work handed)) sent its_end =
               inl (verification_ended st, record { read = its_end.0; ready = ready (Work handed) sent; order = later_order; goes_on = λ job runs. absurd (none_some runs) })
 
       at_end : (P : Inclusion U → Type 0) → P mid.inclusion → P end.inclusion
@@ -1040,12 +1040,12 @@ module _ (g : Lived) (here : IsLifeInForm g) (i : ℕ) (its : Event) (is : slice
               → (other : ℕ) × (front : List Entry) × IsSaidBy (suc i) said_now (suc i - 1) front × IsVerified g.script g.number g.life e (suc i - 1) front other × (other ≡ r.number → ⊥)
           other_ended None none = absurd (none_some (sym (ap (λ (y : Inclusion U). y.running) idle_end ∙ none) ∙ at_end (λ (y : Inclusion U). y.running ≡ Some job) running))
             where
-              sent : m.message ≡ Sent (Work None)
+              sent : m.message ≡ Mailed (Work None)
               sent = subst (λ (y : Event). Brings g y m.message) its_work m.brings
 
               idle_end : end.inclusion ≡ st.inclusion
               idle_end =
-                  came_to (λ (stop : NodeStop). ⊤) (λ end. end.inclusion ≡ st.inclusion) (node_step c (event_of (Sent (Work None))) st) (went end) out now (idle_work c reshare st held.apart None none)
+                  came_to (λ (stop : NodeStop). ⊤) (λ end. end.inclusion ≡ st.inclusion) (node_step c (event_of (Mailed (Work None))) st) (went end) out now (idle_work c reshare st held.apart None none)
                   (subst (λ (y : Message U). Said (on_devices (node_step c (event_of y) st)) (went end) out now) sent lines)
           other_ended (Some was) there =
               let run : IsRun g e i said st.inclusion = tracked.runs was there in (

@@ -37,7 +37,7 @@ use Rattle.dkg_promises.specs.Found.{ShowsCause}
 use Rattle.dkg_promises.specs.GivesBack.{HoldsValid, StaysValid}
 use Rattle.dkg_promises.specs.Leaves.{LeavesSo}
 use Rattle.dkg_lives.specs.Lives.{BeganNone, TellsEnd}
-use Rattle.dkg_promises.specs.Over.{Over, over}
+use Rattle.dkg_promises.specs.Over.{DevicesAround, over}
 use Rattle.dkg_promises.specs.Refusals.{BlamesOnlySkips, IsRefusal}
 use Rattle.dkg_promises.specs.SharesStand.{CommitsEach, TellsCommit}
 use Rattle.dkg_lives.specs.Ways.{Trace, by_lines, trace}
@@ -49,7 +49,7 @@ use Rattle.dkg_promises.proofs.OfferedHalves.{all_of}
 use Rattle.dkg_along.proofs.Used.{all_back}
 
 -- Both devices stand as they stood.
-pub record Unmoved (o : Over) : Type 0 where
+pub record Unmoved (o : DevicesAround) : Type 0 where
   pub files : o.now.files ≡ o.before.files
   pub image : (c : Files) → o.now.image c → o.before.image c
   pub held : o.now.held ≡ o.before.held
@@ -133,7 +133,7 @@ IsUncommitted _ = Unit {0}
 
 -- THE CLAUSES
 
-module _ (script : Script) (o : Over) (answered : Result (Unit {0}) Fault) (old new added : List Entry) (is : new ≡ old ++ added) (none : ToldNone script answered old new (Unmoved o)) where
+module _ (script : Script) (o : DevicesAround) (answered : Result (Unit {0}) Fault) (old new added : List Entry) (is : new ≡ old ++ added) (none : ToldNone script answered old new (Unmoved o)) where
   abbrev s : Setting
   s = setting_as_cut script o.before.files o.before.held added
 

@@ -10,7 +10,7 @@ use Rattle.dkg_script.specs.Consistent.{MayEndSo}
 use Rattle.dkg_script.specs.Promise.{AreHonestStores, IsBuilt, cuts_in}
 use Rattle.dkg_script.specs.Setting.{CutAt, Setting, setting_of}
 use Rattle.dkg_lives.specs.Epochs.{IsChecked}
-use Rattle.dkg_promises.specs.Over.{Over, DevicesStanding}
+use Rattle.dkg_promises.specs.Over.{DevicesAround, DevicesStanding}
 use Rattle.dkg_script.specs.Valid.{AgreesWith, IsValidScript}
 
 -- The devices handed in are whole, with nothing loose. Their records are events within the script's limit, and what they hold agrees with the script.
@@ -36,7 +36,7 @@ IsValidAnyhow script before =
     (ends : List (Option CutAt)) → MayEndSo script.lives ends → IsValidRun (setting_of (as_cut ends script) before.files before.held) before.image ends
 
 -- It is valid in this sense, the devices tell, and no count of theirs rose.
-pub record IsSoundRun (o : Over) (Valid : DevicesStanding → Type 0) : Type 0 where
+pub record IsSoundRun (o : DevicesAround) (Valid : DevicesStanding → Type 0) : Type 0 where
   pub tells : o.tells
   pub valid : Valid o.before
   pub no_disk_rose : o.disk_rose → ⊥

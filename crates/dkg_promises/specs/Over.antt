@@ -18,7 +18,7 @@ abbrev pub standing : Files → (image : Files → Type 0) → (held : Secrets) 
 standing files image held = record { files = files; image = image; held = held }
 
 -- How both devices stood before a call and stand now, and what is told of what came between.
-pub record Over : Type 1 where
+pub record DevicesAround : Type 1 where
   -- the disk tells what it holds, and both devices do
   pub disk_tells : Type 0
   pub tells : Type 0
@@ -35,7 +35,7 @@ pub record Over : Type 1 where
 -- .. of a disk and a secret store, by what their types tell of them
 abbrev pub over : {D X : Type 0} → (disk_tells : Bool) → (files : D → Files) → (image : D → Files → Type 0) → (disk_faults : D → ℕ)
     → (disk_made : D → D → List (DeviceCall Op) → Type 0) → (secrets_tell : Bool) → (held : X → Secrets) → (secret_faults : X → ℕ)
-    → (secrets_made : X → X → List (DeviceCall SecretOp) → Type 0) → (old new : D × X) → Over
+    → (secrets_made : X → X → List (DeviceCall SecretOp) → Type 0) → (old new : D × X) → DevicesAround
 over disk_tells files image disk_faults disk_made secrets_tell held secret_faults secrets_made old new = record {
   disk_tells = IsTrue disk_tells;
   tells = IsTrue disk_tells × IsTrue secrets_tell;

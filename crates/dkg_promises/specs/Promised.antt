@@ -18,26 +18,26 @@ use Rattle.dkg_promises.specs.Found.{EachFault, IsFoundRecord, ShowsCause}
 use Rattle.dkg_promises.specs.GivesBack.{GivesBack, limit_in}
 use Rattle.dkg_promises.specs.Leaves.{LeavesSo}
 use Rattle.dkg_lives.specs.Lives.{AnyFiles, RunsOver, RunsSo, never}
-use Rattle.dkg_promises.specs.Over.{Over}
+use Rattle.dkg_promises.specs.Over.{DevicesAround}
 use Rattle.dkg_promises.specs.Refusals.{BlamesOnlySkips}
 use Rattle.dkg_promises.specs.SharesStand.{CommitsEach, CommitsExactly, CommitsFit}
 use Rattle.dkg_lives.specs.Ways.{by_lines, trace}
 
 -- THE ENTRIES are those of a node run of the script, whatever the devices tell: a step that is ended early gives a front of its lines. Each life's end
 -- stopped both devices, each with its pick. (`out` and `new` are the transcript before and behind.)
-pub record SaysRun (script : Script) (o : Over) (out : List Entry) (result : Result (Unit {0}) Fault) (new : List Entry) : Type 0 where
+pub record SaysRun (script : Script) (o : DevicesAround) (out : List Entry) (result : Result (Unit {0}) Fault) (new : List Entry) : Type 0 where
   pub picks : List ℕ
   pub stopped : o.disk_tells → o.stopped picks
   pub run : RunsSo by_lines script AnyFiles (trace out []) result (trace new picks)
 
 -- THE NODE RAN over devices that tell and of which nothing was loose, whatever image a crash leaves now: each life from what the one before left, and cut
 -- exactly where its step makes so many calls.
-abbrev pub DoesRun : Script → Over → (out : List Entry) → Result (Unit {0}) Fault → (new : List Entry) → Type 0
+abbrev pub DoesRun : Script → DevicesAround → (out : List Entry) → Result (Unit {0}) Fault → (new : List Entry) → Type 0
 DoesRun script o out result new = o.tells → Stands o.before.files o.before.image → (c : Files) → o.now.image c
     → RunsOver script result o.before.files (at (moment out o.before.held never) o.before.files) (λ f. at (moment new o.now.held f) c)
 
 -- WHAT FOLLOWS for the entries that are added
-pub record Promised (script : Script) (o : Over) (result : Result (Unit {0}) Fault) (added : List Entry) : Type 0 where
+pub record Promised (script : Script) (o : DevicesAround) (result : Result (Unit {0}) Fault) (added : List Entry) : Type 0 where
   -- Whatever ends the run, the entries are in order, and at Ok every life was run.
   pub in_order : RunsInOrder script added
   pub all : OnOk result (RunsAll script added)
@@ -73,7 +73,7 @@ pub record Promised (script : Script) (o : Over) (result : Result (Unit {0}) Fau
   pub gives_back : o.tells → GivesBack script result o.before o.now added
 
 -- ALL OF IT, for whoever hands it on
-pub record RunsLives (script : Script) (o : Over) (out : List Entry) (result : Result (Unit {0}) Fault) (added : List Entry) : Type 0 where
+pub record RunsLives (script : Script) (o : DevicesAround) (out : List Entry) (result : Result (Unit {0}) Fault) (added : List Entry) : Type 0 where
   pub lines : SaysRun script o out result (out ++ added)
   pub run : DoesRun script o out result (out ++ added)
   pub promise : Promised script o result added

@@ -87,10 +87,10 @@ pub record WasSetUp (before : List Entry) (epoch : ℕ) (part : Part) : Type 0 w
   pub is : before ≡ front ++ Setup epoch phase part ∷ rest
   pub last : IsFalse (list_any is_set_up rest)
 
-abbrev pub Plays : Part → Type 0
-Plays Player = Unit {0}
-Plays Both = Unit {0}
-Plays _ = ⊥
+abbrev pub PartPlays : Part → Type 0
+PartPlays Player = Unit {0}
+PartPlays Both = Unit {0}
+PartPlays _ = ⊥
 
 -- this node holds a share of the epoch: it was handed in, or committed by then
 abbrev pub HeldShare : Setting → (before : List Entry) → (epoch : ℕ) → Type 0
@@ -109,7 +109,7 @@ pub record WasCutInto (s : Setting) (cuts : List (Option CutAt)) (epoch : ℕ) :
 
 -- By the outcome that the next info tells: behind a success there is a share where the node played, if its marks are known; and behind a failure where it held one.
 abbrev pub StandsBy : Setting → (before : List Entry) → (epoch : ℕ) → Part → (share : Option ℕ) → (marks : Type 0) → EpochOutcome → Type 0
-StandsBy s before epoch part share marks Success = marks → (IsSome share ↔ Plays part)
+StandsBy s before epoch part share marks Success = marks → (IsSome share ↔ PartPlays part)
 StandsBy s before epoch part share marks Failure = (HeldShare s before epoch → IsSome share) × (IsSome share → HeldShare s before epoch ⊎ WasCutInto s (progress s before).cuts epoch)
 
 -- The life in hand set the epoch up. There is a share only where its last block is honest; and where it is, the share stands so.

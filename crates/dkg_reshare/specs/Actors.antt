@@ -12,7 +12,7 @@ use Rattle.dkg_store.specs.declared.devices.Devices.{Devices}
 use Rattle.dkg_infos.specs.declared.fault.Fault.{Fault}
 use Rattle.dkg_core.specs.Agreeing.{AreAgreed}
 use Rattle.dkg_core.specs.Live as core
-use Rattle.dkg_core.specs.Live.{Live, Sent}
+use Rattle.dkg_core.specs.Live.{Live, Mailed}
 use Rattle.dkg_reshare.specs.declared.actor.State.{State}
 use Rattle.dkg_reshare.specs.declared.actor.State.TheVariants.{New, Living, Failed as HadFailed}
 use Rattle.dkg_life.specs.declared.config.Terms.{Terms}
@@ -111,15 +111,15 @@ pub record ActorStays {C Dir Signer Cfg : Type 0} (old new : State C Dir Signer 
 -- MESSAGES
 
 abbrev pub message_of : {Dir Cfg : Type 0} → Message Dir Cfg → core.Message Dir
-message_of (message.Peer from bytes) = Sent (core.Peer from bytes)
+message_of (message.Peer from bytes) = Mailed (core.Peer from bytes)
 message_of (message.Finalized b) = core.Finalized b
-message_of (message.NextLog request height) = Sent (core.NextLog request height)
-message_of (message.ReleaseLog height) = Sent (core.ReleaseLog height)
-message_of (message.EpochInfo request) = Sent (core.EpochInfoOf request)
-message_of (message.Feed request b) = Sent (core.Feed request b)
-message_of (message.Over request) = Sent (core.Over request)
-message_of (message.Cancel request) = Sent (core.Cancel request)
-message_of message.Work = Sent (core.Work None)
+message_of (message.NextLog request height) = Mailed (core.NextLog request height)
+message_of (message.ReleaseLog height) = Mailed (core.ReleaseLog height)
+message_of (message.EpochInfo request) = Mailed (core.EpochInfoOf request)
+message_of (message.Feed request b) = Mailed (core.Feed request b)
+message_of (message.Over request) = Mailed (core.Over request)
+message_of (message.Cancel request) = Mailed (core.Cancel request)
+message_of message.Work = Mailed (core.Work None)
 
 -- What is delivered is within this limit.
 abbrev pub BringsWithin : {Dir Cfg : Type 0} → (limit : ℕ) → Message Dir Cfg → Type 0

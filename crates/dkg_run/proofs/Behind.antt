@@ -11,12 +11,12 @@ use Rattle.dkg_store.specs.Acts.{at, moment}
 use Rattle.dkg_secrets.specs.Secrets.{Secrets}
 use Rattle.dkg_secrets.specs.declared.secrets.SecretOp.{SecretOp}
 use Rattle.dkg_lives.specs.Lives.{RunsOver, RunsSo, never}
-use Rattle.dkg_promises.specs.Over.{Over, over}
+use Rattle.dkg_promises.specs.Over.{DevicesAround, over}
 use Rattle.dkg_lives.specs.Ways.{by_worlds}
 
 -- what is over devices is over those that are the same
 pub over_as : {D X : Type 0} (disk_tells : Bool) (files : D → Files) (image : D → Files → Type 0) (disk_faults : D → ℕ) (disk_made : D → D → List (DeviceCall Op) → Type 0) (secrets_tell : Bool) (held : X → Secrets) (secret_faults : X → ℕ)
-    (secrets_made : X → X → List (DeviceCall SecretOp) → Type 0) (P : Over → Type 0) (old : D × X) (d now : D) (s then_s : X) → d ≡ now → s ≡ then_s
+    (secrets_made : X → X → List (DeviceCall SecretOp) → Type 0) (P : DevicesAround → Type 0) (old : D × X) (d now : D) (s then_s : X) → d ≡ now → s ≡ then_s
     → P (over disk_tells files image disk_faults disk_made secrets_tell held secret_faults secrets_made old (d, s))
     → P (over disk_tells files image disk_faults disk_made secrets_tell held secret_faults secrets_made old (now, then_s))
 over_as {D} {X} disk_tells files image disk_faults disk_made secrets_tell held secret_faults secrets_made P old d now s then_s same_disk same_secrets is =

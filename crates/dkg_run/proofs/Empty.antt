@@ -6,7 +6,7 @@ use Rattle.std.specs.Ordering.{nat_cmp}
 use Rattle.dkg_values.specs.declared.name.Name.{Name}
 use Rattle.dkg_values.specs.declared.name.Name.TheVariants.{Flat}
 use Rattle.dkg_journal.specs.Names.{Files, name_cmp}
-use Rattle.dkg_journal.specs.Opening.{broken, broken_rows, broken_with}
+use Rattle.dkg_journal.specs.Opening.{first_break, broken_rows, broken_with}
 use Rattle.dkg_journal.specs.Segments.{segment_rows}
 use Rattle.dkg_journal.specs.Records.{SectionEntry, entries}
 use Rattle.dkg_journal.specs.Table.{MatchFile, Rows, RowsImage, contents}
@@ -34,7 +34,7 @@ only_these c here = same_map names_total exact_names c (contents []) (λ name. n
 honest : (script : Script) (held : Secrets) → AreHonestStores (setting_of script (contents []) held) (RowsImage [])
 honest script held = record { whole = subst (λ (es : List SectionEntry). IsWhole es held) (sym nothing_there) tt; nothing_loose = record { only = only_these } }
 
-nothing_broken : broken (contents []) ≡ None
+nothing_broken : first_break (contents []) ≡ None
 nothing_broken = ap (λ (o : Option (List ℕ)). broken_with o (contents [])) (get-empty name_cmp Flat) ∙ ap (λ (xs : List (Name × List ℕ)). broken_rows (segment_rows xs)) (no_pairs name_cmp)
 
 -- a disk of no files has no entry
@@ -62,7 +62,7 @@ valid : (script : Script) → AreValidDevices (setting_of script (contents []) n
 valid script = record {
   stores = honest script none_held;
   fit = record {
-    whole = record { each = λ c here. ap broken (only_these c here) ∙ nothing_broken };
+    whole = record { each = λ c here. ap first_break (only_these c here) ∙ nothing_broken };
     events = λ c here. subst (AreEvents (non_zero_u32_get script.config.limit)) (sym (none_left c here)) tt;
   };
   agree = agree (setting_of script (contents []) none_held);

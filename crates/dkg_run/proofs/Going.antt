@@ -1,10 +1,10 @@
 -- What lives make of the devices, one call behind another.
 use Rattle.std.proofs.Common.{◌≡◌, ◌++◌, ◌∷◌, [], ℕ, Bool, List, Option, Some, None, refl, ◌∙◌, ap, arith}
 use Rattle.dkg_journal.specs.Burn.{Burn}
-use Rattle.dkg_journal.specs.DeviceCall.{DeviceCall, Makes, CutIn, Crashes, call_at}
+use Rattle.dkg_journal.specs.DeviceCall.{DeviceCall, CallMade, CutIn, Crashes, call_at}
 use Rattle.dkg_journal.specs.Fuse.{calls_in, pick_now, spent_once}
 use Rattle.dkg_journal.specs.declared.disk.Op.{Op}
-use Rattle.dkg_store.specs.Both.{Call, disk_calls, on_disk, on_secrets, secret_calls}
+use Rattle.dkg_store.specs.Both.{EitherOp, disk_calls, on_disk, on_secrets, secret_calls}
 use Rattle.dkg_store.specs.declared.devices.Devices.{Devices}
 use Rattle.dkg_secrets.specs.declared.secrets.SecretOp.{SecretOp}
 use Rattle.dkg_life.specs.Moved.{Moved}
@@ -15,28 +15,28 @@ use Rattle.dkg_lives.specs.Stopped.{stops_in}
 
 stops_then : {O : Type 0} (xs ys : List (DeviceCall O)) → stops_in (xs ++ ys) ≡ stops_in xs ++ stops_in ys
 stops_then [] ys = refl
-stops_then (Makes op ∷ xs) ys = stops_then xs ys
+stops_then (CallMade op ∷ xs) ys = stops_then xs ys
 stops_then (CutIn op pick ∷ xs) ys = stops_then xs ys
 stops_then (Crashes pick ∷ xs) ys = ap (λ (l : List ℕ). pick ∷ l) (stops_then xs ys)
 
 -- calls that a fuse counts stop nothing between two of them
-disk_at : (pick : Option ℕ) (op : Call) (calls : List (DeviceCall Call)) → stops_in (disk_calls calls) ≡ [] → stops_in (disk_calls (call_at pick op ∷ calls)) ≡ []
+disk_at : (pick : Option ℕ) (op : EitherOp) (calls : List (DeviceCall EitherOp)) → stops_in (disk_calls calls) ≡ [] → stops_in (disk_calls (call_at pick op ∷ calls)) ≡ []
 disk_at None (on_disk op) calls is = is
 disk_at None (on_secrets op) calls is = is
 disk_at (Some pick) (on_disk op) calls is = is
 disk_at (Some pick) (on_secrets op) calls is = is
 
-secrets_at : (pick : Option ℕ) (op : Call) (calls : List (DeviceCall Call)) → stops_in (secret_calls calls) ≡ [] → stops_in (secret_calls (call_at pick op ∷ calls)) ≡ []
+secrets_at : (pick : Option ℕ) (op : EitherOp) (calls : List (DeviceCall EitherOp)) → stops_in (secret_calls calls) ≡ [] → stops_in (secret_calls (call_at pick op ∷ calls)) ≡ []
 secrets_at None (on_disk op) calls is = is
 secrets_at None (on_secrets op) calls is = is
 secrets_at (Some pick) (on_disk op) calls is = is
 secrets_at (Some pick) (on_secrets op) calls is = is
 
-no_disk_stop : (f : Burn) (calls : List Call) → stops_in (disk_calls (calls_in f calls)) ≡ []
+no_disk_stop : (f : Burn) (calls : List EitherOp) → stops_in (disk_calls (calls_in f calls)) ≡ []
 no_disk_stop f [] = refl
 no_disk_stop f (op ∷ ops) = disk_at (pick_now f) op (calls_in (spent_once f) ops) (no_disk_stop (spent_once f) ops)
 
-no_secret_stop : (f : Burn) (calls : List Call) → stops_in (secret_calls (calls_in f calls)) ≡ []
+no_secret_stop : (f : Burn) (calls : List EitherOp) → stops_in (secret_calls (calls_in f calls)) ≡ []
 no_secret_stop f [] = refl
 no_secret_stop f (op ∷ ops) = secrets_at (pick_now f) op (calls_in (spent_once f) ops) (no_secret_stop (spent_once f) ops)
 

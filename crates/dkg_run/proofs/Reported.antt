@@ -17,7 +17,7 @@ use Rattle.dkg_promises.specs.Complete.{IsSoundRun, IsValidAnyhow}
 use Rattle.dkg_script.specs.Ends.{EndsFaulted, EndsScript, IsNodeFault}
 use Rattle.dkg_lives.specs.Epochs.{refused_config}
 use Rattle.dkg_outside.specs.Outside.{TookAll, TookMore}
-use Rattle.dkg_promises.specs.Over.{Over}
+use Rattle.dkg_promises.specs.Over.{DevicesAround}
 use Rattle.dkg_promises.specs.Promised.{DoesRun, Promised, RunsLives, SaysRun}
 use Rattle.dkg_run.specs.Reports.{Blamed, RanScript, RanNothing, WasRead, RanByStatus, fault_status, last_of}
 use Rattle.dkg_outside.specs.declared.status.Status.{Status}
@@ -34,7 +34,7 @@ pub reads : (Tells : Type 0) (old mid new bytes : List ℕ) (HasBack : List ℕ 
 reads Tells old mid new bytes HasBack same all short back = record { all = λ tells. subst (λ (left : List ℕ). TookAll bytes old left) (sym same) (all tells); not_too_long = short; back = back }
 
 -- WHAT RUNNING THE LIVES PROMISES, of the entries that were added
-pub runs_lives : (script : Script) (o : Over) (out new : List Entry) (result : Result (Unit {0}) Fault) (told : Adds out new (Promised script o result)) → SaysRun script o out result new → DoesRun script o out result new
+pub runs_lives : (script : Script) (o : DevicesAround) (out new : List Entry) (result : Result (Unit {0}) Fault) (told : Adds out new (Promised script o result)) → SaysRun script o out result new → DoesRun script o out result new
     → RunsLives script o out result told.0
 runs_lives script o out new result told lines run = record {
   lines = subst (λ (es : List Entry). SaysRun script o out result es) told.1 lines;
@@ -59,7 +59,7 @@ ended_so script its entries disk_rose secrets_rose ends = by_config (refused_con
     by_config (Some why) refused (inr wants) = inr (inl (same_fault wants.0))
     by_config (Some why) refused (inl told) = inl (refused_so script why refused (λ (x : Fault). its ≡ x → (cause : ConfigCause) × (its ≡ InvalidConfig cause)) (λ cause is. (cause, is)) (same_fault told.0))
 
-pub runs_faulted : (Gave : List ℕ → Type 0) (o : Over) (out entries : List Entry) (its : Fault) → RanScript Gave o out (Err its) entries → RanByStatus Gave o out (fault_status its) entries
+pub runs_faulted : (Gave : List ℕ → Type 0) (o : DevicesAround) (out entries : List Entry) (its : Fault) → RanScript Gave o out (Err its) entries → RanByStatus Gave o out (fault_status its) entries
 runs_faulted Gave o out entries its ran = by_its its ran (ended_so ran.script its entries o.disk_rose o.secrets_rose ran.lives.promise.ends)
   where
     by_its : (its : Fault) → RanScript Gave o out (Err its) entries → EndedSo its entries o.disk_rose o.secrets_rose → RanByStatus Gave o out (fault_status its) entries
@@ -79,7 +79,7 @@ is_no_read Secrets = (λ e. cc, λ e. cc)
 is_no_read its = (λ e. cc, λ e. cc)
 
 -- Of whatever is so of the bytes that were read
-pub gives : (bytes : List ℕ) (Gave : List ℕ → Type 0) → Gave bytes → (o : Over) (out : List Entry) (ended : Status) (entries : List Entry)
+pub gives : (bytes : List ℕ) (Gave : List ℕ → Type 0) → Gave bytes → (o : DevicesAround) (out : List Entry) (ended : Status) (entries : List Entry)
     → RanByStatus (λ its. its ≡ bytes) o out ended entries → RanByStatus Gave o out ended entries
 gives bytes Gave gave o out ended entries runs = by_status ended runs
   where
@@ -128,7 +128,7 @@ status_told ended result its text Tells old new is not_write not_memory (inr (in
 status_told ended result its text Tells old new is not_write not_memory (inr (inr told)) = absurd (not_memory (sym is ∙ told.0))
 
 -- a source that failed or has too much: there is nothing to write
-pub is_silent : (Gave : List ℕ → Type 0) (o : Over) (out entries : List Entry) (ended result : Status) (text : List ℕ) (Tells : Type 0) (old new : List ℕ)
+pub is_silent : (Gave : List ℕ → Type 0) (o : DevicesAround) (out entries : List Entry) (ended result : Status) (text : List ℕ) (Tells : Type 0) (old new : List ℕ)
     → (result ≡ status.ReadFault) ⊎ (result ≡ status.TooLong) → IsTold ended result text Tells old new → RanByStatus Gave o out ended entries → lines_of entries ++ last_of ended ≡ []
 is_silent Gave o out entries ended result text Tells old new (inl is) told runs =
     let its : ended ≡ status.ReadFault = status_told ended result status.ReadFault text Tells old new is (λ e. cc) (λ e. cc) told in
@@ -140,7 +140,7 @@ is_silent Gave o out entries ended result text Tells old new (inr is) told runs 
     rw (its, nothing.no_entry) refl
 
 -- what is answered as a device's failure ended the run so, and the device's count rose
-pub device_rose : (Gave : List ℕ → Type 0) (o : Over) (out entries : List Entry) (ended : Status) → ended ≡ status.Device → RanByStatus Gave o out ended entries → o.disk_rose ⊎ o.secrets_rose
+pub device_rose : (Gave : List ℕ → Type 0) (o : DevicesAround) (out entries : List Entry) (ended : Status) → ended ≡ status.Device → RanByStatus Gave o out ended entries → o.disk_rose ⊎ o.secrets_rose
 device_rose Gave o out entries ended is runs = rose (subst (λ (x : Status). RanByStatus Gave o out x entries) is runs)
   where
     rose : RanScript Gave o out (Err Disk) entries ⊎ RanScript Gave o out (Err Secrets) entries → o.disk_rose ⊎ o.secrets_rose
@@ -158,7 +158,7 @@ device_rose Gave o out entries ended is runs = rose (subst (λ (x : Status). Ran
         by_secrets (inr (inr ends)) = ends.1
 
 -- what blames the outside blames it rightly, where what the sink was told of does
-pub blamed : (o : Over) (source_rose sink_rose TooMany : Type 0) (ended result : Status) (text : List ℕ) (Tells : Type 0) (old new : List ℕ) → IsTold ended result text Tells old new
+pub blamed : (o : DevicesAround) (source_rose sink_rose TooMany : Type 0) (ended result : Status) (text : List ℕ) (Tells : Type 0) (old new : List ℕ) → IsTold ended result text Tells old new
     → (ended ≡ status.ReadFault → source_rose) → (ended ≡ status.Device → o.disk_rose ⊎ o.secrets_rose) → (result ≡ status.WriteFault → sink_rose) → (ended ≡ status.TooLong → TooMany) → Blamed o source_rose sink_rose TooMany result
 blamed o source_rose sink_rose TooMany ended result text Tells old new told read device write long = record {
   read_fault = λ is. read (status_told ended result status.ReadFault text Tells old new is (λ e. cc) (λ e. cc) told);
@@ -194,7 +194,7 @@ no_place addressed bytes script place is = by_reading (reading_of addressed byte
 
 -- A SOUND RUN
 
-module _ (Gave : List ℕ → Type 0) (o : Over) (out entries : List Entry) (script : Script) (spells : (bytes : List ℕ) → Gave bytes → script_of false bytes ≡ Some script) (built : is_in_form script ≡ true)
+module _ (Gave : List ℕ → Type 0) (o : DevicesAround) (out entries : List Entry) (script : Script) (spells : (bytes : List ℕ) → Gave bytes → script_of false bytes ≡ Some script) (built : is_in_form script ≡ true)
     (sound : IsSoundRun o (IsValidAnyhow script)) where
   only_memory : (its : Fault) → RanScript Gave o out (Err its) entries → its ≡ NoMemory
   only_memory its ran =

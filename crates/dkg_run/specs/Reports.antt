@@ -18,7 +18,7 @@ use Rattle.dkg_script.specs.Ends.{IsNodeFault}
 use Rattle.dkg_outside.specs.Outside.{TookAll}
 use Rattle.dkg_outside.specs.declared.status.Status.{Status}
 use Rattle.dkg_outside.specs.declared.status.Status.TheVariants as status
-use Rattle.dkg_promises.specs.Over.{Over}
+use Rattle.dkg_promises.specs.Over.{DevicesAround}
 use Rattle.dkg_promises.specs.Promised.{RunsLives}
 
 -- the status of a run that a fault ended
@@ -46,7 +46,7 @@ pub record WasRead (Tells : Type 0) (old new : List ℕ) (HasBack : List ℕ →
 
 -- A script was read, of a form that is run, and its lives were run, which answered this and kept all that it promises. (`Gave` says that the source gave
 -- these bytes to its end; `out` is the transcript before.)
-pub record RanScript (Gave : List ℕ → Type 0) (o : Over) (out : List Entry) (result : Result (Unit {0}) Fault) (entries : List Entry) : Type 0 where
+pub record RanScript (Gave : List ℕ → Type 0) (o : DevicesAround) (out : List Entry) (result : Result (Unit {0}) Fault) (entries : List Entry) : Type 0 where
   pub bytes : List ℕ
   pub gave : Gave bytes
   pub script : Script
@@ -56,19 +56,19 @@ pub record RanScript (Gave : List ℕ → Type 0) (o : Over) (out : List Entry) 
   pub lives : RunsLives script o out result entries
 
 -- no entry was written, and no device was called
-pub record RanNothing (o : Over) (entries : List Entry) : Type 0 where
+pub record RanNothing (o : DevicesAround) (entries : List Entry) : Type 0 where
   pub no_entry : entries ≡ []
   pub untouched : o.same
 
 -- The bytes are no script: from this place on stands the first line that no script has after the lines before it.
-pub record NoScript (Gave : List ℕ → Type 0) (o : Over) (place : ℕ) (entries : List Entry) : Type 0 where
+pub record NoScript (Gave : List ℕ → Type 0) (o : DevicesAround) (place : ℕ) (entries : List Entry) : Type 0 where
   pub bytes : List ℕ
   pub gave : Gave bytes
   pub no_script : script_or_place false bytes ≡ Err place
   pub nothing : RanNothing o entries
 
 -- The bytes are a script, of a form that is not run yet.
-pub record NotInForm (Gave : List ℕ → Type 0) (o : Over) (entries : List Entry) : Type 0 where
+pub record NotInForm (Gave : List ℕ → Type 0) (o : DevicesAround) (entries : List Entry) : Type 0 where
   pub bytes : List ℕ
   pub gave : Gave bytes
   pub script : Script
@@ -77,7 +77,7 @@ pub record NotInForm (Gave : List ℕ → Type 0) (o : Over) (entries : List Ent
   pub nothing : RanNothing o entries
 
 -- by the status
-abbrev pub RanByStatus : (Gave : List ℕ → Type 0) → Over → (out : List Entry) → Status → (entries : List Entry) → Type 0
+abbrev pub RanByStatus : (Gave : List ℕ → Type 0) → DevicesAround → (out : List Entry) → Status → (entries : List Entry) → Type 0
 RanByStatus Gave o out status.Done entries = RanScript Gave o out (Ok tt) entries
 RanByStatus Gave o out (status.Fault its) entries = IsNodeFault its × RanScript Gave o out (Err its) entries
 RanByStatus Gave o out status.Device entries = RanScript Gave o out (Err fault.Disk) entries ⊎ RanScript Gave o out (Err fault.Secrets) entries
@@ -91,7 +91,7 @@ RanByStatus Gave o out status.WriteFault entries = ⊥
 
 -- HOW THE WORDS `run` END: the status says what was run, and the sink took the lines of the new entries and the status's last line. (`held` and `held_now`
 -- are what it held and holds, where it tells.)
-pub record Reported (Gave : List ℕ → Type 0) (o : Over) (out new : List Entry) (result : Status) (Tells : Type 0) (held held_now : List ℕ) : Type 0 where
+pub record Reported (Gave : List ℕ → Type 0) (o : DevicesAround) (out new : List Entry) (result : Status) (Tells : Type 0) (held held_now : List ℕ) : Type 0 where
   pub entries : List Entry
   pub added : new ≡ out ++ entries
   pub ended : Status
@@ -120,7 +120,7 @@ summary_by number entries status.Device = summary_of number entries (last_fault 
 summary_by number entries ended = last_of ended
 
 -- HOW THE WORDS `make N` END: as `run` of that script's text does, and the sink took the summary.
-pub record Summed (number : ℕ) (o : Over) (out new : List Entry) (result : Status) (Tells : Type 0) (held held_now : List ℕ) : Type 0 where
+pub record Summed (number : ℕ) (o : DevicesAround) (out new : List Entry) (result : Status) (Tells : Type 0) (held held_now : List ℕ) : Type 0 where
   pub entries : List Entry
   pub added : new ≡ out ++ entries
   pub ended : Status
@@ -128,7 +128,7 @@ pub record Summed (number : ℕ) (o : Over) (out new : List Entry) (result : Sta
   pub told : IsTold ended result (summary_by number entries ended) Tells held held_now
 
 -- WHAT A STATUS BLAMES, outside, is so. (The source's and the sink's rises, and that the source has too many bytes, are handed in as facts.)
-pub record Blamed (o : Over) (source_rose sink_rose TooMany : Type 0) (result : Status) : Type 0 where
+pub record Blamed (o : DevicesAround) (source_rose sink_rose TooMany : Type 0) (result : Status) : Type 0 where
   pub read_fault : result ≡ status.ReadFault → source_rose
   pub device : result ≡ status.Device → o.disk_rose ⊎ o.secrets_rose
   pub write_fault : result ≡ status.WriteFault → sink_rose

@@ -1,14 +1,14 @@
 -- The changing calls, the cuts and the crashes that a secret store in memory has had.
 use Rattle.std.proofs.Common.{subst}
 use Rattle.std.specs.Prelude.{◌≡◌, ◌⊎◌, List, [], ◌∷◌, ◌++◌, refl}
-use Rattle.dkg_journal.specs.DeviceCall.{DeviceCall, Makes, CutIn, Crashes}
+use Rattle.dkg_journal.specs.DeviceCall.{DeviceCall, CallMade, CutIn, Crashes}
 use Rattle.dkg_secrets.specs.Cuts.{after_cut}
 use Rattle.dkg_secrets.specs.Secrets.{Secrets, Tries}
 use Rattle.dkg_secrets.specs.declared.secrets.SecretOp.{SecretOp}
 
 -- What one leaves. A cut leaves what its pick says, or found no memory and changed nothing; a crash changes nothing.
 abbrev pub Leaves : DeviceCall SecretOp → Secrets → Secrets → Type 0
-Leaves (Makes op) old new = Tries op old new
+Leaves (CallMade op) old new = Tries op old new
 Leaves (CutIn op pick) old new = Tries op old new × ((new ≡ after_cut op pick old) ⊎ (new ≡ old))
 Leaves (Crashes pick) old new = new ≡ old
 

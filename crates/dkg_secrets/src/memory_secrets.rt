@@ -6,7 +6,7 @@ ghost use Rattle.dkg_journal.specs.Disk.{Rose};
 ghost use Rattle.dkg_journal.specs.Failing.{FailsByNumber};
 ghost use Rattle.std.specs.FinMap as map;
 ghost use Rattle.dkg_secrets.specs.Cuts.{after_cut};
-ghost use Rattle.dkg_journal.specs.DeviceCall.{Makes, CutIn, Crashes};
+ghost use Rattle.dkg_journal.specs.DeviceCall.{CallMade, CutIn, Crashes};
 ghost use Rattle.dkg_secrets.specs.Made.{MadeSecrets};
 ghost use Rattle.dkg_secrets.specs.Secrets.{HasSecretCause, HasSecretWant, Tries, after, newest_below};
 
@@ -76,7 +76,7 @@ impl MemorySecrets {
         ensures done { OnOk result (self.new.held ≡ after op.now self.old.held) }
         ensures kept { OnErr result (self.new.held ≡ self.old.held) }
         ensures tried { Tries op.now self.old.held self.new.held }
-        ensures calls { MadeSecrets (Makes op.now ∷ []) self.old.held self.new.held }
+        ensures calls { MadeSecrets (CallMade op.now ∷ []) self.old.held self.new.held }
         ensures cause { HasSecretCause self.old.faults self.new.faults result }
         ensures want { HasSecretWant self.old.wants self.new.wants result }
         ensures number { FailsByNumber SecretError.Failed self.old.failing.items self.old.calls self.new.calls result }
@@ -113,7 +113,7 @@ impl SecretStore for MemorySecrets {
         ensures memory { IsErrOf result SecretError.NoMemory → self.new.held ≡ self.old.held }
         ensures cause { HasSecretCause self.old.faults self.new.faults result }
         ensures want { HasSecretWant self.old.wants self.new.wants result }
-        ensures calls { MadeSecrets (Makes (SecretOp.PutShare epoch share) ∷ []) self.old.held self.new.held }
+        ensures calls { MadeSecrets (CallMade (SecretOp.PutShare epoch share) ∷ []) self.old.held self.new.held }
         // A failed call changes nothing.
         ensures kept { OnErr result (self.new.held ≡ self.old.held) }
         ensures number { FailsByNumber SecretError.Failed self.old.failing.items self.old.calls self.new.calls result }
@@ -158,7 +158,7 @@ impl SecretStore for MemorySecrets {
         ensures memory { IsErrOf result SecretError.NoMemory → self.new.held ≡ self.old.held }
         ensures cause { HasSecretCause self.old.faults self.new.faults result }
         ensures want { HasSecretWant self.old.wants self.new.wants result }
-        ensures calls { MadeSecrets (Makes (SecretOp.PutSeed epoch seed) ∷ []) self.old.held self.new.held }
+        ensures calls { MadeSecrets (CallMade (SecretOp.PutSeed epoch seed) ∷ []) self.old.held self.new.held }
         // A failed call changes nothing.
         ensures kept { OnErr result (self.new.held ≡ self.old.held) }
         ensures number { FailsByNumber SecretError.Failed self.old.failing.items self.old.calls self.new.calls result }
@@ -192,7 +192,7 @@ impl SecretStore for MemorySecrets {
         ensures memory { IsErrOf result SecretError.NoMemory → self.new.held ≡ self.old.held }
         ensures cause { HasSecretCause self.old.faults self.new.faults result }
         ensures want { HasSecretWant self.old.wants self.new.wants result }
-        ensures calls { MadeSecrets (Makes (SecretOp.PutDealing epoch dealer private) ∷ []) self.old.held self.new.held }
+        ensures calls { MadeSecrets (CallMade (SecretOp.PutDealing epoch dealer private) ∷ []) self.old.held self.new.held }
         // A failed call changes nothing.
         ensures kept { OnErr result (self.new.held ≡ self.old.held) }
         ensures number { FailsByNumber SecretError.Failed self.old.failing.items self.old.calls self.new.calls result }
@@ -229,7 +229,7 @@ impl SecretStore for MemorySecrets {
         ensures memory { IsErrOf result SecretError.NoMemory → self.new.held ≡ self.old.held }
         ensures cause { HasSecretCause self.old.faults self.new.faults result }
         ensures want { HasSecretWant self.old.wants self.new.wants result }
-        ensures calls { MadeSecrets (Makes (SecretOp.Prune min) ∷ []) self.old.held self.new.held }
+        ensures calls { MadeSecrets (CallMade (SecretOp.Prune min) ∷ []) self.old.held self.new.held }
         // A failed call changes nothing.
         ensures kept { OnErr result (self.new.held ≡ self.old.held) }
         ensures number { FailsByNumber SecretError.Failed self.old.failing.items self.old.calls self.new.calls result }

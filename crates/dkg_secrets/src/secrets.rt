@@ -4,7 +4,7 @@
 //! changing calls through `perform_secret`.
 ghost use Rattle.std.specs.Prelude.{◌≡◌, ◌≤◌, ◌++◌, [], ◌∷◌, List, ℕ, IfOk, OnOk, OnErr, IsErrOf, IsTrue, Bool};
 ghost use Rattle.std.specs.FinMap as map;
-ghost use Rattle.dkg_journal.specs.DeviceCall.{DeviceCall, Makes, CutIn, Crashes};
+ghost use Rattle.dkg_journal.specs.DeviceCall.{DeviceCall, CallMade, CutIn, Crashes};
 ghost use Rattle.dkg_journal.specs.Disk.{Rose};
 ghost use Rattle.dkg_secrets.specs.Secrets.{Secrets, Tries, HasSecretCause, HasSecretWant, after, newest_below};
 ghost use Rattle.dkg_secrets.specs.declared.secrets.SecretOp.{SecretOp};
@@ -71,7 +71,7 @@ pub trait SecretStore {
         ensures memory { IsErrOf result SecretError.NoMemory → held self.new ≡ held self.old }
         ensures cause { HasSecretCause (faults self.old) (faults self.new) result }
         ensures want { HasSecretWant (wants self.old) (wants self.new) result }
-        ensures calls { made self.old self.new (Makes (SecretOp.PutShare epoch share) ∷ []) };
+        ensures calls { made self.old self.new (CallMade (SecretOp.PutShare epoch share) ∷ []) };
 
     fn get_share(&mut self, alloc: Global, epoch: Epoch) -> Result<Option<Share>, SecretError>
         ensures share { IfOk result (λ share. IsTrue tells → share ≡ map.get (held self.old).shares epoch) }
@@ -104,7 +104,7 @@ pub trait SecretStore {
         ensures memory { IsErrOf result SecretError.NoMemory → held self.new ≡ held self.old }
         ensures cause { HasSecretCause (faults self.old) (faults self.new) result }
         ensures want { HasSecretWant (wants self.old) (wants self.new) result }
-        ensures calls { made self.old self.new (Makes (SecretOp.PutSeed epoch seed) ∷ []) };
+        ensures calls { made self.old self.new (CallMade (SecretOp.PutSeed epoch seed) ∷ []) };
 
     fn get_seed(&mut self, alloc: Global, epoch: Epoch) -> Result<Option<Seed>, SecretError>
         ensures seed { IfOk result (λ seed. IsTrue tells → seed ≡ map.get (held self.old).seeds epoch) }
@@ -125,7 +125,7 @@ pub trait SecretStore {
         ensures memory { IsErrOf result SecretError.NoMemory → held self.new ≡ held self.old }
         ensures cause { HasSecretCause (faults self.old) (faults self.new) result }
         ensures want { HasSecretWant (wants self.old) (wants self.new) result }
-        ensures calls { made self.old self.new (Makes (SecretOp.PutDealing epoch dealer private) ∷ []) };
+        ensures calls { made self.old self.new (CallMade (SecretOp.PutDealing epoch dealer private) ∷ []) };
 
     fn get_dealing(
         &mut self,
@@ -146,7 +146,7 @@ pub trait SecretStore {
         ensures memory { IsErrOf result SecretError.NoMemory → held self.new ≡ held self.old }
         ensures cause { HasSecretCause (faults self.old) (faults self.new) result }
         ensures want { HasSecretWant (wants self.old) (wants self.new) result }
-        ensures calls { made self.old self.new (Makes (SecretOp.Prune min) ∷ []) };
+        ensures calls { made self.old self.new (CallMade (SecretOp.Prune min) ∷ []) };
 
     /// Begins the call and stops in it.
     fn cut(&mut self, alloc: Global, op: &SecretOp, pick: u64) -> Mem<()>

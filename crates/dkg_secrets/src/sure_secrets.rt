@@ -1,7 +1,7 @@
 //! A secret store in memory that never fails.
 ghost use Rattle.std.specs.Prelude.{◌≡◌, ◌≤◌, ◌∷◌, [], OnOk, OnErr, IsErrOf};
 ghost use Rattle.std.specs.FinMap as map;
-ghost use Rattle.dkg_journal.specs.DeviceCall.{CutIn, Makes};
+ghost use Rattle.dkg_journal.specs.DeviceCall.{CutIn, CallMade};
 ghost use Rattle.dkg_journal.specs.Disk.{Rose};
 ghost use Rattle.dkg_secrets.specs.Cuts.{after_cut};
 ghost use Rattle.dkg_secrets.specs.Made.{MadeSecrets};
@@ -35,7 +35,7 @@ impl SureSecrets {
         ensures done { OnOk result (self.new.held ≡ after op.now self.old.held) }
         ensures kept { OnErr result (self.new.held ≡ self.old.held) }
         ensures tried { Tries op.now self.old.held self.new.held }
-        ensures calls { MadeSecrets (Makes op.now ∷ []) self.old.held self.new.held }
+        ensures calls { MadeSecrets (CallMade op.now ∷ []) self.old.held self.new.held }
         ensures sure { IsErrOf result SecretError.Failed → ⊥ }
         ensures want { HasSecretWant self.old.wants self.new.wants result }
     {

@@ -4,7 +4,7 @@ use Rattle.std.specs.FinMap.{FinMap, empty, get, get-retain_keys, retain_keys}
 use Rattle.std.proofs.lemmas.Bool.Decides.{nat_tests}
 use Rattle.dkg_values.specs.Codec.{whole}
 use Rattle.dkg_values.specs.declared.codec.CodecError.{CodecError}
-use Rattle.dkg_journal.specs.Disk.{Follows}
+use Rattle.dkg_journal.specs.Disk.{ImagesFollow}
 use Rattle.dkg_journal.specs.Names.{Files}
 use Rattle.dkg_journal.specs.Pruning.{LeavesAbove}
 use Rattle.dkg_journal.specs.Records.{SectionEntry, entries, from_section}
@@ -68,7 +68,7 @@ kept_half : (min key : ℕ) (old new : Option ℕ) → StaysOrGoes min key old n
 kept_half min key old new (inl same) above = same
 kept_half min key old new (inr gone) above = absurd (let low : key < min = gone.0 in omega (arith, low, above))
 
-pub pruned_gives : (min : ℕ) (image next : Files → Type 0) (s t : Secrets) → Follows (LeavesAbove min) image next → Tries (Prune min) s t → StaysFrom min image next s t
+pub pruned_gives : (min : ℕ) (image next : Files → Type 0) (s t : Secrets) → ImagesFollow (LeavesAbove min) image next → Tries (Prune min) s t → StaysFrom min image next s t
 pruned_gives min image next s t left tries = λ pairs gives. record {
   each = λ c here key above.
       let d = left.each c here in
@@ -81,7 +81,7 @@ pruned_gives min image next s t left tries = λ pairs gives. record {
 
 -- AN OPENING OF A JOURNAL, which keeps the entries
 
-pub opened_above : (min : ℕ) (image next : Files → Type 0) (s t : Secrets) → t ≡ s → ((most : ℕ) → AreFit most image → AreFit most next) → Follows Keeps image next → StaysAbove min image next s t
+pub opened_above : (min : ℕ) (image next : Files → Type 0) (s t : Secrets) → t ≡ s → ((most : ℕ) → AreFit most image → AreFit most next) → ImagesFollow Keeps image next → StaysAbove min image next s t
 opened_above min image next s t same fit keeps = record {
   fit = fit;
   each = λ c here.

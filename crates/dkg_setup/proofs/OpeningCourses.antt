@@ -21,7 +21,7 @@ use Rattle.dkg_core.specs.Fixed.{Fixed, Material, OneShot, start}
 use Rattle.dkg_core.specs.Live.{Live, Records, awaited_height}
 use Rattle.dkg_core.specs.Plans as plans
 use Rattle.dkg_core.specs.Setup as setup
-use Rattle.dkg_core.specs.Sources.{Source, Tip, startup}
+use Rattle.dkg_core.specs.Sources.{SourceAnswers, Tip, startup}
 use Rattle.dkg_life.specs.declared.life.Life.{Life}
 use Rattle.dkg_life.specs.declared.life.Stage.TheVariants.{Following}
 use Rattle.dkg_life.specs.LiveOf.{live_of, no_fence, nothing_beside, records_of}
@@ -70,7 +70,7 @@ module _ {Dir : Type 0} (c : Fixed Dir) (reshare : c.oneshot ≡ None) (bare : c
       ∙ (λ i. bind (opens_store c.seen c.life c.opening_calls) (λ r. resharing r i))
 
 -- what is in memory as the setup begins
-pub begun_live : {Dir : Type 0} (c : Fixed Dir) (source : Source Dir) → c.source ≡ source → (fence : Readiness) → fence ≡ no_fence → (word : ℕ) (store : Store Dir) → store.current ≡ None → (life : Life Dir)
+pub begun_live : {Dir : Type 0} (c : Fixed Dir) (source : SourceAnswers Dir) → c.source ≡ source → (fence : Readiness) → fence ≡ no_fence → (word : ℕ) (store : Store Dir) → store.current ≡ None → (life : Life Dir)
     → life ≡ record { word = word; store = store; tip = startup_of source; epoch = 0; midpoint = 0; stage = Following; round = None; dealer = None; player = None }
     → live_of nothing_beside fence life ≡ begun_at c (records_of store)
 begun_live {Dir} c source lent fence fresh word store current life is =

@@ -8,7 +8,7 @@ use Rattle.dkg_fence.specs.Readiness.{Readiness}
 use Rattle.dkg_journal.specs.Fuse.{Reached}
 use Rattle.dkg_journal.specs.Gated.{gated, gated_behind}
 use Rattle.dkg_journal.specs.Names.{Files}
-use Rattle.dkg_journal.specs.Opening.{broken}
+use Rattle.dkg_journal.specs.Opening.{first_break}
 use Rattle.dkg_journal.specs.Records.{SectionEntry, entries}
 use Rattle.dkg_journal.specs.Views.{views}
 use Rattle.dkg_journal.specs.declared.opening.JournalEntry.{JournalEntry}
@@ -41,7 +41,7 @@ use Rattle.dkg_core.specs.Courses.{Course, Ask, bind, on_devices}
 use Rattle.dkg_core.specs.Fixed.{Fixed}
 use Rattle.dkg_core.specs.Live.{Live, Records}
 use Rattle.dkg_core.specs.Setup as setup
-use Rattle.dkg_core.specs.Sources.{Source}
+use Rattle.dkg_core.specs.Sources.{SourceAnswers}
 use Rattle.dkg_core.proofs.Agreeing.{setups_agree}
 use Rattle.dkg_core.specs.Said.{SaysBy}
 use Rattle.dkg_core.specs.Seen.{Seen}
@@ -82,8 +82,8 @@ bare_views (e ∷ es) = ap (λ (l : List SectionEntry). (e.section, e.body) ∷ 
 uncorrupt : (limit : ℕ) (files : Files) (name : Name) (place : ℕ) → IsInGrammar limit files → IsCorruptAt limit files name place → ⊥
 uncorrupt limit files name place grammar at = by_cause at.so
   where
-    by_cause : (broken files ≡ Some (name, place)) ⊎ ((broken files ≡ None) × HasNoEvent limit files name place) → ⊥
-    by_cause (inl torn) = no_place (broken files) (name, place) torn grammar.whole
+    by_cause : (first_break files ≡ Some (name, place)) ⊎ ((first_break files ≡ None) × HasNoEvent limit files name place) → ⊥
+    by_cause (inl torn) = no_place (first_break files) (name, place) torn grammar.whole
     by_cause (inr other) =
         let same : views other.1.read ≡ entries files = sym (bare_views other.1.read) ∙ ap (map bare) other.1.are ∙ bare_behind 0 0 (entries files) in
         no_place (no_event_at limit other.1.read) (name, place) other.1.first (no_other limit other.1.read (subst (AreEvents limit) (sym same) grammar.events))
@@ -267,7 +267,7 @@ module _ {Dir : Type 0} (c : Fixed Dir) (is_bare : IsBareOpening c) (unplanned :
   opening_untold stop told = tells_as store_first (by_stop stop) (early_told (opens_store seen number calls) (sets_up_over c) stop told)
 
   -- .. or the setup was made over it
-  module _ (source : Source Dir) (lent : c.source ≡ source) (fence : Readiness) (fresh : fence ≡ no_fence) (word : ℕ) (store : Store Dir) (current : store.current ≡ None) (life : Life Dir)
+  module _ (source : SourceAnswers Dir) (lent : c.source ≡ source) (fence : Readiness) (fresh : fence ≡ no_fence) (word : ℕ) (store : Store Dir) (current : store.current ≡ None) (life : Life Dir)
       (is : life ≡ record { word = word; store = store; tip = startup_of source; epoch = 0; midpoint = 0; stage = Following; round = None; dealer = None; player = None }) (how : Ended Fault (Live Dir))
     where
       setup_is : setup.setup c None (begun_at c (records_of store)) ≡ setup.setup c None (live_of nothing_beside fence life)
@@ -288,7 +288,7 @@ module _ {Dir : Type 0} (c : Fixed Dir) (is_bare : IsBareOpening c) (unplanned :
           (asked_told (setup.setup c None (begun_at c (records_of store))) how (tells_as setup_is how second)))
 
 -- of which something was read
-pub reading_lent : {Dir : Type 0} (terms : Terms) (source : Source Dir) (word its : ℕ) (c : Fixed Dir) (s : Seen) → its ≡ word → s.plan ≡ None → IsLent terms source word c → IsLent terms source its (reading s c)
+pub reading_lent : {Dir : Type 0} (terms : Terms) (source : SourceAnswers Dir) (word its : ℕ) (c : Fixed Dir) (s : Seen) → its ≡ word → s.plan ≡ None → IsLent terms source word c → IsLent terms source its (reading s c)
 reading_lent terms source word its c s same unplanned lent = record {
   of = record {
     me = lent.of.me;
@@ -307,7 +307,7 @@ reading_lent terms source word its c s same unplanned lent = record {
 }
 
 -- the word of the life that was begun
-pub lent_to : {Dir : Type 0} (terms : Terms) (source : Source Dir) (word its : ℕ) (c : Fixed Dir) → its ≡ word → IsLent terms source word c → IsLent terms source its c
+pub lent_to : {Dir : Type 0} (terms : Terms) (source : SourceAnswers Dir) (word its : ℕ) (c : Fixed Dir) → its ≡ word → IsLent terms source word c → IsLent terms source its c
 lent_to terms source word its c same lent = record { of = lent.of; lent = lent.lent; word_is = lent.word_is ∙ sym same }
 
 -- what a store gave back, with the shares and the seeds that a setup behind it read

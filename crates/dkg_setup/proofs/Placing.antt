@@ -23,7 +23,7 @@ use Rattle.dkg_core.specs.Fixed.{Fixed, Rules, stand_in}
 use Rattle.dkg_core.specs.Live.{Live, awaited_height}
 use Rattle.dkg_core.specs.Setup as setup
 use Rattle.dkg_core.specs.Setup.{Uncommitted, WasCommitted}
-use Rattle.dkg_core.specs.Sources.{Source, Tip}
+use Rattle.dkg_core.specs.Sources.{SourceAnswers, Tip}
 use Rattle.dkg_life.specs.declared.life.Life.{Life}
 use Rattle.dkg_life.specs.declared.life.Stage.{Stage}
 use Rattle.dkg_life.specs.declared.life.Stage.TheVariants.{Dealing, Including, Following}
@@ -99,7 +99,7 @@ module _ {Dir : Type 0} (c : Fixed Dir) (n : ℕ) (same : c.blocks_per_epoch ≡
             ∙ (λ i. setup.from_boundary c (c.source.block (boundary (same i) (epoch_as i).participation.epoch)) (epoch_as i))
             ∙ ap (λ (e : ℕ). setup.from_boundary c (c.source.block (boundary n e)) (live_of beside fence life)) its_epoch
 
-        module _ (source : Source Dir) (lent : c.source ≡ source) (asked : ℕ) (there : asked ≡ boundary n bounds.epoch) (block : Option (Block Dir)) (answered : block ≡ source.block asked) where
+        module _ (source : SourceAnswers Dir) (lent : c.source ≡ source) (asked : ℕ) (there : asked ≡ boundary n bounds.epoch) (block : Option (Block Dir)) (answered : block ≡ source.block asked) where
           its_block : c.source.block (boundary n bounds.epoch) ≡ block
           its_block = (λ i. (lent i).block (sym there i)) ∙ sym answered
 
@@ -273,7 +273,7 @@ module _ (round_of : RoundOf) (deal_of : DealOf) (dealing_of : DealingOf) (ack_o
       shares = record { share_public = refl; partial_public = refl };
     }
 
-pub any_fixed : {Dir : Type 0} → Terms → Source Dir → (word : ℕ) → Rules → Dir → Fixed Dir
+pub any_fixed : {Dir : Type 0} → Terms → SourceAnswers Dir → (word : ℕ) → Rules → Dir → Fixed Dir
 any_fixed terms source word rules directory = record {
   me = terms.me;
   blocks_per_epoch = non_zero_u64_get terms.blocks_per_epoch;
@@ -296,7 +296,7 @@ any_fixed terms source word rules directory = record {
   source = source;
 }
 
-module _ {Dir : Type 0} (terms : Terms) (source : Source Dir) (word : ℕ) (rules : Rules) (directory : Dir) where
+module _ {Dir : Type 0} (terms : Terms) (source : SourceAnswers Dir) (word : ℕ) (rules : Rules) (directory : Dir) where
   abbrev its : Fixed Dir
   its = any_fixed terms source word rules directory
 

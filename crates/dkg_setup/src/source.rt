@@ -20,11 +20,11 @@ pub enum Processed {
 pub trait BlockSource<Dir: Directory> {
     ghost use Rattle.std.specs.Prelude.{◌≡◌, Option, IfOk, option_map};
     ghost use Rattle.std.specs.Option.{option_copied};
-    ghost use Rattle.dkg_core.specs.Sources.{Source};
+    ghost use Rattle.dkg_core.specs.Sources.{SourceAnswers};
     ghost use Rattle.dkg_setup.specs.Anchors.{processed_of};
 
     /// What it answers, as the relation is lent it.
-    ghost answers: { Self → Source Dir };
+    ghost answers: { Self → SourceAnswers Dir };
 
     /// What was processed last, if anything was.
     fn processed(&self) -> Option<Processed>

@@ -11,7 +11,7 @@ use Rattle.dkg_journal.proofs.Fuses.{fused_none}
 use Rattle.dkg_types.specs.declared.scheme.SchemeInfo.{SchemeInfo}
 use Rattle.dkg_sign.specs.Desks.{Desk, held_of_current, material_of, replaced_by}
 use Rattle.dkg_sign.specs.Materials.{is_own}
-use Rattle.dkg_sign.specs.Registers.{JudgesRegistration, Verdict, is_recorded_below}
+use Rattle.dkg_sign.specs.Registers.{JudgesRegistration, RegistrationVerdict, is_recorded_below}
 use Rattle.dkg_sign.specs.Lives.{DeskDeed, Registered, Signed, NoneAbove, NoneRegistered, NeverBack, Covers, RecordCovers, KeepsPromise, KeptWith, deeds_with_registered}
 use Rattle.dkg_sign.specs.Recorded.{recorded, IsAsLeft}
 use Rattle.dkg_sign.specs.declared.error.DeskError.{DeskError}
@@ -106,17 +106,17 @@ ok_not_err : (b : Bool) (e : DeskError) → ◌≡◌ {A = Result Bool DeskError
 ok_not_err b e is = cc
 
 -- which desks are asked to take material
-taken_from : (replaced : Option ℕ) (own : Bool) (held : Option SchemeInfo) (epoch : ℕ) (info : SchemeInfo) → Verdict replaced own held epoch info (Ok true) → replaced ≡ None
+taken_from : (replaced : Option ℕ) (own : Bool) (held : Option SchemeInfo) (epoch : ℕ) (info : SchemeInfo) → RegistrationVerdict replaced own held epoch info (Ok true) → replaced ≡ None
 taken_from (Some c) own held epoch info tests = absurd (ok_not_err _ _ tests)
 taken_from None own held epoch info tests = refl
 
-known_from : (replaced : Option ℕ) (own : Bool) (held : Option SchemeInfo) (epoch : ℕ) (info : SchemeInfo) → Verdict replaced own held epoch info (Ok false) → (other : SchemeInfo) × (held ≡ Some other)
+known_from : (replaced : Option ℕ) (own : Bool) (held : Option SchemeInfo) (epoch : ℕ) (info : SchemeInfo) → RegistrationVerdict replaced own held epoch info (Ok false) → (other : SchemeInfo) × (held ≡ Some other)
 known_from (Some c) own held epoch info tests = absurd (ok_not_err _ _ tests)
 known_from None false held epoch info tests = absurd (ok_not_err _ _ tests)
 known_from None true None epoch info tests = absurd cc
 known_from None true (Some other) epoch info tests = (other, refl)
 
-never_cut : (replaced : Option ℕ) (own : Bool) (held : Option SchemeInfo) (epoch : ℕ) (info : SchemeInfo) (e : DeskError) → Verdict replaced own held epoch info (Err e) → e ≡ Cut → ⊥
+never_cut : (replaced : Option ℕ) (own : Bool) (held : Option SchemeInfo) (epoch : ℕ) (info : SchemeInfo) (e : DeskError) → RegistrationVerdict replaced own held epoch info (Err e) → e ≡ Cut → ⊥
 never_cut (Some c) own held epoch info e tests cut = absurd cc
 never_cut None false held epoch info e tests cut = absurd cc
 never_cut None true None epoch info e tests cut = absurd cc
@@ -219,7 +219,7 @@ taken_current desk epoch info b judged is below =
     from_unreplaced desk.current epoch (taken_from (replaced_by desk.current epoch) (is_own desk.me info) (material_of desk epoch) epoch info (subst (λ (v : Bool). JudgesRegistration desk epoch info (Ok v)) is judged)) below
 
 -- material that isn't refused is the desk's own
-own_from : (replaced : Option ℕ) (own : Bool) (held : Option SchemeInfo) (epoch : ℕ) (info : SchemeInfo) (b : Bool) → Verdict replaced own held epoch info (Ok b) → own ≡ true
+own_from : (replaced : Option ℕ) (own : Bool) (held : Option SchemeInfo) (epoch : ℕ) (info : SchemeInfo) (b : Bool) → RegistrationVerdict replaced own held epoch info (Ok b) → own ≡ true
 own_from (Some c) own held epoch info b tests = absurd (ok_not_err _ _ tests)
 own_from None false held epoch info b tests = absurd (ok_not_err _ _ tests)
 own_from None true held epoch info b tests = refl

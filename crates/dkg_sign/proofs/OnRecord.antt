@@ -9,9 +9,9 @@ use Rattle.dkg_values.specs.Uint.{uint, uint_at}
 use Rattle.dkg_values.specs.UintGrammar.{u64_grammar}
 use Rattle.dkg_values.specs.declared.name.Name.TheVariants.{Plan}
 use Rattle.dkg_journal.specs.Burn.{Burn}
-use Rattle.dkg_journal.specs.Disk.{Follows, Inside, IsUnchanged, Lands}
+use Rattle.dkg_journal.specs.Disk.{ImagesFollow, Inside, IsUnchanged, Lands}
 use Rattle.dkg_journal.specs.Names.{Files}
-use Rattle.dkg_journal.specs.Operations.{Journaled, PutsPlan, Tried, Finished}
+use Rattle.dkg_journal.specs.Operations.{Journaled, PutsPlan, Tried, FinishedOperation}
 use Rattle.dkg_sign.specs.Recorded.{recorded, epoch_in, epoch_read}
 use Rattle.dkg_journal.specs.declared.call.JournalError.{JournalError}
 use Rattle.dkg_journal.specs.declared.call.JournalError.TheVariants as of_journal
@@ -34,7 +34,7 @@ pub record_same : (old c : Files) → get c Plan ≡ get old Plan → recorded c
 record_same old c same = ap epoch_in same
 
 -- a put that ended
-pub put_done : (epoch : ℕ) (bytes : List ℕ) (old new : Files) (image : Files → Type 0) (f g : Burn) → epoch < 2 ^ 64 → bytes ≡ uint epoch → Finished (PutsPlan bytes) old new image f g → (recorded new ≡ Ok (Some epoch)) × Lands new image
+pub put_done : (epoch : ℕ) (bytes : List ℕ) (old new : Files) (image : Files → Type 0) (f g : Burn) → epoch < 2 ^ 64 → bytes ≡ uint epoch → FinishedOperation (PutsPlan bytes) old new image f g → (recorded new ≡ Ok (Some epoch)) × Lands new image
 put_done epoch bytes old new image f g small spelled_so finished =
     (record_says epoch new small (ap (λ (j : Journaled). j.plan) finished.after ∙ ap (λ (b : List ℕ). Some b) spelled_so), finished.settled)
 
@@ -49,7 +49,7 @@ put_tried epoch bytes old image f g small spelled_so tried c now =
     ]
 
 -- a barrier, and a call behind it that changed nothing
-pub barrier_same : {D : Type 0} (files : D → Files) (image : D → Files → Type 0) (a b c : D) → Follows (Inside Barrier) (image a) (image b) → IsUnchanged files image b c → Follows SameFiles (image a) (image c)
+pub barrier_same : {D : Type 0} (files : D → Files) (image : D → Files → Type 0) (a b c : D) → ImagesFollow (Inside Barrier) (image a) (image b) → IsUnchanged files image b c → ImagesFollow SameFiles (image a) (image c)
 barrier_same files image a b c barrier same = record { each = λ x now. barrier.each x (same.same_images x now) }
 
 want_is : (e : JournalError) → desk_error_of e ≡ NoMemory → e ≡ of_journal.NoMemory

@@ -1,7 +1,7 @@
 -- What a registrar's registration comes to, by what its desk did.
 use Rattle.std.proofs.Common.{◌≡◌, ◌⊎◌, inl, inr, ⊎_elim, ℕ, Bool, true, false, Option, Some, Result, Ok, Err, refl, sym, ◌∙◌, ap, subst}
 use Rattle.std.proofs.lemmas.Bool.{cases_Bool}
-use Rattle.dkg_journal.specs.Disk.{Follows}
+use Rattle.dkg_journal.specs.Disk.{ImagesFollow}
 use Rattle.dkg_journal.specs.Names.{Files}
 use Rattle.dkg_types.specs.declared.scheme.SchemeInfo.{SchemeInfo}
 use Rattle.dkg_sign.specs.Desks.{Desk}
@@ -41,12 +41,12 @@ wanted tells reading reopen reopen' old new epoch info answer went is = elim wen
 -- ---- the record
 
 -- a desk that was not opened again puts nothing
-pub shut_puts : (epoch : ℕ) (old new : Files → Type 0) → Follows SameFiles old new → Follows (PutsAtMost epoch) old new
+pub shut_puts : (epoch : ℕ) (old new : Files → Type 0) → ImagesFollow SameFiles old new → ImagesFollow (PutsAtMost epoch) old new
 shut_puts epoch old new same = record { each = λ c now. let d = same.each c now in (d.0, d.1, inl (ap recorded d.2)) }
 
 -- .. and one that was asked puts this epoch at most
-pub asked_puts : (epoch : ℕ) (desk : Desk) (files : Files) (old between new : Files → Type 0) → Follows SameFiles old between → between files → IsAsLeft desk files between
-    → ((c : Files) → new c → (recorded c ≡ Ok desk.current) ⊎ (recorded c ≡ Ok (Some epoch))) → Follows (PutsAtMost epoch) old new
+pub asked_puts : (epoch : ℕ) (desk : Desk) (files : Files) (old between new : Files → Type 0) → ImagesFollow SameFiles old between → between files → IsAsLeft desk files between
+    → ((c : Files) → new c → (recorded c ≡ Ok desk.current) ⊎ (recorded c ≡ Ok (Some epoch))) → ImagesFollow (PutsAtMost epoch) old new
 asked_puts epoch desk files old between new same reads stands tried = record {
   each = λ c now.
       let d = same.each files reads in
@@ -54,5 +54,5 @@ asked_puts epoch desk files old between new same reads stands tried = record {
 }
 
 -- .. nor does one that was not asked
-pub none_puts : (epoch : ℕ) (image : Files → Type 0) → Follows (PutsAtMost epoch) image image
+pub none_puts : (epoch : ℕ) (image : Files → Type 0) → ImagesFollow (PutsAtMost epoch) image image
 none_puts epoch image = record { each = λ c now. (c, now, inl refl) }

@@ -23,10 +23,10 @@ AnswersRecord reading (Err (Conflict epoch)) = ⊥
 AnswersRecord reading (Err (Foreign epoch)) = ⊥
 
 -- What opening answers, over a record that reads so.
-abbrev pub Opens : Result (Option ℕ) DeskError → Result Desk DeskError → Type 0
-Opens reading (Ok desk) = reading ≡ Ok desk.current
-Opens reading (Err (Corrupt place)) = reading ≡ Err (Corrupt place)
-Opens reading (Err e) = Unit {0}
+abbrev pub AnswersOpening : Result (Option ℕ) DeskError → Result Desk DeskError → Type 0
+AnswersOpening reading (Ok desk) = reading ≡ Ok desk.current
+AnswersOpening reading (Err (Corrupt place)) = reading ≡ Err (Corrupt place)
+AnswersOpening reading (Err e) = Unit {0}
 
 -- the errors that an opening may give
 abbrev pub IsOfDeskOpening : DeskError → Type 0
@@ -60,14 +60,14 @@ IsDiskKept (Err (Conflict epoch)) = Unit {0}
 IsDiskKept (Err (Foreign epoch)) = Unit {0}
 
 -- The verdict of a registration's tests, in their order: why it is refused, or whether the material is to be taken. The same material again is not.
-abbrev pub Verdict : Option ℕ → Bool → Option SchemeInfo → (epoch : ℕ) → SchemeInfo → Result Bool DeskError → Type 0
-Verdict (Some current) own held epoch info verdict = verdict ≡ Err (Replaced epoch current)
-Verdict None false held epoch info verdict = verdict ≡ Err (Foreign epoch)
-Verdict None true None epoch info verdict = verdict ≡ Ok true
-Verdict None true (Some other) epoch info verdict = ((verdict ≡ Ok false) × (other ≡ info)) ⊎ ((verdict ≡ Err (Conflict epoch)) × (other ≢ info))
+abbrev pub RegistrationVerdict : Option ℕ → Bool → Option SchemeInfo → (epoch : ℕ) → SchemeInfo → Result Bool DeskError → Type 0
+RegistrationVerdict (Some current) own held epoch info verdict = verdict ≡ Err (Replaced epoch current)
+RegistrationVerdict None false held epoch info verdict = verdict ≡ Err (Foreign epoch)
+RegistrationVerdict None true None epoch info verdict = verdict ≡ Ok true
+RegistrationVerdict None true (Some other) epoch info verdict = ((verdict ≡ Ok false) × (other ≡ info)) ⊎ ((verdict ≡ Err (Conflict epoch)) × (other ≢ info))
 
 abbrev pub JudgesRegistration : Desk → (epoch : ℕ) → SchemeInfo → Result Bool DeskError → Type 0
-JudgesRegistration desk epoch info verdict = Verdict (replaced_by desk.current epoch) (is_own desk.me info) (material_of desk epoch) epoch info verdict
+JudgesRegistration desk epoch info verdict = RegistrationVerdict (replaced_by desk.current epoch) (is_own desk.me info) (material_of desk epoch) epoch info verdict
 
 -- whether the record has a lower epoch, or none
 abbrev pub is_recorded_below : Option ℕ → (epoch : ℕ) → Bool

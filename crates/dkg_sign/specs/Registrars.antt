@@ -10,7 +10,7 @@ use Rattle.dkg_journal.specs.declared.disk.Op.TheVariants.{Barrier}
 use Rattle.dkg_types.specs.declared.scheme.SchemeInfo.{SchemeInfo}
 use Rattle.dkg_sign.specs.Desks.{Desk}
 use Rattle.dkg_sign.specs.Recorded.{IsAsLeft, recorded}
-use Rattle.dkg_sign.specs.Registers.{EndsByVerdict, IsOfDeskOpening, JudgesRegistration, Opens, is_recorded_below}
+use Rattle.dkg_sign.specs.Registers.{EndsByVerdict, IsOfDeskOpening, JudgesRegistration, AnswersOpening, is_recorded_below}
 use Rattle.dkg_sign.specs.declared.error.DeskError.{DeskError}
 use Rattle.dkg_sign.specs.declared.error.DeskError.TheVariants.{Replaced, Conflict, Foreign, Disk, Corrupt, Cut, NoMemory}
 
@@ -36,7 +36,7 @@ pub record DeskStaysShut (tells : Bool) (reading : Result (Option ℕ) DeskError
   pub has_to : reopen' ≡ true
   pub same : new ≡ old
   pub why : IsErrAnd answer IsOfDeskOpening
-  pub exact : IsTrue tells → IsErrAnd answer (λ e. Opens reading (Err e))
+  pub exact : IsTrue tells → IsErrAnd answer (λ e. AnswersOpening reading (Err e))
 
 -- The desk was asked, or the one that was opened again in its place over a record that reads so, and answered so.
 pub record Asked (tells : Bool) (reading : Result (Option ℕ) DeskError) (reopen : Bool) (old new : Desk)

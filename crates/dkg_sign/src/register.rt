@@ -2,12 +2,12 @@
 //!
 //! The record is one encoded epoch in the file `Plan` of the desk's own disk. A higher epoch is put there before the desk holds its material.
 ghost use Rattle.std.specs.Prelude.{◌≡◌, ◌≢◌, ◌≤◌, ◌⊎◌, [], ◌∷◌, List, OnOk, IfOk, IfErr, IsErrOf, IsTrue, None, Some, Ok, option_map};
-ghost use Rattle.dkg_journal.specs.Disk.{Follows, IsUnchanged, Lands, Rose};
+ghost use Rattle.dkg_journal.specs.Disk.{ImagesFollow, IsUnchanged, Lands, Rose};
 ghost use Rattle.dkg_journal.specs.Fuse.{Fused, Ran, RanAll};
 ghost use Rattle.dkg_journal.specs.Names.{Files};
 ghost use Rattle.dkg_sign.specs.Lives.{DeskDeed, KeepsPromise, Covers, deeds_with_registered};
 ghost use Rattle.dkg_sign.specs.Recorded.{recorded, epoch_in, IsAsLeft};
-ghost use Rattle.dkg_sign.specs.Registers.{AnswersRecord, IsDiskKept, IsOfDeskOpening, IsOfPut, JudgesRegistration, Opens, Registers, SameFiles, is_recorded_below, put_call};
+ghost use Rattle.dkg_sign.specs.Registers.{AnswersRecord, IsDiskKept, IsOfDeskOpening, IsOfPut, JudgesRegistration, AnswersOpening, Registers, SameFiles, is_recorded_below, put_call};
 
 use crate::desk::SigningDesk;
 use crate::error::DeskError;
@@ -67,10 +67,10 @@ impl SigningDesk {
         me: Key,
     ) -> Result<SigningDesk, DeskError>
         ensures fresh { IfOk result (λ desk. (desk.me ≡ me) × (desk.held ≡ None)) }
-        ensures exact { IsTrue D.tells → Opens (recorded (D.files disk.old)) result }
+        ensures exact { IsTrue D.tells → AnswersOpening (recorded (D.files disk.old)) result }
         ensures error_kinds { IfErr result IsOfDeskOpening }
         ensures stands { IfOk result (λ desk. IsTrue D.tells → IsAsLeft desk (D.files disk.new) (D.image disk.new)) }
-        ensures same { Follows SameFiles (D.image disk.old) (D.image disk.new) }
+        ensures same { ImagesFollow SameFiles (D.image disk.old) (D.image disk.new) }
         ensures later { D.faults disk.old ≤ D.faults disk.new }
         ensures disk { IsErrOf result DeskError.Disk → Rose (D.faults disk.old) (D.faults disk.new) }
         ensures fused { Fused DeskError.Cut DeskError.NoMemory result fuse.old fuse.new }

@@ -3,7 +3,7 @@
 //! A node is given one beside its own registrar. What the desk refuses is kept in a list and does not stop the node.
 ghost use Rattle.std.specs.Prelude.{◌≡◌, ◌≤◌, ◌⊎◌, ◌||◌, ◌++◌, [], ◌∷◌, ℕ, List, None, Ok, true, false, OnOk, OnErr, IsErrOf, IsTrue};
 ghost use Rattle.dkg_types.specs.declared.scheme.SchemeInfo.{SchemeInfo};
-ghost use Rattle.dkg_journal.specs.Disk.{Follows, Rose};
+ghost use Rattle.dkg_journal.specs.Disk.{ImagesFollow, Rose};
 ghost use Rattle.dkg_journal.specs.Fuse.{Fused, RanAll};
 ghost use Rattle.dkg_sign.specs.Lives.{DeskDeed, KeepsPromise, Covers, Registered, deeds_with_registered};
 ghost use Rattle.dkg_sign.specs.Recorded.{recorded};
@@ -76,7 +76,7 @@ impl<D: Disk> DeskRegistrar<D> {
         ensures disk { IsErrOf result DeskError.Disk → Rose (D.faults self.old.disk) (D.faults self.new.disk) }
         ensures fused { Fused DeskError.Cut DeskError.NoMemory result fuse.old fuse.new }
         ensures calls { RanAll D.made self.old.disk self.new.disk fuse.old fuse.new (opening_calls self.old.reopen) }
-        ensures same { Follows SameFiles (D.image self.old.disk) (D.image self.new.disk) }
+        ensures same { ImagesFollow SameFiles (D.image self.old.disk) (D.image self.new.disk) }
         ensures stands { IsTrue D.tells → IsAsLeftOrShut self.old.reopen self.old.desk (D.files self.old.disk) (D.image self.old.disk)
             → IsAsLeftOrShut self.new.reopen self.new.desk (D.files self.new.disk) (D.image self.new.disk) }
         ensures lives { IsTrue D.tells → (deeds : List DeskDeed) → KeepsPromise deeds (D.image self.old.disk) → Covers self.old.desk.current deeds
@@ -102,7 +102,7 @@ impl<D: Disk> DeskRegistrar<D> {
         ensures disk { IsErrOf result DeskError.Disk → Rose (D.faults self.old.disk) (D.faults self.new.disk) }
         ensures calls { RanUncut D.made self.old.disk self.new.disk (opening_calls self.old.reopen ++ put_call epoch ∷ []) }
         ensures tried { IsTrue D.tells → IsAsLeftOrShut self.old.reopen self.old.desk (D.files self.old.disk) (D.image self.old.disk)
-            → Follows (PutsAtMost epoch) (D.image self.old.disk) (D.image self.new.disk) }
+            → ImagesFollow (PutsAtMost epoch) (D.image self.old.disk) (D.image self.new.disk) }
         ensures stands { IsTrue D.tells → IsAsLeftOrShut self.old.reopen self.old.desk (D.files self.old.disk) (D.image self.old.disk) → IsDiskKept result
             → IsAsLeftOrShut self.new.reopen self.new.desk (D.files self.new.disk) (D.image self.new.disk) }
         ensures lives { IsTrue D.tells → IsAsLeftOrShut self.old.reopen self.old.desk (D.files self.old.disk) (D.image self.old.disk) → (deeds : List DeskDeed)
@@ -135,7 +135,7 @@ impl<D: Disk> Registrar for DeskRegistrar<D> {
         ensures later { D.faults self.old.disk ≤ D.faults self.new.disk }
         ensures calls { RanUncut D.made self.old.disk self.new.disk (opening_calls self.old.reopen ++ put_call epoch ∷ []) }
         ensures tried { IsTrue D.tells → IsAsLeftOrShut self.old.reopen self.old.desk (D.files self.old.disk) (D.image self.old.disk)
-            → Follows (PutsAtMost epoch) (D.image self.old.disk) (D.image self.new.disk) }
+            → ImagesFollow (PutsAtMost epoch) (D.image self.old.disk) (D.image self.new.disk) }
         ensures stands { IsTrue D.tells → IsAsLeftOrShut self.old.reopen self.old.desk (D.files self.old.disk) (D.image self.old.disk)
             → IsAsLeftOrShut self.new.reopen self.new.desk (D.files self.new.disk) (D.image self.new.disk) }
         // The promise over lives.

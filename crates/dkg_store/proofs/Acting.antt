@@ -81,7 +81,7 @@ module _ {S : Type 0} (op : SecretOp) (e : SectionEntry) (end : S) {files : File
   append_torn cause is done once tried ends = made_next (appends e end) (secret_done op tt refl done once) (disk_torn (Appends e) end cause is tried ends)
 
   -- both are done
-  pub both_done : {files_now : Files} {next : Files → Type 0} {h : Burn} {how : Ended StoreError S} → how ≡ went end → now ≡ after op s → g ≡ spent_once f → (Stands files image → of_disk.Finished (of_disk.Appends e) files files_now next g h) → next files_now
+  pub both_done : {files_now : Files} {next : Files → Type 0} {h : Burn} {how : Ended StoreError S} → how ≡ went end → now ≡ after op s → g ≡ spent_once f → (Stands files image → of_disk.FinishedOperation (of_disk.Appends e) files files_now next g h) → next files_now
       → MadeAt (put_and_appended op e end) how files image files_now next (moment out s f) (moment out now h)
   both_done is done once finished itself = made_next (appends e end) (secret_done op tt refl done once) (disk_done (Appends e) end is finished itself)
 
@@ -92,7 +92,7 @@ module _ {S : Type 0} (e : SectionEntry) (end : S) {files files_now : Files} {im
       → MadeAt (appended e end) how files image files_now next (moment out s f) (moment out s g)
   alone_torn cause is tried ends = disk_torn (Appends e) end cause is tried ends
 
-  pub alone_done : {how : Ended StoreError S} → how ≡ went end → (Stands files image → of_disk.Finished (of_disk.Appends e) files files_now next f g) → next files_now
+  pub alone_done : {how : Ended StoreError S} → how ≡ went end → (Stands files image → of_disk.FinishedOperation (of_disk.Appends e) files files_now next f g) → next files_now
       → MadeAt (appended e end) how files image files_now next (moment out s f) (moment out s g)
   alone_done is finished itself = disk_done (Appends e) end is finished itself
 

@@ -2,26 +2,26 @@
 use Rattle.std.proofs.Common.{◌≡◌, ℕ, Option, Some, None, List, [], ◌∷◌, ◌++◌, map, refl, sym, ◌∙◌, ap, subst}
 use Rattle.std.proofs.lemmas.List.{map-append}
 use Rattle.dkg_journal.specs.Burn.{Burn}
-use Rattle.dkg_journal.specs.DeviceCall.{DeviceCall, Makes, CutIn, Crashes, call_at}
+use Rattle.dkg_journal.specs.DeviceCall.{DeviceCall, CallMade, CutIn, Crashes, call_at}
 use Rattle.dkg_journal.specs.Fuse.{Ran, RanAll, burned, calls_in, pick_now, spent_once}
 use Rattle.dkg_journal.specs.declared.disk.Op.{Op}
 use Rattle.dkg_secrets.specs.declared.secrets.SecretOp.{SecretOp}
-use Rattle.dkg_store.specs.Both.{Call, on_disk, on_secrets, disk_calls, secret_calls, MadeBoth}
+use Rattle.dkg_store.specs.Both.{EitherOp, on_disk, on_secrets, disk_calls, secret_calls, MadeBoth}
 
 -- a call of one device, made or cut
-at_disk : (pick : Option ℕ) (op : Op) (calls : List (DeviceCall Call)) → disk_calls (call_at pick (on_disk op) ∷ calls) ≡ call_at pick op ∷ disk_calls calls
+at_disk : (pick : Option ℕ) (op : Op) (calls : List (DeviceCall EitherOp)) → disk_calls (call_at pick (on_disk op) ∷ calls) ≡ call_at pick op ∷ disk_calls calls
 at_disk None op calls = refl
 at_disk (Some pick) op calls = refl
 
-not_at_disk : (pick : Option ℕ) (op : SecretOp) (calls : List (DeviceCall Call)) → disk_calls (call_at pick (on_secrets op) ∷ calls) ≡ disk_calls calls
+not_at_disk : (pick : Option ℕ) (op : SecretOp) (calls : List (DeviceCall EitherOp)) → disk_calls (call_at pick (on_secrets op) ∷ calls) ≡ disk_calls calls
 not_at_disk None op calls = refl
 not_at_disk (Some pick) op calls = refl
 
-at_secrets : (pick : Option ℕ) (op : SecretOp) (calls : List (DeviceCall Call)) → secret_calls (call_at pick (on_secrets op) ∷ calls) ≡ call_at pick op ∷ secret_calls calls
+at_secrets : (pick : Option ℕ) (op : SecretOp) (calls : List (DeviceCall EitherOp)) → secret_calls (call_at pick (on_secrets op) ∷ calls) ≡ call_at pick op ∷ secret_calls calls
 at_secrets None op calls = refl
 at_secrets (Some pick) op calls = refl
 
-not_at_secrets : (pick : Option ℕ) (op : Op) (calls : List (DeviceCall Call)) → secret_calls (call_at pick (on_disk op) ∷ calls) ≡ secret_calls calls
+not_at_secrets : (pick : Option ℕ) (op : Op) (calls : List (DeviceCall EitherOp)) → secret_calls (call_at pick (on_disk op) ∷ calls) ≡ secret_calls calls
 not_at_secrets None op calls = refl
 not_at_secrets (Some pick) op calls = refl
 
@@ -37,25 +37,25 @@ pub burned-map : (xs : List Op) (f : Burn) → burned (map on_disk xs) f ≡ bur
 burned-map [] f = refl
 burned-map (x ∷ xs) f = burned-map xs (spent_once f)
 
-pub disk_calls-append : (xs ys : List (DeviceCall Call)) → disk_calls (xs ++ ys) ≡ disk_calls xs ++ disk_calls ys
+pub disk_calls-append : (xs ys : List (DeviceCall EitherOp)) → disk_calls (xs ++ ys) ≡ disk_calls xs ++ disk_calls ys
 disk_calls-append [] ys = refl
-disk_calls-append (Makes (on_disk op) ∷ xs) ys = ap (λ (l : List (DeviceCall Op)). Makes op ∷ l) (disk_calls-append xs ys)
-disk_calls-append (Makes (on_secrets op) ∷ xs) ys = disk_calls-append xs ys
+disk_calls-append (CallMade (on_disk op) ∷ xs) ys = ap (λ (l : List (DeviceCall Op)). CallMade op ∷ l) (disk_calls-append xs ys)
+disk_calls-append (CallMade (on_secrets op) ∷ xs) ys = disk_calls-append xs ys
 disk_calls-append (CutIn (on_disk op) pick ∷ xs) ys = ap (λ (l : List (DeviceCall Op)). CutIn op pick ∷ l) (disk_calls-append xs ys)
 disk_calls-append (CutIn (on_secrets op) pick ∷ xs) ys = disk_calls-append xs ys
 disk_calls-append (Crashes pick ∷ xs) ys = ap (λ (l : List (DeviceCall Op)). Crashes pick ∷ l) (disk_calls-append xs ys)
 
-pub secret_calls-append : (xs ys : List (DeviceCall Call)) → secret_calls (xs ++ ys) ≡ secret_calls xs ++ secret_calls ys
+pub secret_calls-append : (xs ys : List (DeviceCall EitherOp)) → secret_calls (xs ++ ys) ≡ secret_calls xs ++ secret_calls ys
 secret_calls-append [] ys = refl
-secret_calls-append (Makes (on_disk op) ∷ xs) ys = secret_calls-append xs ys
-secret_calls-append (Makes (on_secrets op) ∷ xs) ys = ap (λ (l : List (DeviceCall SecretOp)). Makes op ∷ l) (secret_calls-append xs ys)
+secret_calls-append (CallMade (on_disk op) ∷ xs) ys = secret_calls-append xs ys
+secret_calls-append (CallMade (on_secrets op) ∷ xs) ys = ap (λ (l : List (DeviceCall SecretOp)). CallMade op ∷ l) (secret_calls-append xs ys)
 secret_calls-append (CutIn (on_disk op) pick ∷ xs) ys = secret_calls-append xs ys
 secret_calls-append (CutIn (on_secrets op) pick ∷ xs) ys = ap (λ (l : List (DeviceCall SecretOp)). CutIn op pick ∷ l) (secret_calls-append xs ys)
 secret_calls-append (Crashes pick ∷ xs) ys = ap (λ (l : List (DeviceCall SecretOp)). Crashes pick ∷ l) (secret_calls-append xs ys)
 
 module _ {D X : Type 0} (disk : D → D → List (DeviceCall Op) → Type 0) (secrets : X → X → List (DeviceCall SecretOp) → Type 0) where
   pub both_more : ((a b c : D) (xs ys : List (DeviceCall Op)) → disk a b xs → disk b c ys → disk a c (xs ++ ys)) → ((a b c : X) (xs ys : List (DeviceCall SecretOp)) → secrets a b xs → secrets b c ys → secrets a c (xs ++ ys))
-      → (a b c : D × X) (xs ys : List (DeviceCall Call)) → MadeBoth disk secrets a b xs → MadeBoth disk secrets b c ys → MadeBoth disk secrets a c (xs ++ ys)
+      → (a b c : D × X) (xs ys : List (DeviceCall EitherOp)) → MadeBoth disk secrets a b xs → MadeBoth disk secrets b c ys → MadeBoth disk secrets a c (xs ++ ys)
   both_more more_disk more_secrets a b c xs ys first second = record {
     on_the_disk = subst (λ (l : List (DeviceCall Op)). disk a.0 c.0 l) (sym (disk_calls-append xs ys)) (more_disk _ _ _ _ _ first.on_the_disk second.on_the_disk);
     on_the_secrets = subst (λ (l : List (DeviceCall SecretOp)). secrets a.1 c.1 l) (sym (secret_calls-append xs ys)) (more_secrets _ _ _ _ _ first.on_the_secrets second.on_the_secrets);
@@ -90,7 +90,7 @@ module _ {D X : Type 0} (disk : D → D → List (DeviceCall Op) → Type 0) (se
   }
 
   -- no calls at all
-  pub none_ran : (a : D) (x : X) (f : Burn) (calls : List Call) → disk a a [] → secrets x x [] → Ran (MadeBoth disk secrets) (a, x) (a, x) f f calls
+  pub none_ran : (a : D) (x : X) (f : Burn) (calls : List EitherOp) → disk a a [] → secrets x x [] → Ran (MadeBoth disk secrets) (a, x) (a, x) f f calls
   none_ran a x f calls no_disk no_secrets = record { first = []; rest = calls; whole = refl; all = record { each = record { on_the_disk = no_disk; on_the_secrets = no_secrets }; fuse = refl } }
 
 -- one call, whatever it answered

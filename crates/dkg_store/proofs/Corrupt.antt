@@ -4,7 +4,7 @@ use Rattle.std.specs.Prelude.{MatchResult}
 use Rattle.dkg_values.specs.declared.name.Name.{Name}
 use Rattle.dkg_journal.specs.Names.{Files}
 use Rattle.dkg_journal.specs.Gated.{OpensAlike, gated, gated_entries, gated_of}
-use Rattle.dkg_journal.specs.Opening.{broken}
+use Rattle.dkg_journal.specs.Opening.{first_break}
 use Rattle.dkg_journal.specs.Records.{SectionEntry}
 use Rattle.dkg_journal.specs.declared.opening.JournalEntry.{JournalEntry}
 use Rattle.dkg_journal.specs.Burn.{Burn}
@@ -45,23 +45,23 @@ module _ (limit : ℕ) (files : Files) where
   pub one_place : (p q : Name × ℕ) → IsCorruptAt limit files p.0 p.1 → IsCorruptAt limit files q.0 q.1 → p ≡ q
   one_place p q one other = elim one.so [
     | inl torn ↦ elim other.so [
-      | inl torn_too ↦ some_is p q (broken files) torn torn_too
-      | inr whole ↦ absurd (no_place (broken files) p torn whole.0)
+      | inl torn_too ↦ some_is p q (first_break files) torn torn_too
+      | inr whole ↦ absurd (no_place (first_break files) p torn whole.0)
     ]
     | inr whole ↦ elim other.so [
-      | inl torn ↦ absurd (no_place (broken files) q torn whole.0)
+      | inl torn ↦ absurd (no_place (first_break files) q torn whole.0)
       | inr whole_too ↦ some_is p q (no_event_at limit whole.1.read) whole.1.first (ap (no_event_at limit) (one_reading whole.1.read whole_too.1.read (whole.1.are ∙ sym whole_too.1.are)) ∙ whole_too.1.first)
     ]
   ]
 
   -- the first of these entries that is no event
-  pub corrupt_at : (es : List JournalEntry) (name : Name) (place : ℕ) → broken files ≡ None → map gated es ≡ gated_entries files → no_event_at limit es ≡ Some (name, place) → IsCorruptAt limit files name place
+  pub corrupt_at : (es : List JournalEntry) (name : Name) (place : ℕ) → first_break files ≡ None → map gated es ≡ gated_entries files → no_event_at limit es ≡ Some (name, place) → IsCorruptAt limit files name place
   corrupt_at es name place whole are first = record { so = inr (whole, record { read = es; are = are; first = first }) }
 
   -- where all are events, there is none
-  pub none_corrupt : (es : List JournalEntry) (name : Name) (place : ℕ) → broken files ≡ None → map gated es ≡ gated_entries files → no_event_at limit es ≡ None → IsCorruptAt limit files name place → ⊥
+  pub none_corrupt : (es : List JournalEntry) (name : Name) (place : ℕ) → first_break files ≡ None → map gated es ≡ gated_entries files → no_event_at limit es ≡ None → IsCorruptAt limit files name place → ⊥
   none_corrupt es name place whole are none at = elim at.so [
-    | inl torn ↦ no_place (broken files) (name, place) torn whole
+    | inl torn ↦ no_place (first_break files) (name, place) torn whole
     | inr other ↦ no_place (no_event_at limit other.1.read) (name, place) other.1.first (ap (no_event_at limit) (one_reading other.1.read es (other.1.are ∙ sym are)) ∙ none)
   ]
 

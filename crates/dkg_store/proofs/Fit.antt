@@ -2,8 +2,8 @@
 use Rattle.std.proofs.Common.{◌≡◌, ⊎_elim, ℕ, List, [], ◌∷◌, Bool, true, false, cond, is_ok, nat_le, nat_lt, sym, subst, ap, ◌∙◌}
 use Rattle.dkg_values.specs.Codec.{Reading, whole}
 use Rattle.dkg_journal.specs.Names.{Files}
-use Rattle.dkg_journal.specs.Disk.{Follows, Inside}
-use Rattle.dkg_journal.specs.Opening.{AreUnbroken, broken}
+use Rattle.dkg_journal.specs.Disk.{ImagesFollow, Inside}
+use Rattle.dkg_journal.specs.Opening.{AreUnbroken, first_break}
 use Rattle.dkg_journal.specs.Pruning.{MayLeave}
 use Rattle.dkg_journal.specs.Records.{SectionEntry, entries, from_section, placed}
 use Rattle.dkg_journal.specs.Steps.{Keeps, MayAdd}
@@ -33,13 +33,13 @@ module _ (limit : ℕ) where
   same_events : (es others : List SectionEntry) → others ≡ es → AreEvents limit es → AreEvents limit others
   same_events es others same all = subst (AreEvents limit) (sym same) all
 
-  pub kept_fit : (image next : Files → Type 0) → Follows Keeps image next → AreUnbroken next → AreFit limit image → AreFit limit next
+  pub kept_fit : (image next : Files → Type 0) → ImagesFollow Keeps image next → AreUnbroken next → AreFit limit image → AreFit limit next
   kept_fit image next follows whole fit = record {
     whole = whole;
     events = λ c here. let from = follows.each c here in same_events (entries from.0) (entries c) from.2.same (fit.events from.0 from.1);
   }
 
-  pub may_add_fit : (e : SectionEntry) (image next : Files → Type 0) → is_event_body limit e.1 ≡ true → Follows (MayAdd e) image next → AreUnbroken next → AreFit limit image → AreFit limit next
+  pub may_add_fit : (e : SectionEntry) (image next : Files → Type 0) → is_event_body limit e.1 ≡ true → ImagesFollow (MayAdd e) image next → AreUnbroken next → AreFit limit image → AreFit limit next
   may_add_fit e image next is follows whole fit = record {
     whole = whole;
     events = λ c here.
@@ -51,7 +51,7 @@ module _ (limit : ℕ) where
         from.2.either;
   }
 
-  pub may_leave_fit : (min : ℕ) (image next : Files → Type 0) → Follows (MayLeave min) image next → AreUnbroken next → AreFit limit image → AreFit limit next
+  pub may_leave_fit : (min : ℕ) (image next : Files → Type 0) → ImagesFollow (MayLeave min) image next → AreUnbroken next → AreFit limit image → AreFit limit next
   may_leave_fit min image next follows whole fit = record {
     whole = whole;
     events = λ c here.
@@ -60,8 +60,8 @@ module _ (limit : ℕ) where
   }
 
 -- a barrier keeps every image
-pub barred_unbroken : (image next : Files → Type 0) → Follows (Inside Barrier) image next → AreUnbroken image → AreUnbroken next
-barred_unbroken image next follows whole = record { each = λ c here. let from = follows.each c here in ap broken from.2 ∙ whole.each from.0 from.1 }
+pub barred_unbroken : (image next : Files → Type 0) → ImagesFollow (Inside Barrier) image next → AreUnbroken image → AreUnbroken next
+barred_unbroken image next follows whole = record { each = λ c here. let from = follows.each c here in ap first_break from.2 ∙ whole.each from.0 from.1 }
 
 -- an event within the limit is read under it
 pub fits_event : (limit : ℕ) (e : Event) → EventFits limit e → is_event_body limit (event_spelling e) ≡ true

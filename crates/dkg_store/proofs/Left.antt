@@ -7,7 +7,7 @@ use Rattle.std.proofs.lemmas.List.{map-append}
 use Rattle.dkg_journal.specs.Burn.{Burn}
 use Rattle.dkg_journal.specs.DeviceCall.{DeviceCall}
 use Rattle.dkg_journal.specs.Errors.{IsOfDevice}
-use Rattle.dkg_journal.specs.Disk.{Follows, Rose}
+use Rattle.dkg_journal.specs.Disk.{ImagesFollow, Rose}
 use Rattle.dkg_journal.specs.Fuse.{Ran, RanAll, Reached}
 use Rattle.dkg_journal.specs.Records.{SectionEntry, entries}
 use Rattle.dkg_journal.specs.Steps.{AddsEntry, IsOpenAt, Keeps, MayAdd}
@@ -20,7 +20,7 @@ use Rattle.dkg_journal.specs.Journals.{IsOpen, append_calls}
 use Rattle.dkg_journal.specs.Places.{place_at}
 use Rattle.dkg_journal.specs.Steps.{append_calls_at}
 use Rattle.dkg_journal.specs.declared.journal.Journal.{Journal}
-use Rattle.dkg_store.specs.Both.{Call, MadeBoth, on_disk, on_secrets, put_then_append}
+use Rattle.dkg_store.specs.Both.{EitherOp, MadeBoth, on_disk, on_secrets, put_then_append}
 use Rattle.dkg_store.specs.Called.{Called, ErrorIsDue, ErrorIsDueWith}
 use Rattle.dkg_store.specs.Counts.{CountsOn}
 use Rattle.dkg_store.specs.Errors.{IsOfDevices, IsOfOpening, IsOfRestoring, store_error_of}
@@ -83,7 +83,7 @@ gives_unmade tell (Some false) is pairs more image held = record {
 gives_unmade tell (Some true) is pairs more image held = absurd is
 
 module _ {D X : Type 0} (known : Type 0) (disk : D → D → List (DeviceCall Op) → Type 0) (secrets : X → X → List (DeviceCall SecretOp) → Type 0) (disk_faults : D → ℕ) (secret_faults : X → ℕ) where
-  pub called_unmade : ((a : D) → disk a a []) → ((a : X) → secrets a a []) → (ends : Option Bool) → IsUnmade ends → (calls : List Call) (devices : Devices D X) → Called known disk secrets disk_faults secret_faults ends calls devices devices
+  pub called_unmade : ((a : D) → disk a a []) → ((a : X) → secrets a a []) → (ends : Option Bool) → IsUnmade ends → (calls : List EitherOp) (devices : Devices D X) → Called known disk secrets disk_faults secret_faults ends calls devices devices
   called_unmade no_disk no_secrets None is calls devices = record {
     same_disk = refl;
     same_secrets = refl;
@@ -162,10 +162,10 @@ pub extends_alike : {ends : Option Bool} {section section_too : ℕ} {body body_
     → Extends ends section_too body_too files files_now image next
 extends_alike {ends} {files = files} {files_now = files_now} {image = image} {next = next} a b extends = subst (λ (e : SectionEntry). Extends ends e.0 e.1 files files_now image next) (same_entry a b) extends
 
-pub called_alike : {D X : Type 0} {known : Type 0} {disk : D → D → List (DeviceCall Op) → Type 0} {secrets : X → X → List (DeviceCall SecretOp) → Type 0} {disk_faults : D → ℕ} {secret_faults : X → ℕ} {ends : Option Bool} {calls calls_too : List Call} {old new : Devices D X}
+pub called_alike : {D X : Type 0} {known : Type 0} {disk : D → D → List (DeviceCall Op) → Type 0} {secrets : X → X → List (DeviceCall SecretOp) → Type 0} {disk_faults : D → ℕ} {secret_faults : X → ℕ} {ends : Option Bool} {calls calls_too : List EitherOp} {old new : Devices D X}
     → calls ≡ calls_too → Called known disk secrets disk_faults secret_faults ends calls old new → Called known disk secrets disk_faults secret_faults ends calls_too old new
 called_alike {known = known} {disk = disk} {secrets = secrets} {disk_faults = disk_faults} {secret_faults = secret_faults} {ends = ends} {old = old} {new = new} same called =
-    subst (λ (l : List Call). Called known disk secrets disk_faults secret_faults ends l old new) same called
+    subst (λ (l : List EitherOp). Called known disk secrets disk_faults secret_faults ends l old new) same called
 
 -- The calls of an append are those of a journal in which each section's file ends at the same place.
 same_calls : (e : SectionEntry) (journal ready : Journal) → ((s : ℕ) → place_at ready.places s ≡ place_at journal.places s) → append_calls ready e ≡ append_calls journal e
@@ -181,7 +181,7 @@ calls_alike {op} {section = section} {body = body} journal ready puts a b places
 
 module _ (tell : Type 0) (epoch dealer private : ℕ) (public : List ℕ) (fits : IsEvent (events.Dealing dealer public)) (pairs : Pairs) (unknown : get pairs (epoch, dealer) ≡ None) {op : SecretOp} {section : ℕ} {body : List ℕ}
     (puts : op ≡ PutDealing epoch dealer private) (at : section ≡ epoch) (spells : body ≡ event_spelling (events.Dealing dealer public)) (held now : Secrets) (image next : Files → Type 0)
-    (may : Follows (MayAdd (section, body)) image next) (steps : tell → PutsFirst op (section, body) image next held now)
+    (may : ImagesFollow (MayAdd (section, body)) image next) (steps : tell → PutsFirst op (section, body) image next held now)
   where
     steps_so : tell → PutsFirst (PutDealing epoch dealer private) (epoch, event_spelling (events.Dealing dealer public)) image next held now
     steps_so told =
@@ -197,13 +197,13 @@ module _ (tell : Type 0) (epoch dealer private : ℕ) (public : List ℕ) (fits 
     }
 
     -- .. or it is done
-    pub gives_recorded : (tell → now ≡ after op held) → Follows (AddsEntry (section, body)) image next → GivesDealing tell (Some true) pairs (insert pairs (epoch, dealer) (public, private)) image next held now
+    pub gives_recorded : (tell → now ≡ after op held) → ImagesFollow (AddsEntry (section, body)) image next → GivesDealing tell (Some true) pairs (insert pairs (epoch, dealer) (public, private)) image next held now
     gives_recorded done adds = record {
       notes = gives_put.notes;
       either = gives_put.either;
       done = λ told holds.
           done_holds epoch dealer private public fits pairs unknown held now image next holds (done told ∙ ap (λ (o : SecretOp). after o held) puts)
-          (subst (λ (e : SectionEntry). Follows (AddsEntry e) image next) (same_entry at spells) adds);
+          (subst (λ (e : SectionEntry). ImagesFollow (AddsEntry e) image next) (same_entry at spells) adds);
     }
 
 -- WHERE IT ENDED SO
@@ -214,7 +214,7 @@ extends_as {section = section} {body = body} {files = files} {files_now = files_
 pub gives_as : {tell : Type 0} {ends ends_too : Option Bool} {pairs more : Pairs} {image next : Files → Type 0} {held now : Secrets} → ends ≡ ends_too → GivesDealing tell ends pairs more image next held now → GivesDealing tell ends_too pairs more image next held now
 gives_as {tell} {pairs = pairs} {more = more} {image = image} {next = next} {held = held} {now = now} is gives = subst (λ (o : Option Bool). GivesDealing tell o pairs more image next held now) is gives
 
-pub called_as : {D X : Type 0} {known : Type 0} {disk : D → D → List (DeviceCall Op) → Type 0} {secrets : X → X → List (DeviceCall SecretOp) → Type 0} {disk_faults : D → ℕ} {secret_faults : X → ℕ} {ends ends_too : Option Bool} {calls : List Call} {old new : Devices D X}
+pub called_as : {D X : Type 0} {known : Type 0} {disk : D → D → List (DeviceCall Op) → Type 0} {secrets : X → X → List (DeviceCall SecretOp) → Type 0} {disk_faults : D → ℕ} {secret_faults : X → ℕ} {ends ends_too : Option Bool} {calls : List EitherOp} {old new : Devices D X}
     → ends ≡ ends_too → Called known disk secrets disk_faults secret_faults ends calls old new → Called known disk secrets disk_faults secret_faults ends_too calls old new
 called_as {known = known} {disk = disk} {secrets = secrets} {disk_faults = disk_faults} {secret_faults = secret_faults} {calls = calls} {old = old} {new = new} is called =
     subst (λ (o : Option Bool). Called known disk secrets disk_faults secret_faults o calls old new) is called
@@ -254,7 +254,7 @@ module _ {V W : Type 0} (note_of : SectionEntry → Option (Note V)) (other_of :
   note_unmade (Some true) is m more image held = absurd is
 
   module _ (m : Notes V) (k : ℕ × ℕ) (v : V) (e : SectionEntry) (unknown : get m k ≡ None) (says : note_of e ≡ Some (k, v)) (not_other : other_of e ≡ None) (no_dealing : recorded_dealing e ≡ None) (held now : Secrets) (same : now ≡ held) (image next : Files → Type 0)
-      (may : Follows (MayAdd e) image next)
+      (may : ImagesFollow (MayAdd e) image next)
     where
       holds_still : (pairs : Pairs) → HoldsDealings pairs image held → HoldsDealings pairs next now
       holds_still pairs holds = subst (λ (s : Secrets). HoldsDealings pairs next s) (sym same) (silent_holds held e no_dealing pairs image next may holds)
@@ -269,7 +269,7 @@ module _ {V W : Type 0} (note_of : SectionEntry → Option (Note V)) (other_of :
       }
 
       -- .. or it is done
-      pub note_done : Follows (AddsEntry e) image next → GivesNote (noted note_of) (noted other_of) (Some true) m (insert m k v) image next held now
+      pub note_done : ImagesFollow (AddsEntry e) image next → GivesNote (noted note_of) (noted other_of) (Some true) m (insert m k v) image next held now
       note_done adds = record {
         either = note_put.either;
         done = λ gives. gives_added note_of m k v e image next says unknown adds gives;
@@ -286,7 +286,7 @@ module _ {D X : Type 0} (known : Type 0) (disk : D → D → List (DeviceCall Op
   no_less : (count : D → ℕ) (old new : D) → new ≡ old → count old ≤ count new
   no_less count old new same = let is = ap count same in omega (arith, is)
 
-  pub called_read : (ends : Option Bool) → IsUnmade ends → (calls : List Call) (old new : Devices D X) → new.disk.now ≡ old.disk.now → new.disk.ghost_name ≡ old.disk.ghost_name → new.secrets.ghost_name ≡ old.secrets.ghost_name
+  pub called_read : (ends : Option Bool) → IsUnmade ends → (calls : List EitherOp) (old new : Devices D X) → new.disk.now ≡ old.disk.now → new.disk.ghost_name ≡ old.disk.ghost_name → new.secrets.ghost_name ≡ old.secrets.ghost_name
       → secrets old.secrets.now new.secrets.now [] → new.fuse ≡ old.fuse → secret_faults old.secrets.now ≤ secret_faults new.secrets.now → Called known disk secrets disk_faults secret_faults ends calls old new
   called_read ends is calls old new same loan loan_too none still later = record {
     same_disk = loan;
@@ -424,7 +424,7 @@ due_record e record_at disk secrets cut want name place is due = subst (λ (x : 
 pub is_open_there : (journal read : Journal) (files : Files) (image : Files → Type 0) → IsOpen journal files image → read.places ≡ journal.places → IsOpen read files image
 is_open_there journal read files image opened same = subst (λ (places : _). IsOpenAt places files image) (sym same) opened
 
-pub kept_holds : (pairs : Pairs) (image next : Files → Type 0) (held now : Secrets) → Follows Keeps image next → now ≡ held → HoldsDealings pairs image held → HoldsDealings pairs next now
+pub kept_holds : (pairs : Pairs) (image next : Files → Type 0) (held now : Secrets) → ImagesFollow Keeps image next → now ≡ held → HoldsDealings pairs image held → HoldsDealings pairs next now
 kept_holds pairs image next held now keeps same holds = subst (λ (s : Secrets). HoldsDealings pairs next s) (sym same) (record {
   whole = λ c here. let from = keeps.each c here in subst (λ (es : List SectionEntry). IsWhole es held) (sym from.2.same) (holds.whole from.0 from.1);
   gives = λ c here. let from = keeps.each c here in ap (λ (es : List SectionEntry). recovered es held) from.2.same ∙ holds.gives from.0 from.1;

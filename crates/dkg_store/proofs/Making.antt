@@ -4,11 +4,11 @@ use Rattle.dkg_journal.specs.Burn.{Burn}
 use Rattle.dkg_journal.specs.Fuse.{Fused, Reached, spent_once}
 use Rattle.dkg_journal.specs.Names.{Files}
 use Rattle.dkg_journal.specs.Operations as of_journal
-use Rattle.dkg_journal.specs.Operations.{Finished, Tried}
+use Rattle.dkg_journal.specs.Operations.{FinishedOperation, Tried}
 use Rattle.dkg_journal.specs.Operations.{Journaled, journaled}
 use Rattle.dkg_infos.specs.declared.entry.Entry.{Entry}
 use Rattle.dkg_store.specs.Acts.{Acts, Do, Goes, World, world, Runs, Cause, EndsBy, Ended, went, broken, Stands, MadeAt, moment, Held, Operation, OnDisk, Changes}
-use Rattle.dkg_journal.specs.Disk.{Did, Follows, Inside}
+use Rattle.dkg_journal.specs.Disk.{Did, ImagesFollow, Inside}
 use Rattle.dkg_journal.specs.declared.call.JournalError.{JournalError}
 use Rattle.dkg_journal.specs.declared.call.JournalError.TheVariants as journal
 use Rattle.dkg_journal.specs.declared.disk.Op.TheVariants.{Barrier}
@@ -41,7 +41,7 @@ module _ {F S : Type 0} {files files_now : Files} {image next : Files → Type 0
     stands = tt;
   })
 
-  pub disk_done : {how : Ended F S} → how ≡ went end → (Stands files image → Finished op files files_now next before now) → next files_now
+  pub disk_done : {how : Ended F S} → how ≡ went end → (Stands files image → FinishedOperation op files files_now next before now) → next files_now
       → MadeAt (one (OnDisk op) end) how files image files_now next (moment out s before) (moment out s now)
   disk_done is finished itself = subst (λ (x : Ended F S). MadeAt (one (OnDisk op) end) x files image files_now next (moment out s before) (moment out s now)) (sym is) (record {
     made = λ stands c here. let its = finished stands in
@@ -73,13 +73,13 @@ module _ {F S : Type 0} {files : Files} {image : Files → Type 0} {out : List E
 
 -- A barrier, of a disk of which nothing is loose.
 module _ {files : Files} {next : Files → Type 0} {before now : Burn} (once : now ≡ spent_once before) where
-  pub bar_tried : {image : Files → Type 0} → Follows (Inside Barrier) image next → Stands files image → Tried of_journal.Bars files next before now
+  pub bar_tried : {image : Files → Type 0} → ImagesFollow (Inside Barrier) image next → Stands files image → Tried of_journal.Bars files next before now
   bar_tried follows stands = record {
     each = λ c here. let from = follows.each c here in inl (ap journaled (from.2 ∙ stands.lands.only from.0 from.1));
     spent = record { calls = 1; in_bound = omega arith; is = once };
   }
 
-  pub bar_finished : {files_now : Files} → Did Barrier files files_now next → Finished of_journal.Bars files files_now next before now
+  pub bar_finished : {files_now : Files} → Did Barrier files files_now next → FinishedOperation of_journal.Bars files files_now next before now
   bar_finished did = record {
     after = ap journaled did.reads;
     settled = record { only = λ c here. did.durable c here ∙ sym did.reads };

@@ -4,7 +4,7 @@ use Rattle.std.specs.List.{AllByRecursion}
 use Rattle.std.specs.FinMap.{get, insert, empty, get-empty, retain_keys, get-retain_keys, same_map}
 use Rattle.dkg_values.specs.Codec.{Reading, whole}
 use Rattle.dkg_journal.specs.Names.{Files}
-use Rattle.dkg_journal.specs.Disk.{Follows}
+use Rattle.dkg_journal.specs.Disk.{ImagesFollow}
 use Rattle.dkg_journal.specs.Records.{SectionEntry, entries, placed, from_section}
 use Rattle.dkg_journal.specs.Steps.{AddsEntry, MayAdd}
 use Rattle.dkg_secrets.specs.Keys.{key_cmp}
@@ -90,7 +90,7 @@ module _ {V : Type 0} (note_of : SectionEntry → Option (Note V)) where
 
   -- WHAT A CRASH LEAVES
 
-  pub gives_added : (m : Notes V) (k : ℕ × ℕ) (v : V) (e : SectionEntry) (image next : Files → Type 0) → note_of e ≡ Some (k, v) → get m k ≡ None → Follows (AddsEntry e) image next → ImagesGive (noted note_of) m image → ImagesGive (noted note_of) (insert m k v) next
+  pub gives_added : (m : Notes V) (k : ℕ × ℕ) (v : V) (e : SectionEntry) (image next : Files → Type 0) → note_of e ≡ Some (k, v) → get m k ≡ None → ImagesFollow (AddsEntry e) image next → ImagesGive (noted note_of) m image → ImagesGive (noted note_of) (insert m k v) next
   gives_added m k v e image next says none follows gives = record {
     each = λ c here. let from = follows.each c here in let was = gives.each from.0 from.1 in
         ap (noted note_of) from.2.added
@@ -104,7 +104,7 @@ module _ {V : Type 0} (note_of : SectionEntry → Option (Note V)) where
     | inr is ↦ inr (ap (noted note_of) is ∙ noted_placed k v e d says (ap (λ (n : Notes V). get n k) was ∙ none) ∙ ap (λ (n : Notes V). insert n k v) was)
   ]
 
-  pub gives_either : (m : Notes V) (k : ℕ × ℕ) (v : V) (e : SectionEntry) (image next : Files → Type 0) → note_of e ≡ Some (k, v) → get m k ≡ None → Follows (MayAdd e) image next → ImagesGive (noted note_of) m image → ImagesGiveEither (noted note_of) m (insert m k v) next
+  pub gives_either : (m : Notes V) (k : ℕ × ℕ) (v : V) (e : SectionEntry) (image next : Files → Type 0) → note_of e ≡ Some (k, v) → get m k ≡ None → ImagesFollow (MayAdd e) image next → ImagesGive (noted note_of) m image → ImagesGiveEither (noted note_of) m (insert m k v) next
   gives_either m k v e image next says none follows gives = record {
     each = λ c here. let from = follows.each c here in either_of m k v e (entries from.0) (entries c) says none (gives.each from.0 from.1) from.2.either;
   }
@@ -116,7 +116,7 @@ module _ {V : Type 0} (note_of : SectionEntry → Option (Note V)) where
   ]
 
   -- a record of another kind, whether it is there or not
-  pub gives_still : (m : Notes V) (e : SectionEntry) (image next : Files → Type 0) → note_of e ≡ None → Follows (MayAdd e) image next → ImagesGive (noted note_of) m image → ImagesGive (noted note_of) m next
+  pub gives_still : (m : Notes V) (e : SectionEntry) (image next : Files → Type 0) → note_of e ≡ None → ImagesFollow (MayAdd e) image next → ImagesGive (noted note_of) m image → ImagesGive (noted note_of) m next
   gives_still m e image next says follows gives = record {
     each = λ c here. let from = follows.each c here in silent_of m e (entries from.0) (entries c) says (gives.each from.0 from.1) from.2.either;
   }
@@ -173,7 +173,7 @@ module _ {V : Type 0} (note_of : SectionEntry → Option (Note V)) where
 
 -- the record of a dealing says nothing of them, whether it is there or not
 pub dealing_notes : (section epoch dealer : ℕ) (body public : List ℕ) (image next : Files → Type 0) → section ≡ epoch → body ≡ event_spelling (Dealing dealer public) → IsEvent (Dealing dealer public)
-    → Follows (MayAdd (section, body)) image next → Follows SameNotes image next
+    → ImagesFollow (MayAdd (section, body)) image next → ImagesFollow SameNotes image next
 dealing_notes section epoch dealer body public image next at is fits follows = record {
   each = λ c here. let from = follows.each c here in (
     from.0,

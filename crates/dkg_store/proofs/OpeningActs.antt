@@ -3,7 +3,7 @@ use Rattle.std.proofs.Common.{◌≡◌, ℕ, List, [], ◌∷◌, length, Optio
 use Rattle.dkg_journal.specs.Burn.{Burn}
 use Rattle.dkg_journal.specs.Fuse.{spent_once}
 use Rattle.dkg_journal.specs.Names.{Files}
-use Rattle.dkg_journal.specs.Disk.{Did, Follows, Inside}
+use Rattle.dkg_journal.specs.Disk.{Did, ImagesFollow, Inside}
 use Rattle.dkg_journal.specs.Views.{views}
 use Rattle.dkg_journal.specs.Opening.{open_calls}
 use Rattle.dkg_journal.specs.Operations as of_disk
@@ -74,7 +74,7 @@ openings torn calls u = opens_then torn calls
 
 module _ (torn : Option (Name × ℕ)) (calls : ℕ) {files files_now : Files} {image next : Files → Type 0} {out : List Entry} {s : Secrets} {f g : Burn} where
   -- the barrier was ended within
-  pub bar_torn : {how : Ended StoreError (Unit {0})} (cause : Cause) → how ≡ broken cause → Follows (Inside Barrier) image next → g ≡ spent_once f → EndsBy cause f g
+  pub bar_torn : {how : Ended StoreError (Unit {0})} (cause : Cause) → how ≡ broken cause → ImagesFollow (Inside Barrier) image next → g ≡ spent_once f → EndsBy cause f g
       → MadeAt (opens torn calls) how files image files_now next (moment out s f) (moment out s g)
   bar_torn cause is follows once ends = first_broken (openings torn calls) is (disk_torn Bars tt cause refl (bar_tried once follows) ends)
 
@@ -91,7 +91,7 @@ module _ {files mid files_now : Files} {between next : Files → Type 0} {out : 
       subst (λ (x : Files). MadeAt (opens_then None (length (open_calls x))) how mid between files_now next (moment out s g) (moment out s h)) same
       (disk_torn (Opens (length (open_calls mid))) tt cause is (λ stands. tried) ends)
 
-  pub open_done : {how : Ended StoreError (Unit {0})} → how ≡ went tt → of_disk.Finished (Opens (length (open_calls mid))) mid files_now next g h → next files_now
+  pub open_done : {how : Ended StoreError (Unit {0})} → how ≡ went tt → of_disk.FinishedOperation (Opens (length (open_calls mid))) mid files_now next g h → next files_now
       → MadeAt (opens_then None (length (open_calls files))) how mid between files_now next (moment out s g) (moment out s h)
   open_done {how} is finished itself =
       subst (λ (x : Files). MadeAt (opens_then None (length (open_calls x))) how mid between files_now next (moment out s g) (moment out s h)) same

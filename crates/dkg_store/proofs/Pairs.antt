@@ -3,7 +3,7 @@ use Rattle.std.proofs.Common.{◌≡◌, ◌≢◌, ◌⊎◌, inl, inr, ℕ, co
 use Rattle.std.specs.List.{AllByRecursion}
 use Rattle.std.specs.FinMap.{FinMap, get, insert, empty, same_map}
 use Rattle.dkg_journal.specs.Names.{Files}
-use Rattle.dkg_journal.specs.Disk.{Follows}
+use Rattle.dkg_journal.specs.Disk.{ImagesFollow}
 use Rattle.dkg_journal.specs.Records.{SectionEntry, entries, placed}
 use Rattle.dkg_journal.specs.Steps.{AddsEntry, MayAdd}
 use Rattle.dkg_values.specs.Codec.{Reading, whole}
@@ -179,7 +179,7 @@ module _ (epoch dealer private : ℕ) (public : List ℕ) (is_event : IsEvent (e
     })
   ]
 
-  pub adds_holds : (image next : Files → Type 0) → HoldsDealings pairs image held → Follows (AddsEntry (epoch, event_spelling (events.Dealing dealer public))) image next → HoldsDealings (insert pairs (epoch, dealer) (public, private)) next (put held (epoch, dealer) private)
+  pub adds_holds : (image next : Files → Type 0) → HoldsDealings pairs image held → ImagesFollow (AddsEntry (epoch, event_spelling (events.Dealing dealer public))) image next → HoldsDealings (insert pairs (epoch, dealer) (public, private)) next (put held (epoch, dealer) private)
   adds_holds image next holds follows = record {
     whole = λ c n. let from = follows.each c n in
         subst (λ (es : List SectionEntry). IsWhole es (put held (epoch, dealer) private)) (sym from.2.added) (record_one (entries from.0) (holds.whole from.0 from.1) (holds.gives from.0 from.1)).0;
@@ -201,7 +201,7 @@ module _ (epoch dealer private : ℕ) (public : List ℕ) (is_event : IsEvent (e
     )
   ]
 
-  pub may_add_holds : (image next : Files → Type 0) → HoldsDealings pairs image held → Follows (MayAdd (epoch, event_spelling (events.Dealing dealer public))) image next → HoldsEither pairs (insert pairs (epoch, dealer) (public, private)) next (put held (epoch, dealer) private)
+  pub may_add_holds : (image next : Files → Type 0) → HoldsDealings pairs image held → ImagesFollow (MayAdd (epoch, event_spelling (events.Dealing dealer public))) image next → HoldsEither pairs (insert pairs (epoch, dealer) (public, private)) next (put held (epoch, dealer) private)
   may_add_holds image next holds follows = record {
     whole = λ c n. let from = follows.each c n in (either_one (entries from.0) (entries c) (holds.whole from.0 from.1) (holds.gives from.0 from.1) from.2.either).0;
     gives = λ c n. let from = follows.each c n in (either_one (entries from.0) (entries c) (holds.whole from.0 from.1) (holds.gives from.0 from.1) from.2.either).1;
@@ -220,6 +220,6 @@ puts_hold epoch dealer private public is_event pairs new held now image next hol
 
 -- .. and where they returned
 pub done_holds : (epoch dealer private : ℕ) (public : List ℕ) → IsEvent (events.Dealing dealer public) → (pairs : Pairs) → get pairs (epoch, dealer) ≡ None → (held now : Secrets) (image next : Files → Type 0) → HoldsDealings pairs image held
-    → now ≡ after (PutDealing epoch dealer private) held → Follows (AddsEntry (epoch, event_spelling (events.Dealing dealer public))) image next → HoldsDealings (insert pairs (epoch, dealer) (public, private)) next now
+    → now ≡ after (PutDealing epoch dealer private) held → ImagesFollow (AddsEntry (epoch, event_spelling (events.Dealing dealer public))) image next → HoldsDealings (insert pairs (epoch, dealer) (public, private)) next now
 done_holds epoch dealer private public is_event pairs new held now image next holds done adds =
     subst (HoldsDealings (insert pairs (epoch, dealer) (public, private)) next) (sym done) (adds_holds epoch dealer private public is_event pairs new held image next holds adds)

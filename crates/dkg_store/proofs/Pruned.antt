@@ -6,8 +6,8 @@ use Rattle.dkg_values.specs.declared.codec.CodecError.{CodecError}
 use Rattle.dkg_journal.specs.Burn.{Burn}
 use Rattle.dkg_journal.specs.Fuse.{spent_once}
 use Rattle.dkg_journal.specs.Names.{Files}
-use Rattle.dkg_journal.specs.Disk.{Follows}
-use Rattle.dkg_journal.specs.Operations.{Tried, Finished, Prunes as PrunesJournal}
+use Rattle.dkg_journal.specs.Disk.{ImagesFollow}
+use Rattle.dkg_journal.specs.Operations.{Tried, FinishedOperation, Prunes as PrunesJournal}
 use Rattle.dkg_journal.specs.Pruning.{LeavesAbove, MayLeave}
 use Rattle.dkg_journal.specs.Records.{SectionEntry, entries, from_section}
 use Rattle.dkg_infos.specs.declared.entry.Entry.{Entry}
@@ -76,13 +76,13 @@ module _ {V : Type 0} (note_of : SectionEntry → Option (Note V)) (min : ℕ) (
   left_of : (m : Notes V) (d es : List SectionEntry) → noted note_of d ≡ m → es ≡ from_section min d → noted note_of es ≡ above m
   left_of m d es was is = ap (noted note_of) is ∙ from d ∙ ap (λ (n : Notes V). above n) was
 
-  pub gives_left : (m : Notes V) (image next : Files → Type 0) → Follows (LeavesAbove min) image next → ImagesGive (noted note_of) m image → ImagesGive (noted note_of) (above m) next
+  pub gives_left : (m : Notes V) (image next : Files → Type 0) → ImagesFollow (LeavesAbove min) image next → ImagesGive (noted note_of) m image → ImagesGive (noted note_of) (above m) next
   gives_left m image next follows gives = record {
     each = λ c here. let d = follows.each c here in left_of m (entries d.0) (entries c) (gives.each d.0 d.1) d.2.left;
   }
 
 module _ {V : Type 0} (note_of : SectionEntry → Option (Note V)) (from : (min : ℕ) (es : List SectionEntry) → noted note_of (from_section min es) ≡ retain_keys (noted note_of es) (λ k. nat_le min k.0)) where
-  pub gives_may_leave : (min : ℕ) (m : Notes V) (image next : Files → Type 0) → Follows (MayLeave min) image next → ImagesGive (noted note_of) m image → GivesPruned (noted note_of) min m next
+  pub gives_may_leave : (min : ℕ) (m : Notes V) (image next : Files → Type 0) → ImagesFollow (MayLeave min) image next → ImagesGive (noted note_of) m image → GivesPruned (noted note_of) min m next
   gives_may_leave min m image next follows gives = record {
     each = λ c here.
         let d = follows.each c here in
@@ -158,7 +158,7 @@ module _ (min : ℕ) (s t : Secrets) (halves : (k : ℕ × ℕ) → min ≤ k.0 
   ]
 
   -- The journal is pruned, and the secrets at or above the minimum are there.
-  pub left_holds : (pairs : Pairs) (image next : Files → Type 0) → Follows (LeavesAbove min) image next → HoldsDealings pairs image s → HoldsDealings (retain_keys pairs (λ k. nat_le min k.0)) next t
+  pub left_holds : (pairs : Pairs) (image next : Files → Type 0) → ImagesFollow (LeavesAbove min) image next → HoldsDealings pairs image s → HoldsDealings (retain_keys pairs (λ k. nat_le min k.0)) next t
   left_holds pairs image next follows holds = record {
     whole = λ c here. let d = follows.each c here in subst (λ (es : List SectionEntry). IsWhole es t) (sym d.2.left) (whole_from (entries d.0) (holds.whole d.0 d.1));
     gives = λ c here. let d = follows.each c here in
@@ -169,7 +169,7 @@ module _ (min : ℕ) (s t : Secrets) (halves : (k : ℕ × ℕ) → min ≤ k.0 
   }
 
 -- The journal's prune was ended within, and the secrets are as they were.
-pub may_leave_holds : (min : ℕ) (s : Secrets) (pairs : Pairs) (image next : Files → Type 0) → Follows (MayLeave min) image next → HoldsDealings pairs image s → HoldsPruned min pairs next s
+pub may_leave_holds : (min : ℕ) (s : Secrets) (pairs : Pairs) (image next : Files → Type 0) → ImagesFollow (MayLeave min) image next → HoldsDealings pairs image s → HoldsPruned min pairs next s
 may_leave_holds min s pairs image next follows holds = record {
   whole = λ c here. let d = follows.each c here in subst (λ (es : List SectionEntry). IsWhole es s) (sym d.2.leaves.left) (whole_from d.2.least s s (λ k above. refl) (entries d.0) (holds.whole d.0 d.1));
   gives = λ c here.
@@ -200,35 +200,35 @@ module _ (min : ℕ) {files files_now : Files} {image next : Files → Type 0} {
   journal_torn cause is tried ends = first_broken (secrets_then min) is (disk_torn (PrunesJournal min) tt cause refl tried ends)
 
   -- the journal is pruned, and the secrets' prune was ended within
-  pub secrets_torn : {now : Secrets} {h : Burn} {how : Ended StoreError (Unit {0})} (cause : Cause) → how ≡ broken cause → (Stands files image → Finished (PrunesJournal min) files files_now next f g) → next files_now → Tries (Prune min) s now → h ≡ spent_once g → EndsBy cause g h
+  pub secrets_torn : {now : Secrets} {h : Burn} {how : Ended StoreError (Unit {0})} (cause : Cause) → how ≡ broken cause → (Stands files image → FinishedOperation (PrunesJournal min) files files_now next f g) → next files_now → Tries (Prune min) s now → h ≡ spent_once g → EndsBy cause g h
       → MadeAt (pruning min) how files image files_now next (moment out s f) (moment out now h)
   secrets_torn cause is finished itself tries once ends = made_next (secrets_then min) (disk_done (PrunesJournal min) tt refl finished itself) (secret_torn (Prune min) tt cause is tries once ends)
 
   -- both are pruned
-  pub both_pruned : {now : Secrets} {h : Burn} {how : Ended StoreError (Unit {0})} → how ≡ went tt → (Stands files image → Finished (PrunesJournal min) files files_now next f g) → next files_now → now ≡ of_secrets.after (Prune min) s → h ≡ spent_once g
+  pub both_pruned : {now : Secrets} {h : Burn} {how : Ended StoreError (Unit {0})} → how ≡ went tt → (Stands files image → FinishedOperation (PrunesJournal min) files files_now next f g) → next files_now → now ≡ of_secrets.after (Prune min) s → h ≡ spent_once g
       → MadeAt (pruning min) how files image files_now next (moment out s f) (moment out now h)
   both_pruned is finished itself done once = made_next (secrets_then min) (disk_done (PrunesJournal min) tt refl finished itself) (secret_done (Prune min) tt is done once)
 
 -- THE SAME MINIMUM
 
 module _ {m n : ℕ} {image next : Files → Type 0} (same : m ≡ n) where
-  pub same_left : Follows (LeavesAbove m) image next → Follows (LeavesAbove n) image next
-  same_left follows = subst (λ (k : ℕ). Follows (LeavesAbove k) image next) same follows
+  pub same_left : ImagesFollow (LeavesAbove m) image next → ImagesFollow (LeavesAbove n) image next
+  same_left follows = subst (λ (k : ℕ). ImagesFollow (LeavesAbove k) image next) same follows
 
-  pub same_may : Follows (MayLeave m) image next → Follows (MayLeave n) image next
-  same_may follows = subst (λ (k : ℕ). Follows (MayLeave k) image next) same follows
+  pub same_may : ImagesFollow (MayLeave m) image next → ImagesFollow (MayLeave n) image next
+  same_may follows = subst (λ (k : ℕ). ImagesFollow (MayLeave k) image next) same follows
 
 pub same_tried : {m n : ℕ} {files : Files} {next : Files → Type 0} {f g : Burn} → m ≡ n → Tried (PrunesJournal m) files next f g → Tried (PrunesJournal n) files next f g
 same_tried {files = files} {next = next} {f = f} {g = g} same tried = subst (λ (k : ℕ). Tried (PrunesJournal k) files next f g) same tried
 
-pub same_finished : {m n : ℕ} {files files_now : Files} {next : Files → Type 0} {f g : Burn} → m ≡ n → Finished (PrunesJournal m) files files_now next f g → Finished (PrunesJournal n) files files_now next f g
-same_finished {files = files} {files_now = files_now} {next = next} {f = f} {g = g} same done = subst (λ (k : ℕ). Finished (PrunesJournal k) files files_now next f g) same done
+pub same_finished : {m n : ℕ} {files files_now : Files} {next : Files → Type 0} {f g : Burn} → m ≡ n → FinishedOperation (PrunesJournal m) files files_now next f g → FinishedOperation (PrunesJournal n) files files_now next f g
+same_finished {files = files} {files_now = files_now} {next = next} {f = f} {g = g} same done = subst (λ (k : ℕ). FinishedOperation (PrunesJournal k) files files_now next f g) same done
 
 -- the plan is as it was
-pub may_others : (min : ℕ) (image next : Files → Type 0) → Follows (MayLeave min) image next → Follows SamePlan image next
+pub may_others : (min : ℕ) (image next : Files → Type 0) → ImagesFollow (MayLeave min) image next → ImagesFollow SamePlan image next
 may_others min image next follows = record { each = λ c here. let from = follows.each c here in (from.0, from.1, from.2.leaves.others Plan refl) }
 
-pub left_others : (min : ℕ) (image next : Files → Type 0) → Follows (LeavesAbove min) image next → Follows SamePlan image next
+pub left_others : (min : ℕ) (image next : Files → Type 0) → ImagesFollow (LeavesAbove min) image next → ImagesFollow SamePlan image next
 left_others min image next follows = record { each = λ c here. let from = follows.each c here in (from.0, from.1, from.2.others Plan refl) }
 
 -- those at or above the minimum

@@ -3,7 +3,7 @@ use Rattle.std.proofs.Common.{◌≡◌, ◌⊎◌, inl, inr, ℕ, cond, true, f
 use Rattle.std.specs.FinMap.{empty}
 use Rattle.dkg_values.specs.Codec.{Reading, whole}
 use Rattle.dkg_journal.specs.Names.{Files}
-use Rattle.dkg_journal.specs.Disk.{Follows}
+use Rattle.dkg_journal.specs.Disk.{ImagesFollow}
 use Rattle.dkg_journal.specs.Records.{SectionEntry, entries, placed}
 use Rattle.dkg_journal.specs.Steps.{MayAdd}
 use Rattle.dkg_store.specs.Events.{event_spelling, no_limit, IsEvent}
@@ -37,7 +37,7 @@ module _ (s : Secrets) (e : SectionEntry) (silent : recorded_dealing e ≡ None)
   ]
 
   -- whether the record is there or not
-  pub silent_holds : (pairs : Pairs) (image next : Files → Type 0) → Follows (MayAdd e) image next → HoldsDealings pairs image s → HoldsDealings pairs next s
+  pub silent_holds : (pairs : Pairs) (image next : Files → Type 0) → ImagesFollow (MayAdd e) image next → HoldsDealings pairs image s → HoldsDealings pairs next s
   silent_holds pairs image next follows holds = record {
     whole = λ c here. let from = follows.each c here in still_whole (entries from.0) (entries c) (holds.whole from.0 from.1) from.2.either;
     gives = λ c here. let from = follows.each c here in still_gives pairs (entries from.0) (entries c) (holds.gives from.0 from.1) from.2.either;

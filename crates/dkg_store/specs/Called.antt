@@ -4,7 +4,7 @@ use Rattle.dkg_journal.specs.DeviceCall.{DeviceCall}
 use Rattle.dkg_journal.specs.Fuse.{RanAll, Reached}
 use Rattle.dkg_journal.specs.declared.disk.Op.{Op}
 use Rattle.dkg_values.specs.declared.name.Name.{Name}
-use Rattle.dkg_store.specs.Both.{Call, MadeBoth}
+use Rattle.dkg_store.specs.Both.{EitherOp, MadeBoth}
 use Rattle.dkg_store.specs.Counts.{CountsOn}
 use Rattle.dkg_store.specs.On.{RanOn}
 use Rattle.dkg_store.specs.declared.call.StoreError.{StoreError}
@@ -23,13 +23,13 @@ if_made (Some true) new old = new
 if_made (Some false) new old = old
 if_made None new old = old
 
-abbrev pub AllRanOn : {D X : Type 0} → (D → D → List (DeviceCall Op) → Type 0) → (X → X → List (DeviceCall SecretOp) → Type 0) → Devices D X → Devices D X → List Call → Type 0
+abbrev pub AllRanOn : {D X : Type 0} → (D → D → List (DeviceCall Op) → Type 0) → (X → X → List (DeviceCall SecretOp) → Type 0) → Devices D X → Devices D X → List EitherOp → Type 0
 AllRanOn disk secrets old new calls = RanAll (MadeBoth disk secrets) (old.disk.now, old.secrets.now) (new.disk.now, new.secrets.now) old.fuse new.fuse calls
 
 -- The same devices are lent still, no count of failures fell, and the fuse counted on. They had the first of these calls and no others; all of them where the call
 -- ended in a change, none where it ended without one, and then the fuse cut none.
 pub record Called {D X : Type 0} (known : Type 0) (made_disk : D → D → List (DeviceCall Op) → Type 0) (made_secrets : X → X → List (DeviceCall SecretOp) → Type 0)
-    (disk_faults : D → ℕ) (secret_faults : X → ℕ) (ends : Option Bool) (calls : List Call) (old new : Devices D X) : Type 0 where
+    (disk_faults : D → ℕ) (secret_faults : X → ℕ) (ends : Option Bool) (calls : List EitherOp) (old new : Devices D X) : Type 0 where
   pub same_disk : new.disk.ghost_name ≡ old.disk.ghost_name
   pub same_secrets : new.secrets.ghost_name ≡ old.secrets.ghost_name
   pub later_disk : disk_faults old.disk.now ≤ disk_faults new.disk.now

@@ -3,7 +3,7 @@ use Rattle.std.specs.Prelude.{◌≡◌, ◌⊎◌, ℕ, List, [], ◌∷◌, ma
 use Rattle.std.specs.List.{AllByRecursion}
 use Rattle.dkg_values.specs.declared.name.Name.{Name}
 use Rattle.dkg_journal.specs.Names.{Files}
-use Rattle.dkg_journal.specs.Opening.{AreUnbroken, broken}
+use Rattle.dkg_journal.specs.Opening.{AreUnbroken, first_break}
 use Rattle.dkg_journal.specs.Gated.{gated, gated_entries}
 use Rattle.dkg_journal.specs.Records.{SectionEntry, entries}
 use Rattle.dkg_journal.specs.declared.opening.JournalEntry.{JournalEntry}
@@ -26,7 +26,7 @@ pub record HasNoEvent (limit : ℕ) (files : Files) (name : Name) (place : ℕ) 
 
 -- A record that is not whole stands there. Or all are whole, and a body is no event within the limit.
 pub record IsCorruptAt (limit : ℕ) (files : Files) (name : Name) (place : ℕ) : Type 0 where
-  pub so : (broken files ≡ Some (name, place)) ⊎ ((broken files ≡ None) × HasNoEvent limit files name place)
+  pub so : (first_break files ≡ Some (name, place)) ⊎ ((first_break files ≡ None) × HasNoEvent limit files name place)
 
 -- where the first body stands that is no event within the limit, if there is one
 abbrev pub IsAlien : ℕ → Files → Option (Name × ℕ) → Type 0

@@ -2,12 +2,12 @@
 use Rattle.std.specs.Prelude.{◌≡◌, ℕ, nat_le, Bool, true, List, map, Option, None, IfSome, if◌then◌else◌}
 use Rattle.std.specs.FinMap.{retain_keys}
 use Rattle.dkg_values.specs.declared.name.Name.TheVariants.{Segment}
-use Rattle.dkg_journal.specs.Disk.{Follows, Lands, SameElse}
+use Rattle.dkg_journal.specs.Disk.{ImagesFollow, Lands, SameElse}
 use Rattle.dkg_journal.specs.Gated.{OpensAlike, gated_entries}
 use Rattle.dkg_journal.specs.Gated.{gated as the_gate}
 use Rattle.dkg_journal.specs.Journals.{IsOpen}
 use Rattle.dkg_journal.specs.Names.{Files}
-use Rattle.dkg_journal.specs.Opening.{broken}
+use Rattle.dkg_journal.specs.Opening.{first_break}
 use Rattle.dkg_journal.specs.Pruning.{LeavesAbove}
 use Rattle.dkg_journal.specs.Records.{SectionEntry, entries}
 use Rattle.dkg_journal.specs.Steps.{Keeps}
@@ -28,16 +28,16 @@ pub record Extends (ends : Option Bool) (section : ℕ) (body : List ℕ) (files
   -- each record that a crash leaves is whole and an event within a limit, where that was so and this is one
   pub fit : (limit : ℕ) → is_event_body limit body ≡ true → AreFit limit image → AreFit limit next
   -- every file but the journal's is as it was
-  pub others : Follows (SameElse (Segment section)) image next
+  pub others : ImagesFollow (SameElse (Segment section)) image next
   -- Where nothing was loose, each image has the names from before, or the journal's own with them.
-  pub names : Lands files image → Follows (MayBeNamed section) image next
+  pub names : Lands files image → ImagesFollow (MayBeNamed section) image next
   -- Where it ended, the journal's own is among them if it made a record; and nothing is loose, if nothing was.
-  pub named : IfSome ends (λ made. Follows (Named made section) image next)
+  pub named : IfSome ends (λ made. ImagesFollow (Named made section) image next)
   pub lands : IfSome ends (λ made. Lands files image → Lands files_now next)
 
 -- Behind the recording of a dealing: what the devices gave back, with the new one or without; and exactly with it where it was recorded.
 pub record GivesDealing (tell : Type 0) (ends : Option Bool) (pairs more : Pairs) (image next : Files → Type 0) (held held_now : Secrets) : Type 0 where
-  pub notes : Follows SameNotes image next
+  pub notes : ImagesFollow SameNotes image next
   pub either : tell → HoldsDealings pairs image held → HoldsEither pairs more next held_now
   pub done : tell → IfSome ends (λ made. HoldsDealings pairs image held → HoldsDealings (if made then more else pairs) next held_now)
 
@@ -51,9 +51,9 @@ pub record GivesNote {M N : Type 0} (given : List SectionEntry → M) (other : L
 -- A prune leaves this of the disk.
 pub record Shrinks (min : ℕ) (ends : Option Bool) (files files_now : Files) (image next : Files → Type 0) : Type 0 where
   pub fit : (limit : ℕ) → AreFit limit image → AreFit limit next
-  pub plan : Follows SamePlan image next
-  pub names : Follows (NamesPruned min) image next
-  pub left : IfSome ends (λ made. Follows (LeavesAbove min) image next)
+  pub plan : ImagesFollow SamePlan image next
+  pub names : ImagesFollow (NamesPruned min) image next
+  pub left : IfSome ends (λ made. ImagesFollow (LeavesAbove min) image next)
   pub lands : IfSome ends (λ made. Lands files image → Lands files_now next)
 
 -- Behind it: what the devices gave back at or above a minimum, at or below this one; and exactly at or above this where it ended.
@@ -71,7 +71,7 @@ pub record OpensOver (journal : Journal) (files files_now : Files) (next : Files
   pub listed : views journal.waiting.items ≡ entries files
   pub gated : map the_gate journal.waiting.items ≡ gated_entries files
   pub settled : (c : Files) → next c → entries c ≡ entries files
-  pub whole : broken files ≡ None
+  pub whole : first_break files ≡ None
   -- another opening finds the same
   pub alike : OpensAlike files files_now
   pub names : (c : Files) → next c → NamesOpened files c
@@ -92,11 +92,11 @@ pub record Restores {Dir : Type 0} (disk_tells secrets_tell : Type 0) (limit : �
   pub settled : disk_tells → (c : Files) → next c → entries c ≡ entries files
   pub names : disk_tells → (c : Files) → next c → NamesOpened files c
   pub lands : disk_tells → Lands files_now next
-  pub sound : disk_tells → (broken files ≡ None) × AreEvents limit (entries files)
+  pub sound : disk_tells → (first_break files ≡ None) × AreEvents limit (entries files)
 
 -- Wherever an opening was stopped: no entry is lost, each record is whole and an event within a limit where that was so, and the same dealings are
 -- given back.
 pub record Rereads (image next : Files → Type 0) (held held_now : Secrets) : Type 0 where
-  pub images : Follows Keeps image next
+  pub images : ImagesFollow Keeps image next
   pub fit : (limit : ℕ) → AreFit limit image → AreFit limit next
   pub holds : (pairs : Pairs) → HoldsDealings pairs image held → HoldsDealings pairs next held_now

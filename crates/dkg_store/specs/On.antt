@@ -5,11 +5,11 @@ use Rattle.dkg_journal.specs.Disk.{Lands}
 use Rattle.dkg_journal.specs.Fuse.{Ran}
 use Rattle.dkg_journal.specs.Names.{Files}
 use Rattle.dkg_journal.specs.declared.disk.Op.{Op}
-use Rattle.dkg_store.specs.Both.{Call, MadeBoth}
+use Rattle.dkg_store.specs.Both.{EitherOp, MadeBoth}
 use Rattle.dkg_secrets.specs.declared.secrets.SecretOp.{SecretOp}
 use Rattle.dkg_store.specs.declared.devices.Devices.{Devices}
 
-abbrev pub RanOn : {D X : Type 0} → (D → D → List (DeviceCall Op) → Type 0) → (X → X → List (DeviceCall SecretOp) → Type 0) → Devices D X → Devices D X → List Call → Type 0
+abbrev pub RanOn : {D X : Type 0} → (D → D → List (DeviceCall Op) → Type 0) → (X → X → List (DeviceCall SecretOp) → Type 0) → Devices D X → Devices D X → List EitherOp → Type 0
 RanOn disk secrets old new calls = Ran (MadeBoth disk secrets) (old.disk.now, old.secrets.now) (new.disk.now, new.secrets.now) old.fuse new.fuse calls
 
 -- the devices are the caller's own still

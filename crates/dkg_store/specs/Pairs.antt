@@ -3,7 +3,7 @@ use Rattle.std.specs.Prelude.{◌≡◌, ◌⊎◌, ◌≤◌, ℕ, nat_le, List
 use Rattle.std.specs.List.{AllByRecursion}
 use Rattle.std.specs.FinMap.{FinMap, get, insert, empty, retain_keys}
 use Rattle.dkg_journal.specs.Names.{Files}
-use Rattle.dkg_journal.specs.Disk.{Follows}
+use Rattle.dkg_journal.specs.Disk.{ImagesFollow}
 use Rattle.dkg_journal.specs.Records.{SectionEntry, entries}
 use Rattle.dkg_journal.specs.Steps.{MayAdd}
 use Rattle.dkg_values.specs.Codec.{whole}
@@ -71,7 +71,7 @@ pub record HoldsEither (pairs more : Pairs) (image : Files → Type 0) (held : S
 
 -- The put was tried and the disk is as it was; or the put is done, and the journal may have the entry.
 pub record PutsFirst (op : SecretOp) (e : SectionEntry) (image next : Files → Type 0) (held now : Secrets) : Type 0 where
-  pub so : (Tries op held now × ((c : Files) → next c → image c)) ⊎ ((now ≡ after op held) × Follows (MayAdd e) image next)
+  pub so : (Tries op held now × ((c : Files) → next c → image c)) ⊎ ((now ≡ after op held) × ImagesFollow (MayAdd e) image next)
 
 -- .. those at or above a minimum, at or below this one
 pub record HoldsPruned (min : ℕ) (pairs : Pairs) (image : Files → Type 0) (held : Secrets) : Type 0 where

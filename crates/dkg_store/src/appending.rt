@@ -3,7 +3,7 @@ ghost use Rattle.std.specs.Prelude.{◌≡◌, ◌⊎◌, ◌<◌, ◌^◌, ⊤,
 ghost use Rattle.std.specs.Prelude.{map as map_list};
 ghost use Rattle.std.specs.FinMap as map;
 ghost use Rattle.dkg_infos.specs.declared.entry.Entry.{Entry};
-ghost use Rattle.dkg_journal.specs.Disk.{Follows, Lands, Rose};
+ghost use Rattle.dkg_journal.specs.Disk.{ImagesFollow, Lands, Rose};
 ghost use Rattle.dkg_journal.specs.Fuse.{Reached};
 ghost use Rattle.dkg_journal.specs.Journals.{IsOpen, append_calls};
 ghost use Rattle.dkg_journal.specs.Steps.{AddsEntry, MayAdd};
@@ -36,9 +36,9 @@ pub(crate) fn append_event<V: Drop, D: Disk, X: SecretStore>(
     requires open { IsTrue D.tells → IsOpen journal.old (D.files devices.old.disk.now) (D.image devices.old.disk.now) }
     ensures open { OnOk result (IsTrue D.tells → IsOpen journal.new (D.files devices.new.disk.now) (D.image devices.new.disk.now)) }
     ensures kept { notes.new ≡ if_made (made_in true result) (map.insert notes.old (epoch, key) value) notes.old }
-    ensures added { OnOk result (IsTrue D.tells → Follows (AddsEntry (epoch, body.now)) (D.image devices.old.disk.now) (D.image devices.new.disk.now)) }
+    ensures added { OnOk result (IsTrue D.tells → ImagesFollow (AddsEntry (epoch, body.now)) (D.image devices.old.disk.now) (D.image devices.new.disk.now)) }
     // Each image has the entries from before, with the new one or without.
-    ensures images { IsTrue D.tells → Follows (MayAdd (epoch, body.now)) (D.image devices.old.disk.now) (D.image devices.new.disk.now) }
+    ensures images { IsTrue D.tells → ImagesFollow (MayAdd (epoch, body.now)) (D.image devices.old.disk.now) (D.image devices.new.disk.now) }
     // Whatever a crash leaves of the disk.
     ensures extends { IsTrue D.tells → Extends (made_in true result)
         epoch body.now

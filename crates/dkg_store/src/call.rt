@@ -2,7 +2,7 @@
 //!
 //! The store makes all its changing calls of secrets through `perform_secret`.
 ghost use Rattle.std.specs.Prelude.{◌≡◌, ◌⊎◌, ◌≤◌, [], ◌∷◌, OnOk, IsErrOf, IsTrue, IfErr};
-ghost use Rattle.dkg_journal.specs.DeviceCall.{Makes};
+ghost use Rattle.dkg_journal.specs.DeviceCall.{CallMade};
 ghost use Rattle.dkg_journal.specs.Disk.{Rose};
 ghost use Rattle.dkg_journal.specs.Fuse.{calls_in, spent_once, Reached};
 ghost use Rattle.dkg_store.specs.Acts.{EndsBy};
@@ -95,7 +95,7 @@ fn made_call<X: SecretStore>(
     ensures memory { IsErrOf result SecretError.NoMemory → X.held secrets.new ≡ X.held secrets.old }
     ensures cause { HasSecretCause (X.faults secrets.old) (X.faults secrets.new) result }
     ensures want { HasSecretWant (X.wants secrets.old) (X.wants secrets.new) result }
-    ensures calls { X.made secrets.old secrets.new (Makes op.now ∷ []) }
+    ensures calls { X.made secrets.old secrets.new (CallMade op.now ∷ []) }
 {
     match *op {
         SecretOp::PutShare { epoch, share } => secrets.put_share(alloc, epoch, share),

@@ -2,7 +2,7 @@
 ghost use Rattle.std.specs.Prelude.{◌≡◌, ⊤, [], List, OnOk, IfErr, IsTrue, true};
 ghost use Rattle.std.specs.FinMap.{keys};
 ghost use Rattle.dkg_infos.specs.declared.entry.Entry.{Entry};
-ghost use Rattle.dkg_journal.specs.Disk.{Follows, IsUnchanged, Rose};
+ghost use Rattle.dkg_journal.specs.Disk.{ImagesFollow, IsUnchanged, Rose};
 ghost use Rattle.dkg_journal.specs.Fuse.{Reached};
 ghost use Rattle.dkg_journal.specs.Journals.{IsOpen};
 ghost use Rattle.dkg_journal.specs.Ready.{CanAppend};
@@ -44,9 +44,9 @@ pub fn put_and_append<D: Disk, X: SecretStore>(
     requires open { IsTrue D.tells → IsOpen journal.old (D.files devices.old.disk.now) (D.image devices.old.disk.now) }
     ensures open { OnOk result (IsTrue D.tells → IsOpen journal.new (D.files devices.new.disk.now) (D.image devices.new.disk.now)) }
     ensures done { OnOk result (IsTrue X.tells → X.held devices.new.secrets.now ≡ after put.now (X.held devices.old.secrets.now)) }
-    ensures added { OnOk result (IsTrue D.tells → Follows (AddsEntry (section, body.now)) (D.image devices.old.disk.now) (D.image devices.new.disk.now)) }
+    ensures added { OnOk result (IsTrue D.tells → ImagesFollow (AddsEntry (section, body.now)) (D.image devices.old.disk.now) (D.image devices.new.disk.now)) }
     // Each image has the entries from before, with the new one or without.
-    ensures images { IsTrue D.tells → Follows (MayAdd (section, body.now)) (D.image devices.old.disk.now) (D.image devices.new.disk.now) }
+    ensures images { IsTrue D.tells → ImagesFollow (MayAdd (section, body.now)) (D.image devices.old.disk.now) (D.image devices.new.disk.now) }
     ensures steps { IsTrue D.tells → IsTrue X.tells → PutsFirst put.now (section, body.now)
         (D.image devices.old.disk.now) (D.image devices.new.disk.now) (X.held devices.old.secrets.now) (X.held devices.new.secrets.now) }
     // Whatever a crash leaves of the disk.

@@ -17,14 +17,14 @@ ghost use Rattle.dkg_journal.specs.Names.{Files};
 ghost use Rattle.dkg_journal.specs.Records.{SectionEntry, entries};
 ghost use Rattle.dkg_journal.specs.Gated.{OpensAlike, gated, gated_entries};
 ghost use Rattle.dkg_journal.specs.Views.{views};
-ghost use Rattle.dkg_journal.specs.Disk.{IsUnchanged, Rose, Follows, Lands, SameElse};
+ghost use Rattle.dkg_journal.specs.Disk.{IsUnchanged, Rose, ImagesFollow, Lands, SameElse};
 ghost use Rattle.dkg_journal.specs.Fuse.{Reached, Ran, RanAll};
 ghost use Rattle.dkg_journal.specs.Journals.{IsOpen, append_calls};
 ghost use Rattle.dkg_journal.specs.Operations.{Journaled};
 ghost use Rattle.dkg_journal.specs.Pruning.{LeavesAbove};
 ghost use Rattle.dkg_journal.specs.Places.{place_at};
 ghost use Rattle.dkg_journal.specs.Steps.{Keeps};
-ghost use Rattle.dkg_journal.specs.Opening.{AreUnbroken, broken, open_calls};
+ghost use Rattle.dkg_journal.specs.Opening.{AreUnbroken, first_break, open_calls};
 ghost use Rattle.std.specs.Result.{result_ok};
 ghost use Rattle.dkg_store.specs.Called.{Called, ErrorIsDue, ErrorIsDueWith, if_made, made_in};
 ghost use Rattle.dkg_store.specs.Left.{Extends, GivesAbove, GivesDealing, GivesNote, OpensOver, Rereads, Restores, Shrinks};
@@ -119,11 +119,11 @@ fn open_journal<D: Disk>(
     // What it read is what the files stand for, and after it a crash leaves no other entries.
     ensures opens { IfOk result (λ journal. IsTrue D.tells → OpensOver journal (D.files disk.old) (D.files disk.new) (D.image disk.new)) }
     ensures keeps { IsTrue D.tells → KeepsAll (D.image disk.old) (D.image disk.new) }
-    ensures acts { IsTrue D.tells → broken (D.files disk.old) ≡ None → (out : List Entry) (s : Secrets)
+    ensures acts { IsTrue D.tells → first_break (D.files disk.old) ≡ None → (out : List Entry) (s : Secrets)
         → MadeAt (opens None (length (open_calls (D.files disk.old)))) (opened result) (D.files disk.old) (D.image disk.old)
         (D.files disk.new) (D.image disk.new) (moment out s fuse.old) (moment out s fuse.new) }
     // Another opening finds the same, at Ok and at Corrupt.
-    ensures due { IfErr result (λ e. ErrorIsDueWith (λ name place. IsTrue D.tells → (broken (D.files disk.old) ≡ Some (name, place))
+    ensures due { IfErr result (λ e. ErrorIsDueWith (λ name place. IsTrue D.tells → (first_break (D.files disk.old) ≡ Some (name, place))
         × OpensAlike (D.files disk.old) (D.files disk.new)) e
         (Rose (D.faults disk.old) (D.faults disk.new)) ⊥
         (Reached fuse.old fuse.new × (IsTrue D.tells → Lands (D.files disk.new) (D.image disk.new))) ⊤) }
@@ -471,7 +471,7 @@ impl<Dir: Drop> Store<Dir> {
         ensures same { X.held devices.new.secrets.now ≡ X.held devices.old.secrets.now }
         // The barrier, the journal's opening, and what is read then, or the first body that is no event: all at Ok and at Corrupt, and at any
         // other exit a part, whatever image is left.
-        ensures acts { IsTrue D.tells → IsTrue X.tells → broken (D.files devices.old.disk.now) ≡ None
+        ensures acts { IsTrue D.tells → IsTrue X.tells → first_break (D.files devices.old.disk.now) ≡ None
             → (alien : Option (Name × ℕ)) → IsAlien (non_zero_u32_get limit) (D.files devices.old.disk.now) alien → (out : List Entry)
             → MadeOn D.files D.image X.held (store_opening None (length (open_calls (D.files devices.old.disk.now))) alien)
             (ended_as (λ store. (store.dealings, store.acks, store.logs)) result) devices.old devices.new out out }
@@ -487,7 +487,7 @@ impl<Dir: Drop> Store<Dir> {
             → IsCorruptAt (non_zero_u32_get limit) (D.files devices.old.disk.now) name place
             × IsCorruptAt (non_zero_u32_get limit) (D.files devices.new.disk.now) name place) e
             (Rose (D.faults devices.old.disk.now) (D.faults devices.new.disk.now))
-            (Rose (X.faults devices.old.secrets.now) (X.faults devices.new.secrets.now) × (IsTrue D.tells → (broken (D.files devices.old.disk.now) ≡ None)
+            (Rose (X.faults devices.old.secrets.now) (X.faults devices.new.secrets.now) × (IsTrue D.tells → (first_break (D.files devices.old.disk.now) ≡ None)
             × BeginsWithEvent (non_zero_u32_get limit) (entries (D.files devices.old.disk.now))))
             (Reached devices.old.fuse devices.new.fuse × (IsTrue D.tells → Lands (D.files devices.new.disk.now) (D.image devices.new.disk.now))) ⊤) }
         ensures called { Called (IsTrue D.tells) D.made X.made D.faults X.faults (made_in true result)

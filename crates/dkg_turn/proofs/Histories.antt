@@ -2,7 +2,7 @@
 use Rattle.std.proofs.Common.{◌≡◌, ℕ, ◌+◌, ◌≤◌, arith, append-nil, Bool, true, false, true≢false, List, [], ◌∷◌, ◌++◌, Option, Some, None, refl, sym, ap, ◌∙◌, subst, inl, inr, ⊎_elim, ◌⊎◌}
 use Rattle.dkg_turn.specs.declared.turn.HistoryEntry.{HistoryEntry}
 use Rattle.dkg_turn.specs.Rules.{PartOf, AddsOne}
-use Rattle.dkg_turn.specs.History.{contains_number, put_if, calls_of, HasSeen, IsStamped, IsRun, RunOf}
+use Rattle.dkg_turn.specs.History.{contains_number, put_if, calls_of, HasSeen, IsStamped, IsRunOfTurns, RunOf}
 
 pub not_true : (b : Bool) → ¬ (b ≡ true) → b ≡ false
 not_true true h = absurd (h refl)
@@ -32,7 +32,7 @@ module _ {C R : Type 0} where
   pub own_call : (ns : List ℕ) (e : HistoryEntry C R) → contains_number ns e.caller ≡ true → calls_of ns (e ∷ []) ≡ e ∷ []
   own_call ns e h = ap (λ b. put_if b e []) h
 
-  pub run_snoc : {T : Type 0} (turns : T → C → R → T → Type 0) (first last next : T) (es : List (HistoryEntry C R)) (e : HistoryEntry C R) → IsRun turns first es last → turns last e.call e.reply next → IsRun turns first (es ++ e ∷ []) next
+  pub run_snoc : {T : Type 0} (turns : T → C → R → T → Type 0) (first last next : T) (es : List (HistoryEntry C R)) (e : HistoryEntry C R) → IsRunOfTurns turns first es last → turns last e.call e.reply next → IsRunOfTurns turns first (es ++ e ∷ []) next
   run_snoc {T} turns first last next [] e r h = (next, subst (λ (x : T). turns x e.call e.reply next) (sym r) h, refl)
   run_snoc {T} turns first last next (x ∷ xs) e r h = (r.0, r.1, run_snoc turns r.0 last next xs e r.2 h)
 

@@ -15,8 +15,8 @@ use Rattle.dkg_turn.specs.declared.view.View.{View}
 use Rattle.dkg_turn.specs.declared.view.Stage.{Stage}
 use Rattle.dkg_turn.specs.declared.view.Stage.TheVariants.{Idle, Waits, Holds}
 use Rattle.dkg_turn.specs.History.{contains_number, calls_of, HasSeen, IsStamped, RunOf}
-use Rattle.dkg_turn.specs.Rules.{HasTicket, ticket_in, AddsOne, InTurn, first_view, drawn, holding, rested, Fits, tickets_of, parts_of, Apart, tickets_in, holders_of, AtHome, IsOut, Kept, looked, drew_one, Took, came, passed_on}
-use Rattle.dkg_turn.specs.Rules.{MayGive, numbered, passed_named, spent, PartOf, settled}
+use Rattle.dkg_turn.specs.Rules.{HasTicket, ticket_in, AddsOne, InTurn, first_view, drawn, holding, rested, ViewFits, tickets_of, parts_of, Apart, tickets_in, holders_of, AtHome, IsOut, KeepsLockRule, looked, drew_one, TookNode, came, passed_on}
+use Rattle.dkg_turn.specs.Rules.{MayGive, with_numbers, passed_named, spent, PartOf, settled_join}
 use Rattle.dkg_turn.proofs.Histories.{calls_of-append, no_call, fewer, empty_part, nil_left, stamped_adds}
 use Rattle.dkg_turn.specs.Known.{AreDrawn}
 use Rattle.dkg_turn.proofs.Whole.{whole_knows, its_tickets, none_above}
@@ -125,7 +125,7 @@ module _ {T C R : Type 0} where
       (λ same. (out.0, (id, w, set_at views id v w at, keep (subst (λ (u : View T C R). u.stage ≡ Holds serving) (some-injective x.1 v (sym (subst (λ (i : ℕ). get_elem? views i ≡ some x.1) same x.2) ∙ at)) x.3))))
       (λ other. (out.0, (x.0, x.1, set_else views id x.0 w other ∙ x.2, x.3)))
 
-  numbered_id : (v : View T C R) → numbered v.numbers v ≡ v
+  numbered_id : (v : View T C R) → with_numbers v.numbers v ≡ v
   numbered_id v = refl
 
   -- no other pass than the one at id has this ticket, or this number
@@ -156,15 +156,15 @@ module _ {T C R : Type 0} (turns : T → C → R → T → Type 0) (start : T) w
   M = Me (Option (Node T C R)) (View T C R)
 
   abbrev Rule : S → Type 0
-  Rule = Kept turns start
+  Rule = KeepsLockRule turns start
 
   -- the pass at id goes from v to w
   moved : (s : S) (r : Rule s) (id : ℕ) (v w : View T C R) (tickets serving : ℕ) (log : List (HistoryEntry C R)) (words : List ℕ) (homes : List (maybe.Option (Option (Node T C R))))
       → get_elem? s.views id ≡ some v → words ≡ tickets ∷ serving ∷ [] → tickets < 2 ^ 64 → serving ≤ tickets → IsStamped 0 serving log
       → tickets + v.drew ≡ r.tickets + w.drew → tickets + tickets_in v.stage + r.serving ≡ r.tickets + tickets_in w.stage + serving → w.parts ≡ v.parts
       → AtHome turns start log homes ⊎ IsOut serving homes (set s.views id w)
-      → ((j : ℕ) (u : View T C R) → j ≢ id → get_elem? s.views j ≡ some u → Fits start r.tickets r.serving r.log u → Fits start tickets serving log u)
-      → Fits start tickets serving log w
+      → ((j : ℕ) (u : View T C R) → j ≢ id → get_elem? s.views j ≡ some u → ViewFits start r.tickets r.serving r.log u → ViewFits start tickets serving log u)
+      → ViewFits start tickets serving log w
       → Alone s.views id w
       → ((n : ℕ) → contains_number v.numbers n ≡ true → contains_number w.numbers n ≡ true)
       → ((n : ℕ) → calls_of (n ∷ []) log ≢ [] → (calls_of (n ∷ []) r.log ≢ []) ⊎ (contains_number w.numbers n ≡ true))
@@ -181,7 +181,7 @@ module _ {T C R : Type 0} (turns : T → C → R → T → Type 0) (start : T) w
     held_by_all = let a = holders_of-set s.views id v w at in let b = r.held_by_all in omega arith;
     parts_of_all = let a = parts_of-set s.views id v w at in let b = r.parts_of_all in omega arith;
     node = node;
-    each = λ j u e. ⊎_elim (λ (t : (j ≡ id) × (w ≡ u)). subst (Fits start tickets serving log) t.1 mine)
+    each = λ j u e. ⊎_elim (λ (t : (j ≡ id) × (w ≡ u)). subst (ViewFits start tickets serving log) t.1 mine)
         (λ (t : (j ≢ id) × (get_elem? s.views j ≡ some u)). others j u t.0 t.1 (r.each j u t.1)) (at_set s.views id j w u e);
     apart = apart_set s.views id w r.apart alone;
     kept_by_one = λ n h. ⊎_elim
@@ -217,7 +217,7 @@ module _ {T C R : Type 0} (turns : T → C → R → T → Type 0) (start : T) w
       ))
       (λ miss. (v, keeps, tt, unmoved s r 0 id me at, (subst (λ b. MatchBool b (me ≡ after) (me ≡ me)) (sym (ne_eqb x 18446744073709551615 miss)) refl, known, all)))
 
-  pub settles : (slots id : ℕ) (me : M) → Allows Rule slots id me 0 (λ x. x) (settled (step slots 0 0 0 none) me)
+  pub settles : (slots id : ℕ) (me : M) → Allows Rule slots id me 0 (λ x. x) (settled_join (step slots 0 0 0 none) me)
   settles slots id me s r _ at _ = let F = r.each id me.0 at in (me.0, keeps, tt, unmoved s r 0 id me at, (refl, (λ short. within me.0.also_of me.0.also me.0.seen r.log F.begins.0 F.theirs.1 F.begins.1 short), (λ short. within me.0.ours_of me.0.ours me.0.seen r.log F.begins.0 F.ours.1 F.begins.1 short), λ told. let all : r.tickets + 1 ≡ 2 ^ 64 = F.told told in let all' : r.tickets ≡ 2 ^ 64 - 1 = omega arith in subst (λ (n : ℕ). AreDrawn n me.0.drew me.0.parts) all' (its_tickets turns start s r id me.0 at)))
 
   abbrev serving_of : S → ℕ
@@ -295,7 +295,7 @@ module _ {T C R : Type 0} (turns : T → C → R → T → Type 0) (start : T) w
             ((λ t' h j u ne e. (r.apart id j v u at e (λ q. ne (sym q))).0 t' (subst (HasTicket v.stage) (sym mine ∙ h) own)), (λ n h j u ne e. (r.apart id j v u at e (λ q. ne (sym q))).1 n h))
             (λ n h. h)
             (λ n h. inl h),
-        subst (λ b. MatchBool b ((n : Node T C R) × (carried node ≡ carried n) × Took turns (ticket_in v.stage) v n w) (with_node w node ≡ with_none v)) (sym (eq-eqb x (ticket_in v.stage) hit)) (
+        subst (λ b. MatchBool b ((n : Node T C R) × (carried node ≡ carried n) × TookNode turns (ticket_in v.stage) v n w) (with_node w node ≡ with_none v)) (sym (eq-eqb x (ticket_in v.stage) hit)) (
           node,
           refl,
           record {
@@ -318,18 +318,18 @@ module _ {T C R : Type 0} (turns : T → C → R → T → Type 0) (start : T) w
         keeps,
         tt,
         unmoved s r 1 id (v, []) at,
-        subst (λ b. MatchBool b ((n : Node T C R) × (nothing ≡ carried n) × Took turns (ticket_in v.stage) v n v) (with_none v ≡ with_none v)) (sym (ne_eqb x (ticket_in v.stage) miss)) refl,
+        subst (λ b. MatchBool b ((n : Node T C R) × (nothing ≡ carried n) × TookNode turns (ticket_in v.stage) v n v) (with_none v ≡ with_none v)) (sym (ne_eqb x (ticket_in v.stage) miss)) refl,
       ))
 
   abbrev after : ℕ → View T C R → Node T C R → List ℕ → M
-  after t v node ns = (numbered ns (rested t node.history.items v), [])
+  after t v node ns = (with_numbers ns (rested t node.history.items v), [])
 
   passes_at : (slots id : ℕ) (v : View T C R) (node : Node T C R) (t : ℕ) (ext : List (HistoryEntry C R)) (ns : List ℕ) → ((n : ℕ) → contains_number v.numbers n ≡ true → contains_number ns n ≡ true) → ((n : ℕ) → contains_number ns n ≡ true → (contains_number v.numbers n ≡ true) ⊎ (n ≡ t + 1)) → v.stage ≡ Holds t → node.history.items ≡ v.seen ++ ext → AddsOne t v.numbers ext → 0 < v.parts → RunOf turns v.start node.history.items node.value
       → Allows Rule slots id (v, (0, Some node) ∷ []) 1 (λ n. (n + 1) % 2 ^ 64) (λ r m'. (m' ≡ after t v node ns) × ¬ (contains_number v.numbers (t + 1) ≡ true))
   passes_at slots id v node t ext ns sub new holds grown adds whole run s r _ at _ = let x : ℕ = get_or s.words 1 0 in let is = serving_is s r in let F = r.each id v at in
       let turn : InTurn r.tickets r.serving r.log v.seen (Holds t) = subst (InTurn r.tickets r.serving r.log v.seen) holds F.turn in
       let own : HasTicket v.stage r.serving = subst (λ (st : Stage). HasTicket st r.serving) (sym holds) (sym turn.0) in
-      let log : List (HistoryEntry C R) = node.history.items in let w : View T C R = numbered ns (rested t log v) in
+      let log : List (HistoryEntry C R) = node.history.items in let w : View T C R = with_numbers ns (rested t log v) in
       let longer : r.log ++ ext ≡ log = ap (λ l. l ++ ext) (sym turn.2) ∙ sym grown in
       let a = turn.0 in let b = turn.1 in let c = r.narrow in let up : (x + 1) % 2 ^ 64 ≡ r.serving + 1 = omega arith in
       let back : List (maybe.Option (Option (Node T C R))) → List (maybe.Option (Option (Node T C R))) = λ hs. set hs 0 (some (Some node)) in (
@@ -414,14 +414,14 @@ module _ {T C R : Type 0} (turns : T → C → R → T → Type 0) (start : T) w
       only zero v e = refl
       only (suc i) v e = absurd (some-ne-none v (sym e))
 
-      fits : Fits {T = T} {C = C} {R = R} start 0 0 [] (first_view start)
+      fits : ViewFits {T = T} {C = C} {R = R} start 0 0 [] (first_view start)
       fits = record { starts = λ _. refl; begins = ([], refl, refl); turn = tt; named = zero_only; nothing = λ z. absurd (omega arith); told = λ d. absurd (true≢false (sym d)); passed = omega arith; theirs = empty_part (0 ∷ []) []; ours = empty_part (0 ∷ []) [] }
         where
           zero_only : (n : ℕ) → contains_number (0 ∷ []) n ≡ true → n ≤ 0
           zero_only n h = dite (ℕ_discrete 0 n) (λ e. omega arith) (λ ne. absurd (true≢false (sym h ∙ ap (λ b. b || false) (ne_eqb 0 n ne))))
 
-      one : (i : ℕ) (v : View T C R) → get_elem? (first_view {C = C} {R = R} start ∷ []) i ≡ some v → Fits start 0 0 [] v
-      one zero v e = subst (Fits start 0 0 []) (some-injective _ v e) fits
+      one : (i : ℕ) (v : View T C R) → get_elem? (first_view {C = C} {R = R} start ∷ []) i ≡ some v → ViewFits start 0 0 [] v
+      one zero v e = subst (ViewFits start 0 0 []) (some-injective _ v e) fits
       one (suc i) v e = absurd (some-ne-none v (sym e))
 
   pub begins : (node : Node T C R) (slots : List (Option (Node T C R))) → slots ≡ Some node ∷ [] → node.history.items ≡ [] → start ≡ node.value → Rule (opening (0 ∷ 0 ∷ []) slots (first_view start))

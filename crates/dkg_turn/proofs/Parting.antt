@@ -11,7 +11,7 @@ use Rattle.dkg_turn.specs.declared.view.Node.{Node}
 use Rattle.dkg_turn.specs.declared.view.View.{View}
 use Rattle.dkg_turn.specs.declared.view.Stage.TheVariants.{Idle, Holds}
 use Rattle.dkg_turn.specs.History.{contains_number, put_if, calls_of, HasSeen, longer}
-use Rattle.dkg_turn.specs.Rules.{head_of, tail_of, IsNewlyNamed, kept_part, given_part, both_views, nobody, Fits, tickets_in, tickets_of, holders_of, parts_of, Apart, IsOut, Kept}
+use Rattle.dkg_turn.specs.Rules.{head_of, tail_of, IsNewlyNamed, kept_part, given_part, both_views, nobody, ViewFits, tickets_in, tickets_of, holders_of, parts_of, Apart, IsOut, KeepsLockRule}
 use Rattle.dkg_turn.proofs.Histories.{not_true, calls_of-append, bool_is, fewer, none_of, empty_part}
 use Rattle.dkg_turn.proofs.Keeps.{set_at, has_later, has_cons, is_idle, tickets_of-set, holders_of-set, parts_of-set, Between, apart_set, still_out}
 
@@ -124,7 +124,7 @@ module _ {T C R : Type 0} where
 
 module _ {T C R : Type 0} (turns : T → C → R → T → Type 0) (start : T) where
   abbrev Rule : State (Option (Node T C R)) (View T C R) → Type 0
-  Rule = Kept turns start
+  Rule = KeepsLockRule turns start
 
   splits_at : (id : ℕ) (v : View T C R) (m : ℕ) (ns : List ℕ) → v.stage ≡ Idle → v.numbers ≡ m ∷ ns → ¬ (contains_number ns m ≡ true) → 2 ≤ v.parts → Splits Rule id v (kept_part ns v) (given_part m v)
   splits_at id v m ns idle is new two s r at =
@@ -148,10 +148,10 @@ module _ {T C R : Type 0} (turns : T → C → R → T → Type 0) (start : T) w
         node = ⊎_elim (λ h. inl h) (λ (o : IsOut r.serving s.homes s.views). let x = still_out r.serving id s.homes s.views v L at (not_holding v r.serving idle) o in inr (x.0, (x.1.0, x.1.1, at_longer vs (G ∷ []) x.1.0 x.1.1 x.1.2, x.1.3))) r.node;
         each = λ j u e. ⊎_elim
             (λ (x : get_elem? vs j ≡ some u). ⊎_elim
-            (λ (y : (j ≡ id) × (L ≡ u)). subst (Fits start r.tickets r.serving r.log) y.1 record { starts = λ _. F.starts (omega arith); begins = (F.begins.0, F.begins.1, fewer ns v.numbers old F.begins.0 F.begins.2); turn = tt; named = λ n h. F.named n (old n h); nothing = λ z. absurd (omega arith); told = F.told; passed = F.passed; theirs = empty_part ns r.log; ours = empty_part ns r.log })
+            (λ (y : (j ≡ id) × (L ≡ u)). subst (ViewFits start r.tickets r.serving r.log) y.1 record { starts = λ _. F.starts (omega arith); begins = (F.begins.0, F.begins.1, fewer ns v.numbers old F.begins.0 F.begins.2); turn = tt; named = λ n h. F.named n (old n h); nothing = λ z. absurd (omega arith); told = F.told; passed = F.passed; theirs = empty_part ns r.log; ours = empty_part ns r.log })
             (λ (y : (j ≢ id) × (get_elem? s.views j ≡ some u)). r.each j u y.1)
             (at_set s.views id j L u x))
-            (λ (x : (j ≡ length vs) × (G ≡ u)). subst (Fits start r.tickets r.serving r.log) x.1 record { starts = λ _. F.starts (omega arith); begins = (F.begins.0, F.begins.1, fewer (m ∷ []) v.numbers own F.begins.0 F.begins.2); turn = tt; named = λ n h. F.named n (own n h); nothing = λ z. absurd (omega arith); told = F.told; passed = F.passed; theirs = empty_part (m ∷ []) r.log; ours = empty_part (m ∷ []) r.log })
+            (λ (x : (j ≡ length vs) × (G ≡ u)). subst (ViewFits start r.tickets r.serving r.log) x.1 record { starts = λ _. F.starts (omega arith); begins = (F.begins.0, F.begins.1, fewer (m ∷ []) v.numbers own F.begins.0 F.begins.2); turn = tt; named = λ n h. F.named n (own n h); nothing = λ z. absurd (omega arith); told = F.told; passed = F.passed; theirs = empty_part (m ∷ []) r.log; ours = empty_part (m ∷ []) r.log })
             (at_end vs G u j e);
         apart = apart_snoc vs G
             (apart_set s.views id L r.apart ((λ t h. absurd h), (λ n h j u ne e. (r.apart id j v u at e (λ q. ne (sym q))).1 n (old n h))))
@@ -189,9 +189,9 @@ module _ {T C R : Type 0} (turns : T → C → R → T → Type 0) (start : T) w
         parts_of_all = let a = parts_of-set s.views id v B at in let b = parts_of-set vs other w N there in let c = r.parts_of_all in omega arith;
         node = ⊎_elim (λ h. inl h) (λ (o : IsOut r.serving s.homes s.views). inr (still_out r.serving other s.homes vs w N there (not_holding w r.serving idle') (still_out r.serving id s.homes s.views v B at (not_holding v r.serving idle) o))) r.node;
         each = λ j u e. ⊎_elim
-            (λ (x : (j ≡ other) × (N ≡ u)). subst (Fits start r.tickets r.serving r.log) x.1 record { starts = λ z. absurd (omega arith); begins = (r.log, refl, none_of r.log); turn = tt; named = λ n h. absurd (true≢false (sym h)); nothing = λ _. (refl, refl); told = λ d. absurd (true≢false (sym d)); passed = omega arith; theirs = empty_part [] r.log; ours = empty_part [] r.log })
+            (λ (x : (j ≡ other) × (N ≡ u)). subst (ViewFits start r.tickets r.serving r.log) x.1 record { starts = λ z. absurd (omega arith); begins = (r.log, refl, none_of r.log); turn = tt; named = λ n h. absurd (true≢false (sym h)); nothing = λ _. (refl, refl); told = λ d. absurd (true≢false (sym d)); passed = omega arith; theirs = empty_part [] r.log; ours = empty_part [] r.log })
             (λ (x : (j ≢ other) × (get_elem? vs j ≡ some u)). ⊎_elim
-            (λ (y : (j ≡ id) × (B ≡ u)). subst (Fits start r.tickets r.serving r.log) y.1
+            (λ (y : (j ≡ id) × (B ≡ u)). subst (ViewFits start r.tickets r.serving r.log) y.1
             record {
               starts = λ _. F.starts whole;
               begins = (H.0, H.1, none_both v.numbers w.numbers H.0 H.2 H.3);

@@ -10,7 +10,7 @@ use Rattle.dkg_turn.specs.declared.view.Node.{Node}
 use Rattle.dkg_turn.specs.declared.view.View.{View}
 use Rattle.dkg_turn.specs.History.{contains_number, put_if, calls_of, HasNoneAbove}
 use Rattle.dkg_turn.specs.Known.{AreDrawn}
-use Rattle.dkg_turn.specs.Rules.{tickets_of, parts_of, Kept}
+use Rattle.dkg_turn.specs.Rules.{tickets_of, parts_of, KeepsLockRule}
 
 module _ {C R : Type 0} where
   no_longer : (b : Bool) (e : HistoryEntry C R) (l : List (HistoryEntry C R)) → put_if b e l ≡ [] → l ≡ []
@@ -57,7 +57,7 @@ module _ {T C R : Type 0} where
   one_drew (x ∷ xs) (suc i) v e h = let a = h 0 x (λ q. omega arith) refl in let b = one_drew xs i v e (λ j u ne f. h (suc j) u (λ q. ne (omega arith)) f) in omega arith
 
 module _ {T C R : Type 0} (turns : T → C → R → T → Type 0) (start : T) where
-  pub whole_knows : (s : State (Option (Node T C R)) (View T C R)) (r : Kept turns start s) (id : ℕ) (v : View T C R) → get_elem? s.views id ≡ some v → v.parts ≡ 2 ^ 64 → (r.tickets ≡ v.drew) × (calls_of v.numbers r.log ≡ r.log)
+  pub whole_knows : (s : State (Option (Node T C R)) (View T C R)) (r : KeepsLockRule turns start s) (id : ℕ) (v : View T C R) → get_elem? s.views id ≡ some v → v.parts ≡ 2 ^ 64 → (r.tickets ≡ v.drew) × (calls_of v.numbers r.log ≡ r.log)
   whole_knows s r id v at all =
       let others : (j : ℕ) (u : View T C R) → j ≢ id → get_elem? s.views j ≡ some u → u.parts ≡ 0 = λ j u ne e. let a = two_parts s.views id j v u (λ q. ne (sym q)) at e in let b = r.parts_of_all in omega arith in (
         sym r.drawn_by_all ∙ one_drew s.views id v at (λ j u ne e. ((r.each j u e).nothing (others j u ne e)).0),
@@ -67,10 +67,10 @@ module _ {T C R : Type 0} (turns : T → C → R → T → Type 0) (start : T) w
       )
 
   -- of all tickets, a pass drew its own
-  pub its_tickets : (s : State (Option (Node T C R)) (View T C R)) (r : Kept turns start s) (id : ℕ) (v : View T C R) → get_elem? s.views id ≡ some v → AreDrawn r.tickets v.drew v.parts
+  pub its_tickets : (s : State (Option (Node T C R)) (View T C R)) (r : KeepsLockRule turns start s) (id : ℕ) (v : View T C R) → get_elem? s.views id ≡ some v → AreDrawn r.tickets v.drew v.parts
   its_tickets s r id v at = let le = drew_le s.views id v at in let all = r.drawn_by_all in
       (r.tickets - v.drew, omega arith, λ p. let k = (whole_knows s r id v at p).0 in omega arith)
 
   -- a number above the serving word is no pass's, so no entry's either
-  pub none_above : (s : State (Option (Node T C R)) (View T C R)) (r : Kept turns start s) → HasNoneAbove r.serving r.log
+  pub none_above : (s : State (Option (Node T C R)) (View T C R)) (r : KeepsLockRule turns start s) → HasNoneAbove r.serving r.log
   none_above s r n above = must_be_empty (calls_of (n ∷ []) r.log) (λ some_call. let k = r.kept_by_one n some_call in let low = (r.each k.0 k.1 k.2).named n k.3 in absurd (omega arith))

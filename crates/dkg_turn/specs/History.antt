@@ -37,11 +37,11 @@ module _ {C R : Type 0} where
   longer (x ∷ xs) (y ∷ ys) = x ∷ longer xs ys
 
   -- the history leads from the first value to the last, each reply being one that a turn gives there
-  abbrev pub IsRun : {T : Type 0} → (T → C → R → T → Type 0) → T → List (HistoryEntry C R) → T → Type 0
-  IsRun {T} turns first [] last = first ≡ last
-  IsRun {T} turns first (e ∷ es) last = (next : T) × turns first e.call e.reply next × IsRun turns next es last
+  abbrev pub IsRunOfTurns : {T : Type 0} → (T → C → R → T → Type 0) → T → List (HistoryEntry C R) → T → Type 0
+  IsRunOfTurns {T} turns first [] last = first ≡ last
+  IsRunOfTurns {T} turns first (e ∷ es) last = (next : T) × turns first e.call e.reply next × IsRunOfTurns turns next es last
 
   -- the same from a value that may be unknown
   abbrev pub RunOf : {T : Type 0} → (T → C → R → T → Type 0) → Option T → List (HistoryEntry C R) → T → Type 0
-  RunOf turns (Some first) es last = IsRun turns first es last
+  RunOf turns (Some first) es last = IsRunOfTurns turns first es last
   RunOf turns None es last = ⊥

@@ -1,7 +1,7 @@
 -- What the calls of a pass tell.
 use Rattle.std.specs.Prelude.{◌≡◌, ◌↔◌, IsNone, ℕ, ◌+◌, ◌-◌, ◌/◌, ◌<◌, ◌≤◌, ◌^◌, ◌||◌, max, true, false, List, [], ◌∷◌, ◌++◌, Option, Some, None}
 use Rattle.dkg_turn.specs.declared.turn.HistoryEntry.{HistoryEntry}
-use Rattle.dkg_turn.specs.History.{contains_number, calls_of, HasSeen, HasNoneAbove, IsStamped, longer, IsRun}
+use Rattle.dkg_turn.specs.History.{contains_number, calls_of, HasSeen, HasNoneAbove, IsStamped, longer, IsRunOfTurns}
 use Rattle.dkg_turn.specs.Known.{Lock, Known, AreDrawn}
 use Rattle.dkg_turn.specs.Stops.{HasStopped}
 
@@ -39,7 +39,7 @@ module _ {T C R : Type 0} where
       -- the history begins with all that the pass had seen, and has no other call of the pass
       pub begins : HasSeen v.numbers v.seen log
       -- the value and each reply are what turns give from the value that the lock began with
-      pub run : IsRun turns start log value
+      pub run : IsRunOfTurns turns start log value
       -- entries stand in the order of their tickets, which are below this one
       pub stamped : IsStamped 0 ticket log
       -- no entry is of a number above this ticket, so a pass that is numbered by it has no call yet
@@ -61,7 +61,7 @@ module _ {T C R : Type 0} where
       pub after : w ≡ after_stay ticket log v
 
     -- the turn came, and left one entry, which is this call with this reply
-    pub record Called (same : R → R → Type 0) (call : C) (reply : R) (v w : Known T C R) : Type 0 where
+    pub record CalledInTurn (same : R → R → Type 0) (call : C) (reply : R) (v w : Known T C R) : Type 0 where
       pub ticket : ℕ
       pub log : List (HistoryEntry C R)
       pub before : T
@@ -77,7 +77,7 @@ module _ {T C R : Type 0} where
       pub now : w ≡ after_stay ticket (log ++ entry ∷ []) v
       -- of the pass's own calls the history has those from before, and this one
       pub own : calls_of v.numbers w.seen ≡ calls_of v.numbers v.seen ++ entry ∷ []
-      pub run : IsRun turns start w.seen after
+      pub run : IsRunOfTurns turns start w.seen after
       pub stamped : IsStamped 0 w.next w.seen
 
     -- the turn came, left no entry, and named a new pass
@@ -112,7 +112,7 @@ module _ {T C R : Type 0} where
       pub told_is : told value number ≡ None
 
     -- the pass takes the value and the whole history with it
-    pub record Ends (v : Known T C R) (log : List (HistoryEntry C R)) (value : T) : Type 0 where
+    pub record PassEnds (v : Known T C R) (log : List (HistoryEntry C R)) (value : T) : Type 0 where
       pub ticket : ℕ
       pub found : Finds ticket v log value
 
@@ -120,7 +120,7 @@ module _ {T C R : Type 0} where
     -- a message was posted as a call, and the answer in its reply meets the relation of core, message and answer after that turn
     pub record Posted (same : R → R → Type 0) (told : T → ℕ → Option R) (call : C) (answered : R → Option A) (stopped : T → C → R → T → Type 0) (meets : T → M → A → Type 0) (message : M) (answer : Option A) (v w : Known T C R) : Type 0 where
       pub reply : R
-      pub called : Called turns start same call reply v w
+      pub called : CalledInTurn turns start same call reply v w
       pub answer_is : answer ≡ answered reply
       -- no answer comes exactly where that turn ended by a stop
       pub stop : IsNone answer ↔ stopped called.before call reply called.after

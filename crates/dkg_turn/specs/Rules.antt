@@ -11,7 +11,7 @@ use Rattle.dkg_turn.specs.declared.view.Node.{Node}
 use Rattle.dkg_turn.specs.declared.view.View.{View}
 use Rattle.dkg_turn.specs.declared.view.Stage.{Stage}
 use Rattle.dkg_turn.specs.declared.view.Stage.TheVariants.{Idle, Waits, Holds}
-use Rattle.dkg_turn.specs.History.{contains_number, calls_of, HasSeen, HasNoneAbove, IsStamped, longer, IsRun, RunOf}
+use Rattle.dkg_turn.specs.History.{contains_number, calls_of, HasSeen, HasNoneAbove, IsStamped, longer, IsRunOfTurns, RunOf}
 use Rattle.dkg_turn.specs.Known.{Known, AreDrawn}
 
 -- the ticket is drawn, and its turn is not passed on
@@ -64,8 +64,8 @@ module _ {T C R : Type 0} where
   abbrev pub drawn : ℕ → View T C R → View T C R
   drawn t v = record { start = v.start; stage = Waits t; numbers = v.numbers; seen = v.seen; next = v.next; drew = v.drew + 1; parts = v.parts; exhausted = v.exhausted; also = v.also; also_of = v.also_of; ours = v.ours; ours_of = v.ours_of }
 
-  abbrev pub numbered : List ℕ → View T C R → View T C R
-  numbered ns v = record { start = v.start; stage = v.stage; numbers = ns; seen = v.seen; next = v.next; drew = v.drew; parts = v.parts; exhausted = v.exhausted; also = v.also; also_of = v.also_of; ours = v.ours; ours_of = v.ours_of }
+  abbrev pub with_numbers : List ℕ → View T C R → View T C R
+  with_numbers ns v = record { start = v.start; stage = v.stage; numbers = ns; seen = v.seen; next = v.next; drew = v.drew; parts = v.parts; exhausted = v.exhausted; also = v.also; also_of = v.also_of; ours = v.ours; ours_of = v.ours_of }
 
   -- the node is out of its slot, with this history
   abbrev pub holding : ℕ → List (HistoryEntry C R) → View T C R → View T C R
@@ -76,7 +76,7 @@ module _ {T C R : Type 0} where
   rested t log v = record { start = v.start; stage = Idle; numbers = v.numbers; seen = log; next = t + 1; drew = v.drew; parts = v.parts; exhausted = v.exhausted; also = []; also_of = []; ours = []; ours_of = [] }
 
   -- what the rule says of each view
-  pub record Fits (start : T) (tickets serving : ℕ) (log : List (HistoryEntry C R)) (v : View T C R) : Type 0 where
+  pub record ViewFits (start : T) (tickets serving : ℕ) (log : List (HistoryEntry C R)) (v : View T C R) : Type 0 where
     pub starts : 0 < v.parts → v.start ≡ Some start
     pub begins : HasSeen v.numbers v.seen log
     pub turn : InTurn tickets serving log v.seen v.stage
@@ -126,11 +126,11 @@ module _ {T C R : Type 0} where
   module _ (turns : T → C → R → T → Type 0) where
     -- the slot has the node
     abbrev pub AtHome : T → List (HistoryEntry C R) → List (maybe.Option (Option (Node T C R))) → Type 0
-    AtHome start log homes = (node : Node T C R) × (homes ≡ some (Some node) ∷ []) × (node.history.items ≡ log) × IsRun turns start log node.value
+    AtHome start log homes = (node : Node T C R) × (homes ≡ some (Some node) ∷ []) × (node.history.items ≡ log) × IsRunOfTurns turns start log node.value
 
     -- The rule: there is one history, in the order of tickets, and the node has it with the value that it leads to.
     -- The tickets are the sum of those that the passes drew, those not passed on are as many as the passes that have one, and each call was made under a number that one pass has
-    pub record Kept (start : T) (s : State (Option (Node T C R)) (View T C R)) : Type 0 where
+    pub record KeepsLockRule (start : T) (s : State (Option (Node T C R)) (View T C R)) : Type 0 where
       pub tickets : ℕ
       pub serving : ℕ
       pub log : List (HistoryEntry C R)
@@ -142,7 +142,7 @@ module _ {T C R : Type 0} where
       pub parts_of_all : parts_of s.views ≡ 2 ^ 64
       pub stamped : IsStamped 0 serving log
       pub node : AtHome start log s.homes ⊎ IsOut serving s.homes s.views
-      pub each : (i : ℕ) (v : View T C R) → get_elem? s.views i ≡ some v → Fits start tickets serving log v
+      pub each : (i : ℕ) (v : View T C R) → get_elem? s.views i ≡ some v → ViewFits start tickets serving log v
       pub apart : Apart s.views
       pub kept_by_one : (n : ℕ) → calls_of (n ∷ []) log ≢ [] → (i : ℕ) × (v : View T C R) × (get_elem? s.views i ≡ some v) × (contains_number v.numbers n ≡ true)
 
@@ -151,8 +151,8 @@ module _ {T C R : Type 0} where
   looked st m r m' = MatchBool (r == 18446744073709551615) (m' ≡ (spent m.0, m.1)) (m' ≡ m) × (m.0.exhausted ≡ true → r + 1 ≡ 2 ^ 64) × AreDrawn r m.0.drew m.0.parts
 
   -- what the joined pass had seen begins what this one has, and where one was told that no ticket is left, all were drawn
-  abbrev pub settled : Step (Option (Node T C R)) → Me (Option (Node T C R)) (View T C R) → ℕ → Me (Option (Node T C R)) (View T C R) → Type 0
-  settled st m r m' = (m' ≡ m) × (length m.0.also ≤ length m.0.seen → HasSeen m.0.also_of m.0.also m.0.seen) × (length m.0.ours ≤ length m.0.seen → HasSeen m.0.ours_of m.0.ours m.0.seen) × (m.0.exhausted ≡ true → AreDrawn (2 ^ 64 - 1) m.0.drew m.0.parts)
+  abbrev pub settled_join : Step (Option (Node T C R)) → Me (Option (Node T C R)) (View T C R) → ℕ → Me (Option (Node T C R)) (View T C R) → Type 0
+  settled_join st m r m' = (m' ≡ m) × (length m.0.also ≤ length m.0.seen → HasSeen m.0.also_of m.0.also m.0.seen) × (length m.0.ours ≤ length m.0.seen → HasSeen m.0.ours_of m.0.ours m.0.seen) × (m.0.exhausted ≡ true → AreDrawn (2 ^ 64 - 1) m.0.drew m.0.parts)
 
   -- the ticket was drawn where the word was the number seen
   abbrev pub drew_one : Step (Option (Node T C R)) → Me (Option (Node T C R)) (View T C R) → ℕ → Me (Option (Node T C R)) (View T C R) → Type 0
@@ -160,7 +160,7 @@ module _ {T C R : Type 0} where
 
   module _ (turns : T → C → R → T → Type 0) where
     -- the node as the pass finds it as its turn comes: its history begins with all that the pass had seen, and has no other call of the pass
-    pub record Took (t : ℕ) (v : View T C R) (node : Node T C R) (w : View T C R) : Type 0 where
+    pub record TookNode (t : ℕ) (v : View T C R) (node : Node T C R) (w : View T C R) : Type 0 where
       pub now : w ≡ holding t node.history.items v
       pub begins : HasSeen v.numbers v.seen node.history.items
       pub run : RunOf turns v.start node.history.items node.value
@@ -172,7 +172,7 @@ module _ {T C R : Type 0} where
     -- a look at the serving word: where it is the own ticket, the slot is taken
     abbrev pub came : Step (Option (Node T C R)) → Me (Option (Node T C R)) (View T C R) → ℕ → Me (Option (Node T C R)) (View T C R) → Type 0
     came st m r m' = MatchBool (r == ticket_in m.0.stage)
-        ((node : Node T C R) × (m'.1 ≡ (0, Some node) ∷ []) × Took (ticket_in m.0.stage) m.0 node m'.0)
+        ((node : Node T C R) × (m'.1 ≡ (0, Some node) ∷ []) × TookNode (ticket_in m.0.stage) m.0 node m'.0)
         (m' ≡ m)
 
   abbrev pub history_in : Option (Node T C R) → List (HistoryEntry C R)
@@ -189,7 +189,7 @@ module _ {T C R : Type 0} where
 
   -- the same, and the pass has one more number, which is new
   abbrev pub passed_named : Step (Option (Node T C R)) → Me (Option (Node T C R)) (View T C R) → ℕ → Me (Option (Node T C R)) (View T C R) → Type 0
-  passed_named st m r m' = let n = ticket_in m.0.stage + 1 in (m' ≡ (numbered (n ∷ m.0.numbers) (rested (ticket_in m.0.stage) (held_history m.1) m.0), [])) × ¬ (contains_number m.0.numbers n ≡ true)
+  passed_named st m r m' = let n = ticket_in m.0.stage + 1 in (m' ≡ (with_numbers (n ∷ m.0.numbers) (rested (ticket_in m.0.stage) (held_history m.1) m.0), [])) × ¬ (contains_number m.0.numbers n ≡ true)
 
   -- the node may go back into the slot: its history is what was taken, with one call of the pass at most
   pub record MayGive (turns : T → C → R → T → Type 0) (v : View T C R) (node : Node T C R) : Type 0 where
@@ -206,7 +206,7 @@ module _ {T C R : Type 0} where
   IsNewlyNamed v = (n : ℕ) × (ns : List ℕ) × (v.numbers ≡ n ∷ ns) × ¬ (contains_number ns n ≡ true)
 
   abbrev pub after_naming : View T C R → List (HistoryEntry C R) → View T C R
-  after_naming v log = numbered ((ticket_in v.stage + 1) ∷ v.numbers) (rested (ticket_in v.stage) log v)
+  after_naming v log = with_numbers ((ticket_in v.stage + 1) ∷ v.numbers) (rested (ticket_in v.stage) log v)
 
   -- what contracts see of a pass with this number and this view
   abbrev pub known_of : TableId → ℕ → View T C R → Known T C R

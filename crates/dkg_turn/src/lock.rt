@@ -8,7 +8,7 @@ ghost use Rattle.std.specs.Prelude.{◌≡◌, ◌+◌, ◌-◌, ◌^◌, ◌≤
 ghost use Rattle.dkg_turn.specs.History.{contains_number, HasSeen};
 ghost use Rattle.dkg_turn.specs.Known.{AreDrawn};
 ghost use Rattle.dkg_turn.specs.Passes.{first_pass};
-ghost use Rattle.dkg_turn.specs.Rules.{drawn, Took, rested, MayGive, after_naming, ticket_in, spent, IsNewlyNamed, head_of, tail_of, kept_part, given_part, both_views};
+ghost use Rattle.dkg_turn.specs.Rules.{drawn, TookNode, rested, MayGive, after_naming, ticket_in, spent, IsNewlyNamed, head_of, tail_of, kept_part, given_part, both_views};
 ghost use Rattle.dkg_turn.specs.declared.view.Stage.TheVariants.{Idle, Waits};
 
 use crate::bells::Bells;
@@ -121,7 +121,7 @@ impl<T: Turn> TurnLock<T> {
         requires waits { (seat.old.me.0.stage ≡ Waits ticket) × (seat.old.me.1 ≡ []) × (0 < seat.old.me.0.parts) }
         ensures own { (seat.new.table_id ≡ seat.old.table_id) × (seat.new.id ≡ seat.old.id) }
         ensures held { seat.new.me.1 ≡ (0, None) ∷ [] }
-        ensures took { Took T.turns ticket seat.old.me.0 result seat.new.me.0 }
+        ensures took { TookNode T.turns ticket seat.old.me.0 result seat.new.me.0 }
     {
         for _ in rt.forever() {
             let serving = self.table.shared.load::<Come<T>>(seat, SERVING);

@@ -2,7 +2,7 @@
 ghost use Rattle.std.specs.Prelude.{◌≡◌, ◌-◌, ◌^◌, ◌≤◌, [], true, IfOk, IfErr, IsErr};
 ghost use Rattle.dkg_turn.specs.History.{calls_of, HasSeen};
 ghost use Rattle.dkg_turn.specs.Known.{AreDrawn};
-ghost use Rattle.dkg_turn.specs.Passes.{IsPassOf, Called, LooksAt, SplitOff, Ends, IsExhausted, joined};
+ghost use Rattle.dkg_turn.specs.Passes.{IsPassOf, CalledInTurn, LooksAt, SplitOff, PassEnds, IsExhausted, joined};
 ghost use Rattle.dkg_turn.specs.Refusals.{CallRefused, TakeRefused, SplitRefused};
 ghost use Rattle.dkg_turn.specs.Rules.{known_of, first_view};
 
@@ -75,7 +75,7 @@ impl<T: Turn> Pass<T> {
     ) -> Result<T::Reply, TurnError>
         requires own { IsPassOf lock.now self.old }
         ensures own { IsPassOf lock.now self.new }
-        ensures called { IfOk result (λ reply. Called T.turns lock.now.start T.same call reply self.old self.new) }
+        ensures called { IfOk result (λ reply. CalledInTurn T.turns lock.now.start T.same call reply self.old self.new) }
         ensures refused { IfErr result (λ e. CallRefused T.turns lock.now.start e self.old self.new) }
         ensures stays { self.old.exhausted ≡ true → result ≡ Err TurnError.Exhausted }
     {
@@ -177,7 +177,7 @@ impl<T: Turn> Pass<T> {
         lock: TurnLock<T>,
     ) -> Result<(T, Vec<Turned<T>>), (Pass<T>, TurnLock<T>)>
         requires own { IsPassOf lock self }
-        ensures closed { IfOk result (λ r. Ends T.turns lock.start self r.1.items r.0) }
+        ensures closed { IfOk result (λ r. PassEnds T.turns lock.start self r.1.items r.0) }
         ensures refused { IfErr result (λ r. IsExhausted self r.0 × (r.1 ≡ lock)) }
         ensures stays { self.exhausted ≡ true → IsErr result }
     {

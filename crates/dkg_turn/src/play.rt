@@ -75,7 +75,7 @@ impl<T, C, R> Join<View<T, C, R>> for Halves {
 pub(crate) struct Settle;
 
 impl<T, C, R> Play<Option<Node<T, C, R>>, View<T, C, R>> for Settle {
-    ghost use Rattle.dkg_turn.specs.Rules.{settled};
+    ghost use Rattle.dkg_turn.specs.Rules.{settled_join};
 
-    ghost then = { settled };
+    ghost then = { settled_join };
 }

@@ -50,9 +50,9 @@ pub struct Law<T> {
 
 impl<T: Turn> TableRule<Option<Node<T, T::Call, T::Reply>>, View<T, T::Call, T::Reply>, Snapshot<T>>
     for Law<T> {
-    ghost use Rattle.dkg_turn.specs.Rules.{Kept, first_view};
+    ghost use Rattle.dkg_turn.specs.Rules.{KeepsLockRule, first_view};
 
-    ghost holds = { λ key. Kept T.turns key.value };
+    ghost holds = { λ key. KeepsLockRule T.turns key.value };
 
     ghost first = { λ key. first_view key.value };
 }

@@ -1,7 +1,7 @@
 use Rattle.std.proofs.Common.{◌≡◌, ℕ, List, Option, None, ap, subst, sym}
 use Rattle.std.specs.Prelude.{IfOk, IfErr}
 use Rattle.dkg_ceremony.specs.declared.round.RoundParts.{RoundParts as Round}
-use Rattle.dkg_ceremony.specs.Finishes.{Lacks, first_missing, known_privates, private_in}
+use Rattle.dkg_ceremony.specs.Finishes.{TellsMissingDealing, first_missing, known_privates, private_in}
 use Rattle.dkg_ceremony.specs.ShareLaws.{missing_is}
 use Rattle.dkg_ceremony.proofs.finish.gather.Goals as goal
 
@@ -13,6 +13,6 @@ returns-clause-all c =
 
 pub returns-clause-missing : goal.returns-clause-missing
 returns-clause-missing c =
-    subst (λ (missing : Option ℕ). IfErr c.privates_of.result (λ e. Lacks missing e))
-    (sym (missing_is c.args.round.now c.args.me c.args.dealings.now c.args.logs.now c.args.selected.now c.requires.player c.requires.chosen)) (subst (λ (players : List ℕ). IfErr c.privates_of.result (λ e. Lacks (first_missing (private_in players c.args.me c.args.dealings.now c.args.logs.now) c.args.selected.now) e))
+    subst (λ (missing : Option ℕ). IfErr c.privates_of.result (λ e. TellsMissingDealing missing e))
+    (sym (missing_is c.args.round.now c.args.me c.args.dealings.now c.args.logs.now c.args.selected.now c.requires.player c.requires.chosen)) (subst (λ (players : List ℕ). IfErr c.privates_of.result (λ e. TellsMissingDealing (first_missing (private_in players c.args.me c.args.dealings.now c.args.logs.now) c.args.selected.now) e))
     (ap (λ (r : Round). r.players) c.parts.ensures) c.privates_of.ensures.missing)

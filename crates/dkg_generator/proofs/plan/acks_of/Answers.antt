@@ -4,7 +4,7 @@ use Rattle.std.specs.List.{range_with_len}
 use Rattle.std.proofs.lemmas.List.FromFn.{map-range_with_len_more}
 use Rattle.dkg_ceremony.specs.declared.round.RoundParts.{RoundParts as Round}
 use Rattle.dkg_generator.specs.Chain.{everybody}
-use Rattle.dkg_generator.specs.Made.{Sent, Shown, ack_from, acks_to, holds_share}
+use Rattle.dkg_generator.specs.Made.{MessageFrom, Shown, ack_from, acks_to, holds_share}
 use Rattle.dkg_generator.proofs.Holders.{is_one_of}
 use Rattle.dkg_generator.proofs.plan.acks_of.Goals as goal
 use Rattle.dkg_generator.proofs.plan.acks_of.Goals.{then-holds_share+in_ok-halves+else-loop-key-test, else-holds_share}
@@ -21,11 +21,11 @@ ack-requires c =
     let one = subst (λ (key : ℕ). Contains everybody key) (sym c.new-signer.ensures) (is_one_of c.loop-key.key (omega arith) (omega arith)) in
     subst (λ (round : Round). Contains round.players c.new-signer.result) (sym c.requires.round) one
 
-all_acks : (number : ℕ) (shown : Shown) (acks : List Sent) (key : ℕ) → holds_share number shown.epoch ≡ true → key ≡ 8 → acks ≡ map (ack_from number shown) (range_with_len 2 (key - 2)) → acks ≡ acks_to number shown
+all_acks : (number : ℕ) (shown : Shown) (acks : List MessageFrom) (key : ℕ) → holds_share number shown.epoch ≡ true → key ≡ 8 → acks ≡ map (ack_from number shown) (range_with_len 2 (key - 2)) → acks ≡ acks_to number shown
 unfolding acks_to
 all_acks number shown acks key holds all is = rw holds (is ∙ ap (λ (k : ℕ). map (ack_from number shown) (range_with_len 2 (k - 2))) all)
 
-no_acks : (number : ℕ) (shown : Shown) (acks : List Sent) → holds_share number shown.epoch ≡ false → acks ≡ [] → acks ≡ acks_to number shown
+no_acks : (number : ℕ) (shown : Shown) (acks : List MessageFrom) → holds_share number shown.epoch ≡ false → acks ≡ [] → acks ≡ acks_to number shown
 unfolding acks_to
 no_acks number shown acks holds none = rw holds none
 

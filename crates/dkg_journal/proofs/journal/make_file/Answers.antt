@@ -1,6 +1,6 @@
 use Rattle.std.proofs.Common.{ℕ, Ok, Option, refl, sym, subst}
 use Rattle.std.proofs.lemmas.Result.{err_from_is_err_and}
-use Rattle.dkg_journal.specs.Disk.{Follows, Inside, Did}
+use Rattle.dkg_journal.specs.Disk.{ImagesFollow, Inside, Did}
 use Rattle.dkg_journal.specs.Fuse.{HasRun}
 use Rattle.dkg_journal.specs.Steps.{IsNextAppend, SegmentAt, make_calls, place_or_start}
 use Rattle.dkg_journal.specs.declared.call.JournalError.{JournalError}
@@ -21,12 +21,12 @@ returns-in-Some-clause-images g c = λ next. keeps_none _ _
 pub returns-in_err-perform-in-None-clause-images : goal.returns-in_err-perform-in-None-clause-images
 returns-in_err-perform-in-None-clause-images g c = λ next.
     let none = subst (λ (p : Option ℕ). IsNextAppend c.args.section p (g.D.Disk.files c.args.disk.now) (g.D.Disk.image c.args.disk.now)) c.in-None.is next in
-    made_keeps c.args.section _ _ _ none (subst (λ (op : Op). Follows (Inside op) (g.D.Disk.image c.args.disk.now) (g.D.Disk.image c.perform.new.disk)) c.requires c.perform.ensures.crash)
+    made_keeps c.args.section _ _ _ none (subst (λ (op : Op). ImagesFollow (Inside op) (g.D.Disk.image c.args.disk.now) (g.D.Disk.image c.perform.new.disk)) c.requires c.perform.ensures.crash)
 
 pub returns-in_ok-perform-in-None-clause-images : goal.returns-in_ok-perform-in-None-clause-images
 returns-in_ok-perform-in-None-clause-images g c = λ next.
     let none = subst (λ (p : Option ℕ). IsNextAppend c.args.section p (g.D.Disk.files c.args.disk.now) (g.D.Disk.image c.args.disk.now)) c.in-None.is next in
-    made_keeps c.args.section _ _ _ none (subst (λ (op : Op). Follows (Inside op) (g.D.Disk.image c.args.disk.now) (g.D.Disk.image c.perform.new.disk)) c.requires c.perform.ensures.crash)
+    made_keeps c.args.section _ _ _ none (subst (λ (op : Op). ImagesFollow (Inside op) (g.D.Disk.image c.args.disk.now) (g.D.Disk.image c.perform.new.disk)) c.requires c.perform.ensures.crash)
 
 pub returns-in_ok-perform-in-None-clause-open : goal.returns-in_ok-perform-in-None-clause-open
 returns-in_ok-perform-in-None-clause-open g c = λ tells next.
@@ -35,11 +35,11 @@ returns-in_ok-perform-in-None-clause-open g c = λ tells next.
 
 pub returns-in_err-perform-in-None-clause-sound : goal.returns-in_err-perform-in-None-clause-sound
 returns-in_err-perform-in-None-clause-sound g c = λ next sound.
-    made_unbroken c.args.section _ _ next.no_flat sound (subst (λ (op : Op). Follows (Inside op) (g.D.Disk.image c.args.disk.now) (g.D.Disk.image c.perform.new.disk)) c.requires c.perform.ensures.crash)
+    made_unbroken c.args.section _ _ next.no_flat sound (subst (λ (op : Op). ImagesFollow (Inside op) (g.D.Disk.image c.args.disk.now) (g.D.Disk.image c.perform.new.disk)) c.requires c.perform.ensures.crash)
 
 pub returns-in_ok-perform-in-None-clause-sound : goal.returns-in_ok-perform-in-None-clause-sound
 returns-in_ok-perform-in-None-clause-sound g c = λ next sound.
-    made_unbroken c.args.section _ _ next.no_flat sound (subst (λ (op : Op). Follows (Inside op) (g.D.Disk.image c.args.disk.now) (g.D.Disk.image c.perform.new.disk)) c.requires c.perform.ensures.crash)
+    made_unbroken c.args.section _ _ next.no_flat sound (subst (λ (op : Op). ImagesFollow (Inside op) (g.D.Disk.image c.args.disk.now) (g.D.Disk.image c.perform.new.disk)) c.requires c.perform.ensures.crash)
 
 pub returns-in-Some-clause-calls : goal.returns-in-Some-clause-calls
 returns-in-Some-clause-calls g c =

@@ -1,6 +1,6 @@
 use Rattle.std.proofs.Common.{[], ◌∷◌, subst}
 use Rattle.std.proofs.lemmas.Result.{err_from_is_err_and}
-use Rattle.dkg_journal.specs.Disk.{Follows, Inside, Did}
+use Rattle.dkg_journal.specs.Disk.{ImagesFollow, Inside, Did}
 use Rattle.dkg_journal.specs.declared.disk.Op.{Op}
 use Rattle.dkg_journal.specs.declared.disk.Op.TheVariants.{Sync}
 use Rattle.dkg_values.specs.declared.name.Name.TheVariants.{Segment}
@@ -9,16 +9,16 @@ use Rattle.dkg_journal.proofs.journal.write_segment.Goals as goal
 
 pub returns-in_err-perform-clause-images : goal.returns-in_err-perform-clause-images
 returns-in_err-perform-clause-images g c = λ x bytes place is firm.
-    torn_into (Segment c.args.section) x bytes place _ _ _ firm (subst (λ (op : Op). Follows (Inside op) (g.D.Disk.image c.args.disk.now) (g.D.Disk.image c.perform.new.disk)) is c.perform.ensures.crash)
+    torn_into (Segment c.args.section) x bytes place _ _ _ firm (subst (λ (op : Op). ImagesFollow (Inside op) (g.D.Disk.image c.args.disk.now) (g.D.Disk.image c.perform.new.disk)) is c.perform.ensures.crash)
 
 pub returns-in_err-perform-2-clause-images : goal.returns-in_err-perform-2-clause-images
 returns-in_err-perform-2-clause-images g c = λ x bytes place is firm.
-    let torn = torn_into (Segment c.args.section) x bytes place _ _ _ firm (subst (λ (op : Op). Follows (Inside op) (g.D.Disk.image c.args.disk.now) (g.D.Disk.image c.perform.new.disk)) is c.perform.ensures.crash) in
+    let torn = torn_into (Segment c.args.section) x bytes place _ _ _ firm (subst (λ (op : Op). ImagesFollow (Inside op) (g.D.Disk.image c.args.disk.now) (g.D.Disk.image c.perform.new.disk)) is c.perform.ensures.crash) in
     synced_into (Segment c.args.section) _ _ _ _ torn c.perform-2.ensures.crash
 
 pub returns-clause-images : goal.returns-clause-images
 returns-clause-images g c = λ x bytes place is firm.
-    let torn = torn_into (Segment c.args.section) x bytes place _ _ _ firm (subst (λ (op : Op). Follows (Inside op) (g.D.Disk.image c.args.disk.now) (g.D.Disk.image c.perform.new.disk)) is c.perform.ensures.crash) in
+    let torn = torn_into (Segment c.args.section) x bytes place _ _ _ firm (subst (λ (op : Op). ImagesFollow (Inside op) (g.D.Disk.image c.args.disk.now) (g.D.Disk.image c.perform.new.disk)) is c.perform.ensures.crash) in
     synced_into (Segment c.args.section) _ _ _ _ torn c.perform-2.ensures.crash
 
 pub returns-clause-done : goal.returns-clause-done

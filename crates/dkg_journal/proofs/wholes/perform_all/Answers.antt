@@ -1,7 +1,7 @@
 use Rattle.std.proofs.Common.{◌≡◌, ◌+◌, ◌++◌, ◌∷◌, [], List, Ok, take, drop, refl, sym, ◌∙◌, ap, subst, append_assoc, arith, rules}
 use Rattle.std.proofs.lemmas.List.{take_all}
 use Rattle.std.proofs.lemmas.Result.{err_from_is_err_and}
-use Rattle.dkg_journal.specs.Disk.{Follows, files_after}
+use Rattle.dkg_journal.specs.Disk.{ImagesFollow, files_after}
 use Rattle.dkg_journal.specs.Wholes.{Amid, Becomes, after_all}
 use Rattle.dkg_journal.specs.declared.disk.Op.{Op}
 use Rattle.dkg_journal.proofs.Amid.{after_push, becomes_amid, becomes_none, follows_amid, follows_becomes, pushed, split_at, whole_allowed, whole_at}
@@ -29,7 +29,7 @@ loop-op-preserved g c =
     let inv = c.loop-op.invariant in
     record {
       files = λ tells. (c.in_ok-perform.ensures.done tells).reads ∙ ap (files_after op) (inv.files tells) ∙ sym (after_push (take i c.args.ops.now) op _) ∙ ap (λ (l : List Op). after_all l (g.D.Disk.files c.args.disk.now)) (sym more);
-      done = λ tells. subst (λ (l : List Op). Follows (Becomes l) (g.D.Disk.image c.args.disk.now) (g.D.Disk.image c.perform.new.disk)) (sym more) (follows_becomes (take i c.args.ops.now) op _ _ _ (whole_at c.args.ops.now i op c.op-item.is c.loop-op-test.true (c.requires tells)) (inv.done tells) c.perform.ensures.crash _ _ (c.in_ok-perform.ensures.done tells));
+      done = λ tells. subst (λ (l : List Op). ImagesFollow (Becomes l) (g.D.Disk.image c.args.disk.now) (g.D.Disk.image c.perform.new.disk)) (sym more) (follows_becomes (take i c.args.ops.now) op _ _ _ (whole_at c.args.ops.now i op c.op-item.is c.loop-op-test.true (c.requires tells)) (inv.done tells) c.perform.ensures.crash _ _ (c.in_ok-perform.ensures.done tells));
       all = all_same g.D.Disk.made _ _ _ _ _ _ (sym more) (then_all g.D.Disk.made g.met.D.Disk.made_more _ _ _ _ _ _ (take i c.args.ops.now) (op ∷ []) inv.all (record { each = c.perform.ensures.calls; fuse = c.perform.ensures.counted }));
       caused = search (rules, caused_then, inv.caused, c.perform.ensures.caused);
     }
@@ -39,7 +39,7 @@ returns-in_err-perform-clause-amid g c = λ tells.
     let op = c.op-item.result in
     let i = c.loop-op.op-index in
     let whole = whole_at c.args.ops.now i op c.op-item.is c.loop-op-test.true (c.requires tells) in
-    subst (λ (l : List Op). Follows (Amid l) (g.D.Disk.image c.args.disk.now) (g.D.Disk.image c.perform.new.disk)) (split_at c.args.ops.now i op c.op-item.is c.loop-op-test.true) (follows_amid (take i c.args.ops.now) op _ _ _ whole (c.loop-op.invariant.done tells) c.perform.ensures.crash (drop (i + 1) c.args.ops.now))
+    subst (λ (l : List Op). ImagesFollow (Amid l) (g.D.Disk.image c.args.disk.now) (g.D.Disk.image c.perform.new.disk)) (split_at c.args.ops.now i op c.op-item.is c.loop-op-test.true) (follows_amid (take i c.args.ops.now) op _ _ _ whole (c.loop-op.invariant.done tells) c.perform.ensures.crash (drop (i + 1) c.args.ops.now))
 
 pub returns-in_err-perform-clause-calls : goal.returns-in_err-perform-clause-calls
 returns-in_err-perform-clause-calls g c =
@@ -54,7 +54,7 @@ returns-in_err-perform-clause-calls g c =
 pub returns-clause-amid : goal.returns-clause-amid
 returns-clause-amid g c = λ tells.
     let whole : take c.loop-op.op-index c.args.ops.now ≡ c.args.ops.now = take_all c.loop-op.op-index c.args.ops.now (omega (arith, c.loop-op-test.false)) in
-    becomes_amid c.args.ops.now _ _ (subst (λ (l : List Op). Follows (Becomes l) (g.D.Disk.image c.args.disk.now) (g.D.Disk.image c.loop-op.disk)) whole (c.loop-op.invariant.done tells))
+    becomes_amid c.args.ops.now _ _ (subst (λ (l : List Op). ImagesFollow (Becomes l) (g.D.Disk.image c.args.disk.now) (g.D.Disk.image c.loop-op.disk)) whole (c.loop-op.invariant.done tells))
 
 pub returns-clause-calls : goal.returns-clause-calls
 returns-clause-calls g c =

@@ -7,7 +7,7 @@ use Rattle.dkg_promises.specs.Found.{IsFoundRecord}
 use Rattle.dkg_lives.specs.Given.{AreBytes}
 use Rattle.dkg_promises.specs.GivesBack.{limit_in}
 use Rattle.dkg_lives.specs.Lives.{AnyFiles}
-use Rattle.dkg_promises.specs.Over.{Over, over}
+use Rattle.dkg_promises.specs.Over.{DevicesAround, over}
 use Rattle.dkg_promises.specs.Promised.{DoesRun, Promised, SaysRun}
 use Rattle.dkg_lives.specs.Ways.{by_lines, by_worlds}
 use Rattle.dkg_run.proofs.Behind.{over_as, runs_over}
@@ -38,7 +38,7 @@ returns-in-Ok-clause-run g c =
 pub returns-in-Ok-clause-promise : goal.returns-in-Ok-clause-promise
 returns-in-Ok-clause-promise g c =
     let its = c.in-Ok.ensures.lines in
-    let o : Over = over g.D.Disk.tells g.D.Disk.files g.D.Disk.image g.D.Disk.faults g.D.Disk.made g.X.SecretStore.tells g.X.SecretStore.held g.X.SecretStore.faults g.X.SecretStore.made (c.args.disk.now, c.args.secrets.now) (c.run_all.new.devices.disk.now, c.run_all.new.devices.secrets.now) in
+    let o : DevicesAround = over g.D.Disk.tells g.D.Disk.files g.D.Disk.image g.D.Disk.faults g.D.Disk.made g.X.SecretStore.tells g.X.SecretStore.held g.X.SecretStore.faults g.X.SecretStore.made (c.args.disk.now, c.args.secrets.now) (c.run_all.new.devices.disk.now, c.run_all.new.devices.secrets.now) in
     over_as g.D.Disk.tells g.D.Disk.files g.D.Disk.image g.D.Disk.faults g.D.Disk.made g.X.SecretStore.tells g.X.SecretStore.held g.X.SecretStore.faults g.X.SecretStore.made
     (λ o. Adds c.args.out.now.entries c.run_all.new.out.entries (Promised c.args.script.now o (Ok tt)))
     (c.args.disk.now, c.args.secrets.now) c.run_all.new.devices.disk.now _ c.run_all.new.devices.secrets.now _ (search rules) (search rules)
@@ -77,7 +77,7 @@ returns-in-Err-clause-run g c =
 pub returns-in-Err-clause-promise : goal.returns-in-Err-clause-promise
 returns-in-Err-clause-promise g c =
     let its = c.in-Err.ensures.lines in
-    let o : Over = over g.D.Disk.tells g.D.Disk.files g.D.Disk.image g.D.Disk.faults g.D.Disk.made g.X.SecretStore.tells g.X.SecretStore.held g.X.SecretStore.faults g.X.SecretStore.made (c.args.disk.now, c.args.secrets.now) (c.run_all.new.devices.disk.now, c.run_all.new.devices.secrets.now) in
+    let o : DevicesAround = over g.D.Disk.tells g.D.Disk.files g.D.Disk.image g.D.Disk.faults g.D.Disk.made g.X.SecretStore.tells g.X.SecretStore.held g.X.SecretStore.faults g.X.SecretStore.made (c.args.disk.now, c.args.secrets.now) (c.run_all.new.devices.disk.now, c.run_all.new.devices.secrets.now) in
     over_as g.D.Disk.tells g.D.Disk.files g.D.Disk.image g.D.Disk.faults g.D.Disk.made g.X.SecretStore.tells g.X.SecretStore.held g.X.SecretStore.faults g.X.SecretStore.made
     (λ o. Adds c.args.out.now.entries c.tell.new.out.entries (Promised c.args.script.now o (Err c.tell.result)))
     (c.args.disk.now, c.args.secrets.now) c.run_all.new.devices.disk.now _ c.run_all.new.devices.secrets.now _ (search rules) (search rules)

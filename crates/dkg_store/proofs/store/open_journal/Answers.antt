@@ -2,7 +2,7 @@ use Rattle.std.proofs.Common.{[], ◌∷◌, length, None, Err, refl, sym, subst
 use Rattle.dkg_journal.specs.Names.{Files}
 use Rattle.dkg_journal.specs.Records.{entries}
 use Rattle.dkg_journal.specs.Gated.{OpensAlike, gated_entries}
-use Rattle.dkg_journal.specs.Opening.{broken, open_calls}
+use Rattle.dkg_journal.specs.Opening.{first_break, open_calls}
 use Rattle.dkg_journal.specs.declared.call.JournalError.{JournalError}
 use Rattle.dkg_journal.specs.Fuse.{Ran, RanAll}
 use Rattle.dkg_journal.specs.declared.disk.Op.TheVariants.{Barrier}
@@ -36,7 +36,7 @@ pub returns-in-Err-open-clause-acts : goal.returns-in-Err-open-clause-acts
 returns-in-Err-open-clause-acts g c = λ told whole out s.
     let did = c.in_default.ensures.done told in
     let of_devices : IsOfDevices (store_error_of c.in-Err-open.error) = journal_devices c.in-Err-open.error
-    (λ name place is. no_place (broken (g.D.Disk.files c.perform.new.disk)) (name, place) ((c.in-Err-open.ensures.judges told).corrupt_there name place (ap (λ (e : JournalError). Err e) is)) (ap broken did.reads ∙ whole))
+    (λ name place is. no_place (first_break (g.D.Disk.files c.perform.new.disk)) (name, place) ((c.in-Err-open.ensures.judges told).corrupt_there name place (ap (λ (e : JournalError). Err e) is)) (ap first_break did.reads ∙ whole))
     (λ is. c.in-Err-open.ensures.not_long (ap (λ (e : JournalError). Err e) is)) in
     bar_done None (length (open_calls (g.D.Disk.files c.args.disk.now))) did c.perform.ensures.counted (g.met.D.Disk.reads _ told)
     (open_torn did.reads (cause_of c.of_journal-in-Err-open.result)
@@ -102,7 +102,7 @@ returns-in-Ok-clause-opens g c = λ told.
       listed = gated_listed _ _ (c.in-Ok.ensures.gated told) ∙ ap entries did.reads;
       gated = c.in-Ok.ensures.gated told ∙ ap gated_entries did.reads;
       settled = λ m here. ap entries (done.settled.only m here) ∙ ap (λ (j : Journaled). j.entries) done.after ∙ ap entries did.reads;
-      whole = ap broken (sym did.reads) ∙ (c.in-Ok.ensures.judges told).whole;
+      whole = ap first_break (sym did.reads) ∙ (c.in-Ok.ensures.judges told).whole;
       alike = subst (λ (files : Files). OpensAlike files (g.D.Disk.files c.open.new.disk)) did.reads (c.in-Ok.ensures.again.alike told);
       names = opened_too _ _ _ _ _ _ _ did.reads ((c.in-Ok.ensures.does told).done (record { only = λ f in_image. did.durable f in_image ∙ sym did.reads }));
       lands = ((c.in-Ok.ensures.does told).done (record { only = λ f in_image. did.durable f in_image ∙ sym did.reads })).settled;
@@ -131,7 +131,7 @@ returns-in-Err-open-clause-due g c =
     rw c.of_journal-in-Err-open.ensures (due_opening c.in-Err-open.error _ _ _ _ _ c.in-Err-open.ensures.not_long
     (λ name place is told.
     let did = c.in_default.ensures.done told in (
-      ap broken (sym did.reads) ∙ (c.in-Err-open.ensures.judges told).corrupt_there name place is,
+      ap first_break (sym did.reads) ∙ (c.in-Err-open.ensures.judges told).corrupt_there name place is,
       subst (λ (files : Files). OpensAlike files (g.D.Disk.files c.open.new.disk)) did.reads (unchanged_alike g.D.Disk.files g.D.Disk.image _ _ (c.in-Err-open.ensures.again.unread name place is)),
     ))
     (λ is. later_rose _ _ _ c.perform.ensures.caused.counts.later c.open.ensures.caused.counts.later (c.in-Err-open.ensures.caused.counts.disk is))

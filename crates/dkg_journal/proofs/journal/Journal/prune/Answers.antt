@@ -2,7 +2,7 @@ use Rattle.std.proofs.Common.{◌≡◌, List, sym, ◌∙◌, ap, subst}
 use Rattle.std.proofs.lemmas.Result.{err_from_is_err_and}
 use Rattle.std.specs.FinMap.{keys}
 use Rattle.std.specs.Prelude.{filter}
-use Rattle.dkg_journal.specs.Disk.{Follows}
+use Rattle.dkg_journal.specs.Disk.{ImagesFollow}
 use Rattle.dkg_journal.specs.Pruning.{is_below, prune_calls}
 use Rattle.dkg_journal.specs.Wholes.{Amid, AreOfWhole, Becomes, after_all}
 use Rattle.dkg_journal.specs.declared.disk.Op.{Op}
@@ -29,13 +29,13 @@ returns-in_err-perform_all-clause-thins g c =
     let p = err_from_is_err_and c.from_residual-in_err-perform_all.result c.from_residual-in_err-perform_all.ensures.1 in
     λ tells.
     let is : c.deref.result.now ≡ prune_calls c.args.min (keys (g.D.Disk.files c.args.disk.now)) = c.deref.ensures.value ∙ c.in_ok-ops.ensures ∙ place_calls c.args.min c.args.self.now.places _ _ (c.requires tells) in
-    let amid = subst (λ (l : List Op). Follows (Amid l) (g.D.Disk.image c.args.disk.now) (g.D.Disk.image c.perform_all.new.disk)) is (c.perform_all.ensures.amid tells) in
+    let amid = subst (λ (l : List Op). ImagesFollow (Amid l) (g.D.Disk.image c.args.disk.now) (g.D.Disk.image c.perform_all.new.disk)) is (c.perform_all.ensures.amid tells) in
     thins_err c.args.min c.from_residual-in_err-perform_all.result p.0 _ _ p.1 (prune_may c.args.min c.args.self.now.places _ _ (c.requires tells) _ amid)
 
 pub returns-in_err-perform_all-clause-sound : goal.returns-in_err-perform_all-clause-sound
 returns-in_err-perform_all-clause-sound g c = λ tells.
     let is : c.deref.result.now ≡ prune_calls c.args.min (keys (g.D.Disk.files c.args.disk.now)) = c.deref.ensures.value ∙ c.in_ok-ops.ensures ∙ place_calls c.args.min c.args.self.now.places _ _ (c.requires tells) in
-    let amid = subst (λ (l : List Op). Follows (Amid l) (g.D.Disk.image c.args.disk.now) (g.D.Disk.image c.perform_all.new.disk)) is (c.perform_all.ensures.amid tells) in
+    let amid = subst (λ (l : List Op). ImagesFollow (Amid l) (g.D.Disk.image c.args.disk.now) (g.D.Disk.image c.perform_all.new.disk)) is (c.perform_all.ensures.amid tells) in
     prune_unbroken c.args.min c.args.self.now.places _ _ (c.requires tells) _ amid
 
 pub returns-in_err-perform_all-clause-calls : goal.returns-in_err-perform_all-clause-calls
@@ -48,7 +48,7 @@ returns-in_err-perform_all-clause-calls g c = λ tells.
 pub returns-in_err-perform_all-clause-does : goal.returns-in_err-perform_all-clause-does
 returns-in_err-perform_all-clause-does g c = λ tells.
     let is : c.deref.result.now ≡ prune_calls c.args.min (keys (g.D.Disk.files c.args.disk.now)) = c.deref.ensures.value ∙ c.in_ok-ops.ensures ∙ place_calls c.args.min c.args.self.now.places _ _ (c.requires tells) in
-    let amid = subst (λ (l : List Op). Follows (Amid l) (g.D.Disk.image c.args.disk.now) (g.D.Disk.image c.perform_all.new.disk)) is (c.perform_all.ensures.amid tells) in
+    let amid = subst (λ (l : List Op). ImagesFollow (Amid l) (g.D.Disk.image c.args.disk.now) (g.D.Disk.image c.perform_all.new.disk)) is (c.perform_all.ensures.amid tells) in
     let ran = ran_same g.D.Disk.made _ _ _ _ _ _ is c.perform_all.ensures.calls.ran in
     let p = err_from_is_err_and c.from_residual-in_err-perform_all.result c.from_residual-in_err-perform_all.ensures.1 in
     does_err _ _ _ c.from_residual-in_err-perform_all.result p.0 _ _ _ _ p.1 (λ lands. prune_tried c.args.min c.args.self.now.places _ _ (c.requires tells) _ lands g.D.Disk.made _ _ _ _ amid ran)
@@ -56,14 +56,14 @@ returns-in_err-perform_all-clause-does g c = λ tells.
 pub returns-clause-thins : goal.returns-clause-thins
 returns-clause-thins g c = λ tells.
     let is : c.deref.result.now ≡ prune_calls c.args.min (keys (g.D.Disk.files c.args.disk.now)) = c.deref.ensures.value ∙ c.in_ok-ops.ensures ∙ place_calls c.args.min c.args.self.now.places _ _ (c.requires tells) in
-    let amid = subst (λ (l : List Op). Follows (Amid l) (g.D.Disk.image c.args.disk.now) (g.D.Disk.image c.perform_all.new.disk)) is (c.perform_all.ensures.amid tells) in
-    let done = subst (λ (l : List Op). Follows (Becomes l) (g.D.Disk.image c.args.disk.now) (g.D.Disk.image c.perform_all.new.disk)) is (c.in_ok-perform_all.ensures.done tells) in
+    let amid = subst (λ (l : List Op). ImagesFollow (Amid l) (g.D.Disk.image c.args.disk.now) (g.D.Disk.image c.perform_all.new.disk)) is (c.perform_all.ensures.amid tells) in
+    let done = subst (λ (l : List Op). ImagesFollow (Becomes l) (g.D.Disk.image c.args.disk.now) (g.D.Disk.image c.perform_all.new.disk)) is (c.in_ok-perform_all.ensures.done tells) in
     thins_ok c.args.min tt _ _ (prune_may c.args.min c.args.self.now.places _ _ (c.requires tells) _ amid) (prune_leaves c.args.min c.args.self.now.places _ _ (c.requires tells) _ done)
 
 pub returns-clause-sound : goal.returns-clause-sound
 returns-clause-sound g c = λ tells.
     let is : c.deref.result.now ≡ prune_calls c.args.min (keys (g.D.Disk.files c.args.disk.now)) = c.deref.ensures.value ∙ c.in_ok-ops.ensures ∙ place_calls c.args.min c.args.self.now.places _ _ (c.requires tells) in
-    let amid = subst (λ (l : List Op). Follows (Amid l) (g.D.Disk.image c.args.disk.now) (g.D.Disk.image c.perform_all.new.disk)) is (c.perform_all.ensures.amid tells) in
+    let amid = subst (λ (l : List Op). ImagesFollow (Amid l) (g.D.Disk.image c.args.disk.now) (g.D.Disk.image c.perform_all.new.disk)) is (c.perform_all.ensures.amid tells) in
     prune_unbroken c.args.min c.args.self.now.places _ _ (c.requires tells) _ amid
 
 pub returns-clause-calls : goal.returns-clause-calls
@@ -75,15 +75,15 @@ returns-clause-calls g c = λ tells.
 pub returns-clause-open : goal.returns-clause-open
 returns-clause-open g c = λ tells.
     let is : c.deref.result.now ≡ prune_calls c.args.min (keys (g.D.Disk.files c.args.disk.now)) = c.deref.ensures.value ∙ c.in_ok-ops.ensures ∙ place_calls c.args.min c.args.self.now.places _ _ (c.requires tells) in
-    let done = subst (λ (l : List Op). Follows (Becomes l) (g.D.Disk.image c.args.disk.now) (g.D.Disk.image c.perform_all.new.disk)) is (c.in_ok-perform_all.ensures.done tells) in
+    let done = subst (λ (l : List Op). ImagesFollow (Becomes l) (g.D.Disk.image c.args.disk.now) (g.D.Disk.image c.perform_all.new.disk)) is (c.in_ok-perform_all.ensures.done tells) in
     prune_open c.args.min c.args.self.now.places _ _ (c.requires tells) _ _ _ done (g.met.D.Disk.reads _ tells) c.prune.ensures
 
 pub returns-clause-does : goal.returns-clause-does
 returns-clause-does g c = λ tells.
     let is : c.deref.result.now ≡ prune_calls c.args.min (keys (g.D.Disk.files c.args.disk.now)) = c.deref.ensures.value ∙ c.in_ok-ops.ensures ∙ place_calls c.args.min c.args.self.now.places _ _ (c.requires tells) in
-    let amid = subst (λ (l : List Op). Follows (Amid l) (g.D.Disk.image c.args.disk.now) (g.D.Disk.image c.perform_all.new.disk)) is (c.perform_all.ensures.amid tells) in
+    let amid = subst (λ (l : List Op). ImagesFollow (Amid l) (g.D.Disk.image c.args.disk.now) (g.D.Disk.image c.perform_all.new.disk)) is (c.perform_all.ensures.amid tells) in
     let ran = ran_same g.D.Disk.made _ _ _ _ _ _ is c.perform_all.ensures.calls.ran in
-    let done = subst (λ (l : List Op). Follows (Becomes l) (g.D.Disk.image c.args.disk.now) (g.D.Disk.image c.perform_all.new.disk)) is (c.in_ok-perform_all.ensures.done tells) in
+    let done = subst (λ (l : List Op). ImagesFollow (Becomes l) (g.D.Disk.image c.args.disk.now) (g.D.Disk.image c.perform_all.new.disk)) is (c.in_ok-perform_all.ensures.done tells) in
     let files = c.in_ok-perform_all.ensures.files tells ∙ ap (λ (l : List Op). after_all l (g.D.Disk.files c.args.disk.now)) is in
     let all = all_same g.D.Disk.made _ _ _ _ _ _ is c.in_ok-perform_all.ensures.calls.all in
     does_ok _ _ _ _ _ _ _ _

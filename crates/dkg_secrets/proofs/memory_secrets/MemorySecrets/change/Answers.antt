@@ -1,6 +1,6 @@
 use Rattle.std.proofs.Common.{ap, ◌∙◌}
 use Rattle.dkg_secrets.specs.Secrets.{Secrets, after}
-use Rattle.dkg_journal.specs.DeviceCall.{Makes}
+use Rattle.dkg_journal.specs.DeviceCall.{CallMade}
 use Rattle.dkg_secrets.specs.Made.{secrets_made_one}
 use Rattle.dkg_secrets.proofs.Tried.{nothing_done, all_done}
 use Rattle.dkg_secrets.proofs.memory_secrets.MemorySecrets.change.Goals as goal
@@ -9,16 +9,16 @@ pub returns-in_err-begin-clause-tried : goal.returns-in_err-begin-clause-tried
 returns-in_err-begin-clause-tried c = nothing_done c.args.op.now c.args.self.now.held _ c.begin.ensures.held
 
 pub returns-in_err-begin-clause-calls : goal.returns-in_err-begin-clause-calls
-returns-in_err-begin-clause-calls c = secrets_made_one (Makes c.args.op.now) _ _ (returns-in_err-begin-clause-tried c)
+returns-in_err-begin-clause-calls c = secrets_made_one (CallMade c.args.op.now) _ _ (returns-in_err-begin-clause-tried c)
 
 pub returns-in-Ok-clause-tried : goal.returns-in-Ok-clause-tried
 returns-in-Ok-clause-tried c = all_done c.args.op.now c.args.self.now.held _ (c.in-Ok.ensures.done ∙ ap (λ (s : Secrets). after c.args.op.now s) c.begin.ensures.held)
 
 pub returns-in-Ok-clause-calls : goal.returns-in-Ok-clause-calls
-returns-in-Ok-clause-calls c = secrets_made_one (Makes c.args.op.now) _ _ (returns-in-Ok-clause-tried c)
+returns-in-Ok-clause-calls c = secrets_made_one (CallMade c.args.op.now) _ _ (returns-in-Ok-clause-tried c)
 
 pub returns-in-Err-clause-tried : goal.returns-in-Err-clause-tried
 returns-in-Err-clause-tried c = nothing_done c.args.op.now c.args.self.now.held _ (c.in-Err.ensures.kept ∙ c.begin.ensures.held)
 
 pub returns-in-Err-clause-calls : goal.returns-in-Err-clause-calls
-returns-in-Err-clause-calls c = secrets_made_one (Makes c.args.op.now) _ _ (returns-in-Err-clause-tried c)
+returns-in-Err-clause-calls c = secrets_made_one (CallMade c.args.op.now) _ _ (returns-in-Err-clause-tried c)

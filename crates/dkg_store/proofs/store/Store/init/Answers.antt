@@ -8,7 +8,7 @@ use Rattle.dkg_journal.specs.declared.opening.JournalEntry.{JournalEntry}
 use Rattle.dkg_store.specs.Corrupt.{AreEvents, BeginsWithEvent, IsAlien}
 use Rattle.dkg_store.specs.Events.{no_event_at}
 use Rattle.std.proofs.lemmas.Result.{err_from_is_err_and}
-use Rattle.dkg_journal.specs.Opening.{broken}
+use Rattle.dkg_journal.specs.Opening.{first_break}
 use Rattle.dkg_journal.specs.Views.{views}
 use Rattle.dkg_store.specs.Acts.{by_want}
 use Rattle.dkg_store.specs.Calls.{cause_of, ended_as, store_reading}
@@ -37,13 +37,13 @@ first_there {n} {limit} {read} {given} {waiting} same was is = ap (λ (m : ℕ).
 pub returns-in_err-journal-clause-acts : goal.returns-in_err-journal-clause-acts
 returns-in_err-journal-clause-acts g c = λ told_disk told_secrets whole alien is_alien out.
     let p = err_from_is_err_and c.from_residual.result c.from_residual.ensures.1 in
-    let of_devices : IsOfDevices c.in_err-journal.field-0.0 = due_sound c.in_err-journal.field-0.0 _ _ _ _ _ (λ name place at. no_place (broken (g.D.Disk.files c.args.devices.now.disk.now)) (name, place) (at told_disk).0 whole) c.in_err-journal.ensures.due in
+    let of_devices : IsOfDevices c.in_err-journal.field-0.0 = due_sound c.in_err-journal.field-0.0 _ _ _ _ _ (λ name place at. no_place (first_break (g.D.Disk.files c.args.devices.now.disk.now)) (name, place) (at told_disk).0 whole) c.in_err-journal.ensures.due in
     then_broken (λ (u : Unit {0}). store_reading alien) c.in_err-journal.field-0.0 of_devices
     (ended_broken (λ (store : Store g.row.Dir.Denot). (store.dealings, store.acks, store.logs)) c.from_residual.result p.0 p.1 (subst IsOfDevices (sym p.2) of_devices) ∙ ap (λ (e : StoreError). ended_by (cause_of e)) p.2)
     (c.in_err-journal.ensures.acts told_disk whole out (g.X.SecretStore.held c.args.devices.now.secrets.now))
 
 -- where the bodies read are events, there is no alien
-events_read : (limit n : ℕ) (files : Files) (es waiting : List JournalEntry) → broken files ≡ None → n ≡ limit → es ≡ waiting → map gated waiting ≡ gated_entries files → no_event_at n es ≡ None
+events_read : (limit n : ℕ) (files : Files) (es waiting : List JournalEntry) → first_break files ≡ None → n ≡ limit → es ≡ waiting → map gated waiting ≡ gated_entries files → no_event_at n es ≡ None
     → (alien : Option (Name × ℕ)) → IsAlien limit files alien → alien ≡ None
 events_read limit n files es waiting whole same was are none None is = refl
 events_read limit n files es waiting whole same was are none (Some at) is =
@@ -115,7 +115,7 @@ pub returns-in_err-journal-clause-opens : goal.returns-in_err-journal-clause-ope
 returns-in_err-journal-clause-opens g c = λ told fit.
     let p = err_from_is_err_and c.from_residual.result c.from_residual.ensures.1 in
     let whole = fit.whole.each (g.D.Disk.files c.args.devices.now.disk.now) (g.met.D.Disk.reads c.args.devices.now.disk.now told) in
-    let of_devices : IsOfDevices c.in_err-journal.field-0.0 = due_sound c.in_err-journal.field-0.0 _ _ _ _ _ (λ name place at. no_place (broken (g.D.Disk.files c.args.devices.now.disk.now)) (name, place) (at told).0 whole) c.in_err-journal.ensures.due in
+    let of_devices : IsOfDevices c.in_err-journal.field-0.0 = due_sound c.in_err-journal.field-0.0 _ _ _ _ _ (λ name place at. no_place (first_break (g.D.Disk.files c.args.devices.now.disk.now)) (name, place) (at told).0 whole) c.in_err-journal.ensures.due in
     rw p.1 (subst IsOfDevices (sym p.2) of_devices)
 
 pub returns-in_err-recorded-clause-opens : goal.returns-in_err-recorded-clause-opens
