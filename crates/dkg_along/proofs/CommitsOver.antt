@@ -37,7 +37,7 @@ use Rattle.dkg_core.specs.Entering as half
 use Rattle.dkg_core.specs.Entering.{takes_delivered}
 use Rattle.dkg_core.specs.Fixed.{Fixed, Material, OneShot, has, start}
 use Rattle.dkg_core.specs.Forms.{IsForm, round_for, seed_read, share_read}
-use Rattle.dkg_laws.specs.Idle.{IsAskedLine}
+use Rattle.dkg_laws.specs.Idle.{IsAskedEntry}
 use Rattle.dkg_core.specs.Including as i
 use Rattle.dkg_core.specs.Including.{cached_for, can_finish, job_for, retained_for, retains, verified}
 use Rattle.dkg_core.specs.Live.{Artifact, Deals, Dealer, Ends, Faulted, Finalized, Follows, GaveNone, Includes, Inclusion, Job, Live, Peer, Plays, Request, Seat, Mailed, Stage, VerifiedLogs, Watches, awaited_height, is_last_height, records_of_epoch, phase_of, recorded_at, with_inclusion, with_participation, with_tip, with_told}
@@ -84,13 +84,13 @@ module _ {Dir : Type 0} (c : Fixed Dir) (So : ℕ → Option ℕ → Type 0) whe
   plain (Committed epoch share) is = absurd is
   plain line is = tt
 
-  pub asked : (line : Entry) → IsAskedLine line → P line
+  pub asked : (line : Entry) → IsAskedEntry line → P line
   asked (Committed epoch share) is = absurd is
   asked line is = tt
 
   -- where requests are read
   advanced_so : (now : Live Dir) → SaysSo P (i.advanced c now)
-  advanced_so now = only_so IsAskedLine P (idle.Beside c now) (i.advanced c now) (idle.advanced c now now.inclusion) asked
+  advanced_so now = only_so IsAskedEntry P (idle.Beside c now) (i.advanced c now) (idle.advanced c now now.inclusion) asked
 
   -- A SETUP that commits nothing
 
@@ -343,7 +343,7 @@ module _ {Dir : Type 0} (c : Fixed Dir) (form : IsFormThrough c) (stored : OfSha
 
       final_over : SaysOver Q (b.final_block c round block st) held
       final_over =
-          over_only IsAskedLine Q (idle.Beside c st) (IsAskStop c st) (λ end left. (left ≡ Some held) × IsEndedIn c stored st end) (i.ends_verifying c None st)
+          over_only IsAskedEntry Q (idle.Beside c st) (IsAskStop c st) (λ end left. (left ≡ Some held) × IsEndedIn c stored st end) (i.ends_verifying c None st)
           (λ now. b.concludes_by c round block logs (cached_for st.inclusion.cached logs) (cached_for now.inclusion.cached logs) now) held (idle.ends c st None st.inclusion.running) (asked c Taken)
           (verifying_ends c stored st (Some held) form.form form.finishing reads live.informed live.asked.has None (λ r e. absurd (none_apart r e)))
           (λ end its. behind end its.1)

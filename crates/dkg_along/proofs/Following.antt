@@ -19,7 +19,7 @@ use Rattle.dkg_life.specs.declared.stop.Stop.TheVariants.{Cut, Failed, Fault as 
 use Rattle.dkg_lives.specs.Epochs.{refused_config}
 use Rattle.dkg_lives.specs.Given.{lived}
 use Rattle.dkg_lives.specs.Lives.{AnyFiles, EndsLife, LivesFrom, LivesSo, RunsAllSo}
-use Rattle.dkg_lives.specs.Ways.{ReadsSomething, Trace, by_lines}
+use Rattle.dkg_lives.specs.Ways.{ReadsSomething, Trace, by_entries}
 use Rattle.dkg_along.proofs.InOrder.{life_begins}
 use Rattle.dkg_lives.proofs.Moving.{moves_none, moves_then, moves_within}
 use Rattle.dkg_lives.proofs.Standing.{IsAtCut, IsBefore, IsBetween, IsBetweenOf, Moves}
@@ -79,10 +79,10 @@ module _ (E : Setting → Progress → Entry → Type 0) (Told : Fault → Setti
   life_moves : (l : ℕ) (life : Life) → slice_get script.lives l ≡ Some life → (how : Result (Unit {0}) Stop) (t mid new : Trace) (result : Result (Unit {0}) Fault) (next : Trace → Type 0)
       → Moves E (IsBefore life l 0) (EndsBy Told life l how) t.out mid.out
       → ((t : Trace) → next t → Moves E (IsBetweenOf script (l + 1)) (RunEndsBy Told script result) t.out new.out)
-      → EndsLife by_lines life how mid result new next → Moves E (IsBetweenOf script l) (RunEndsBy Told script result) t.out new.out
+      → EndsLife by_entries life how mid result new next → Moves E (IsBetweenOf script l) (RunEndsBy Told script result) t.out new.out
   life_moves l life at (Ok done) t mid new result next moves after ends =
       moves_then E (IsBetweenOf script l) (IsBetweenOf script (l + 1)) (RunEndsBy Told script result) t.out mid.out new.out
-      (moves_life E script life l at t.out mid.out moves) (after (by_lines.stops mid life.pick) ends)
+      (moves_life E script life l at t.out mid.out moves) (after (by_entries.stops mid life.pick) ends)
   life_moves l life at (Err (FaultOf its)) t mid new result next moves after ends =
       subst (λ (r : Result (Unit {0}) Fault). Moves E (IsBetweenOf script l) (RunEndsBy Told script r) t.out new.out) (sym ends.0)
       (moves_in_life E script life l at (Told its) t.out new.out (subst (λ (x : Trace). Moves E (IsBefore life l 0) (Told its) t.out x.out) (sym ends.1) moves))
@@ -90,7 +90,7 @@ module _ (E : Setting → Progress → Entry → Type 0) (Told : Fault → Setti
   life_moves l life at (Err Cut) t mid new result next moves after ends = by_cut life.cut refl ends
     where
       by_cut : (o : Option cut.Cut) → life.cut ≡ o
-          → IsSomeAnd o (λ its. ((result ≡ Err NoMemory) × (new ≡ by_lines.stops mid its.pick)) ⊎ next (by_lines.says (by_lines.stops mid its.pick) (entry.Cut its.step its.call)))
+          → IsSomeAnd o (λ its. ((result ≡ Err NoMemory) × (new ≡ by_entries.stops mid its.pick)) ⊎ next (by_entries.says (by_entries.stops mid its.pick) (entry.Cut its.step its.call)))
           → Moves E (IsBetweenOf script l) (RunEndsBy Told script result) t.out new.out
       by_cut None none its = absurd its
       by_cut (Some its) is (inl wants) = subst (λ (r : Result (Unit {0}) Fault). Moves E (IsBetweenOf script l) (RunEndsBy Told script r) t.out new.out) (sym wants.0)
@@ -101,12 +101,12 @@ module _ (E : Setting → Progress → Entry → Type 0) (Told : Fault → Setti
           (moves_life E script life l at t.out (mid.out ++ entry.Cut its.step its.call ∷ [])
           (moves_then E (IsBefore life l 0) (IsAtCut life l) (IsBetween (l + 1)) t.out mid.out (mid.out ++ entry.Cut its.step its.call ∷ []) moves
           (cuts life l its mid.out (mid.out ++ entry.Cut its.step its.call ∷ []) is refl)))
-          (after (by_lines.says (by_lines.stops mid its.pick) (entry.Cut its.step its.call)) so)
+          (after (by_entries.says (by_entries.stops mid its.pick) (entry.Cut its.step its.call)) so)
 
   module _ (lives_move : (l : ℕ) (life : Life) (seen : Held → Seen) (files : Files) → slice_get script.lives l ≡ Some life → ReadsSomething seen → (t mid : Trace) (how : Result (Unit {0}) Stop)
-      → LivesSo by_lines (lived script l life seen files) files t how mid → Moves E (IsBefore life l 0) (EndsBy Told life l how) t.out mid.out) where
+      → LivesSo by_entries (lived script l life seen files) files t how mid → Moves E (IsBefore life l 0) (EndsBy Told life l how) t.out mid.out) where
     from_moves : (first : Files → Type 0) (l : ℕ) (lives : List Life) (t new : Trace) (result : Result (Unit {0}) Fault) → l ≤ length script.lives → lives ≡ drop l script.lives
-        → LivesFrom by_lines script first l lives t result new → Moves E (IsBetweenOf script l) (RunEndsBy Told script result) t.out new.out
+        → LivesFrom by_entries script first l lives t result new → Moves E (IsBetweenOf script l) (RunEndsBy Told script result) t.out new.out
     from_moves first l [] t new result within rest its =
         subst (λ (r : Result (Unit {0}) Fault). Moves E (IsBetweenOf script l) (RunEndsBy Told script r) t.out new.out) (sym its.0)
         (moves_none E (IsBetweenOf script l) (IsBetweenOf script (length script.lives)) t.out new.out (ap (λ (x : Trace). x.out) its.1) (λ s p at. subst (λ (n : ℕ). IsBetweenOf script n s p) all at))
@@ -114,7 +114,7 @@ module _ (E : Setting → Progress → Entry → Type 0) (Told : Fault → Setti
         all : l ≡ length script.lives
         all = let none : 0 ≡ length script.lives - l = ap length rest ∙ length-drop l script.lives in omega (arith, within, none)
     from_moves first l (life ∷ lives) t new result within rest (seen, files, how, mid, reads, known, begins, so, ends) =
-        life_moves l life at how t mid new result (λ mid. LivesFrom by_lines script AnyFiles (l + 1) lives mid result new) (lives_move l life seen files at reads t mid how so)
+        life_moves l life at how t mid new result (λ mid. LivesFrom by_entries script AnyFiles (l + 1) lives mid result new) (lives_move l life seen files at reads t mid how so)
         (λ t its. from_moves AnyFiles (l + 1) lives t new result (omega (arith, below)) (subst (λ (k : ℕ). lives ≡ drop k script.lives) (sym (add-one l)) (rest_at script.lives l life lives rest)) its)
         ends
       where
@@ -126,7 +126,7 @@ module _ (E : Setting → Progress → Entry → Type 0) (Told : Fault → Setti
 
     -- .. of a script whose configuration is refused, only where that may be told
     pub all_move : ((its : Fault) → refused_config script ≡ Some its → (s : Setting) (p : Progress) → IsBetweenOf script 0 s p → Told its s p) → (first : Files → Type 0) (t new : Trace) (result : Result (Unit {0}) Fault)
-        → RunsAllSo by_lines script first t result new → Moves E (IsBetweenOf script 0) (RunEndsBy Told script result) t.out new.out
+        → RunsAllSo by_entries script first t result new → Moves E (IsBetweenOf script 0) (RunEndsBy Told script result) t.out new.out
     all_move refusal first t new result (inl (its, refused, is, same)) = subst (λ (r : Result (Unit {0}) Fault). Moves E (IsBetweenOf script 0) (RunEndsBy Told script r) t.out new.out) (sym is)
         (moves_none E (IsBetweenOf script 0) (Told its) t.out new.out (ap (λ (x : Trace). x.out) same) (refusal its refused))
     all_move refusal first t new result (inr (checked, inl wants)) = subst (λ (r : Result (Unit {0}) Fault). Moves E (IsBetweenOf script 0) (RunEndsBy Told script r) t.out new.out) (sym wants.0)

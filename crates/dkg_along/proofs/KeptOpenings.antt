@@ -115,19 +115,19 @@ module _ {F Dir : Type 0} (c : Fixed Dir) (b e l : ℕ) (ended : Ended F (Live D
       by_end (broken cause) its = tt
 
   pub opening_kept : (lines : List Entry) → new.out ≡ w.out ++ lines → BeginsRestored l (restored_list (recovered_in w.held)) lines ended → Reaches s p w.out new.out (IsOpenedBy c b e l ended new.held s p)
-  opening_kept lines out begins = by_lines lines out ended begins unopened opened
+  opening_kept lines out begins = by_entries lines out ended begins unopened opened
     where
-      by_lines : (lines : List Entry) → new.out ≡ w.out ++ lines → (its : Ended F (Live Dir)) → BeginsRestored l (restored_list m) lines its
+      by_entries : (lines : List Entry) → new.out ≡ w.out ++ lines → (its : Ended F (Live Dir)) → BeginsRestored l (restored_list m) lines its
           → (new.out ≡ w.out → IfWentTo its (λ end. ⊥) → IsOpenedBy c b e l ended new.held s p p) → ((lines : List Entry) (q : Progress) → IsUnchanged behind q → IsOpenedBy c b e l ended new.held s p q)
           → Reaches s p w.out new.out (IsOpenedBy c b e l ended new.held s p)
-      by_lines [] out (went end) begins none some = absurd begins
-      by_lines [] out (stopped fault) begins none some = absurd begins
-      by_lines [] out (broken cause) begins none some = record { added = []; out = out; each = tt; to = none (out ∙ append-nil w.out) tt }
-      by_lines (entry.Opened its listed_by ∷ lines) out ended begins none some = record {
+      by_entries [] out (went end) begins none some = absurd begins
+      by_entries [] out (stopped fault) begins none some = absurd begins
+      by_entries [] out (broken cause) begins none some = record { added = []; out = out; each = tt; to = none (out ∙ append-nil w.out) tt }
+      by_entries (entry.Opened its listed_by ∷ lines) out ended begins none some = record {
         added = entry.Opened its listed_by ∷ lines;
         out = out;
         each = (subst (λ (xs : List Restored). IsKeptEntry s p (entry.Opened its xs)) (sym begins.1) (keeps_opening b0 s p m rests.may refl its), each_aside s lines (read s p (entry.Opened its listed_by)) begins.2);
         to = some lines (fold (read s) (read s p (entry.Opened its listed_by)) lines)
             (subst (λ (one : Entry). IsUnchanged behind (fold (read s) (read s p one) lines)) (sym (same_first its listed_by begins.0 begins.1)) (read_aside s lines behind begins.2));
       }
-      by_lines (other ∷ lines) out ended begins none some = absurd begins
+      by_entries (other ∷ lines) out ended begins none some = absurd begins

@@ -38,7 +38,7 @@ use Rattle.dkg_core.specs.Enduring.{IsKeptFrom, IsSaidFrom}
 use Rattle.dkg_core.specs.Endings.{CameTo}
 use Rattle.dkg_core.specs.Forms.{Judged, Refusal, Passed, Applied, IsForm, judged_block}
 use Rattle.dkg_core.specs.Heard.{recovered_in}
-use Rattle.dkg_laws.specs.Idle.{IsAskedLine, LeavesIdle}
+use Rattle.dkg_laws.specs.Idle.{IsAskedEntry, LeavesIdle}
 use Rattle.dkg_core.specs.Laws.{IsOther, IsDealtToItself, IsOffered, reach_of}
 use Rattle.dkg_laws.specs.NodeThrough.{IsActiveThrough}
 use Rattle.dkg_core.specs.Through.{IsLiveThrough}
@@ -308,7 +308,7 @@ module _ {Dir : Type 0} (c : Fixed Dir) (b e l : ℕ) (life : Life) (j from : �
 -- ANY OTHER MESSAGE
 
 -- what a request is answered is aside
-asked_aside : (lines : List Entry) → AllByRecursion IsAskedLine lines → AllByRecursion IsAside lines
+asked_aside : (lines : List Entry) → AllByRecursion IsAskedEntry lines → AllByRecursion IsAside lines
 asked_aside [] all = tt
 asked_aside (entry.Answer request answer ∷ lines) all = (tt, asked_aside lines all.1)
 asked_aside (entry.Log request log ∷ lines) all = (tt, asked_aside lines all.1)

@@ -27,7 +27,7 @@ use Rattle.dkg_life.specs.declared.stop.Stop.TheVariants.{Cut, Fault as FaultOf}
 use Rattle.dkg_lives.specs.Ended.{by_node_stop}
 use Rattle.dkg_lives.specs.Given.{Lived, at_step, step_of}
 use Rattle.dkg_lives.specs.Lives.{LivesSo, Steps, TakesAll, fuse_for}
-use Rattle.dkg_lives.specs.Ways.{Way, by_lines, by_worlds}
+use Rattle.dkg_lives.specs.Ways.{Way, by_entries, by_worlds}
 use Rattle.dkg_along.proofs.Ordered.{opened_in, opening_added, step_is_quiet}
 use Rattle.dkg_lives.proofs.Standing.{AddsQuiet}
 use Rattle.dkg_along.proofs.Steps.{Opening}
@@ -45,7 +45,7 @@ pub record TellsLines {W : Type 0} (way : Way W) : Type 0 where
   pub stops : (w : W) (pick : ℕ) → out (way.stops w pick) ≡ out w
   pub refuses : (stop : Stop) (w new : W) → way.refuses stop w new → out new ≡ out w
 
-unfoldable pub lines_tell : TellsLines by_lines
+unfoldable pub lines_tell : TellsLines by_entries
 lines_tell = record {
   out = λ t. t.out;
   said = λ course ended f w new goes. goes.0;

@@ -21,7 +21,7 @@ pub mod KeptOpenings
 pub mod KeptSteps
 pub mod Leading
 pub mod LifeSteps
-pub mod LineLives
+pub mod EntryLives
 pub mod LivesKept
 pub mod LivesTold
 pub mod Marked

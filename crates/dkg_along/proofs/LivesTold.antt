@@ -37,7 +37,7 @@ use Rattle.dkg_lives.proofs.Currently.{MayBeKept, RestsIn, begun_behind, begun_m
 use Rattle.dkg_lives.proofs.Former.{IsMessage, event_in_form, message_in}
 use Rattle.dkg_along.proofs.KeptSteps.{AnyCall, IsAtStep, Reaches, WithinCall, saved_carried}
 use Rattle.dkg_along.proofs.LifeSteps.{IsGoing, IsLifeOfSetting, IsSettled, OpeningLeaves, StepLeaves, opening_goes, step_goes}
-use Rattle.dkg_along.proofs.LineLives.{After, CutThen, EachTold, KnownAfter, LeadsOn, Left, Told, come, come_more, known_before}
+use Rattle.dkg_along.proofs.EntryLives.{After, CutThen, EachTold, KnownAfter, LeadsOn, Left, Told, come, come_more, known_before}
 use Rattle.dkg_along.proofs.LivesKept.{IsBetween, IsStopped, held_pairs, held_whole, logs_later, may_later, stops_saved, taken_before, taken_by, taken_within, told_going}
 use Rattle.dkg_along.proofs.RunKept.{logs_then, rests_then}
 

@@ -35,7 +35,7 @@ use Rattle.dkg_life.specs.declared.stop.Stop.TheVariants.{Cut, Failed, Fault as 
 use Rattle.dkg_lives.specs.Ended.{by_node_stop}
 use Rattle.dkg_lives.specs.Given.{Lived, at_step, blocks_in, lived, step_of}
 use Rattle.dkg_lives.specs.Lives.{LivesSo, RunsAllSo, RunsSo, Steps, TakesAll, TellsEnd, fuse_for, fuse_within, never}
-use Rattle.dkg_lives.specs.Ways.{Trace, by_lines}
+use Rattle.dkg_lives.specs.Ways.{Trace, by_entries}
 use Rattle.dkg_along.proofs.Ended.{told_in_order}
 use Rattle.dkg_along.proofs.Following.{EndsBy, RunEndsBy, all_move, rest_at}
 use Rattle.dkg_along.proofs.InOrder.{moves_cut}
@@ -115,7 +115,7 @@ module _ (life : Life) (l j : ℕ) (course : Course directory.Unit NodeStop (Liv
   module _ (later : 0 < j) (quiet : (ended : Ended NodeStop (Live directory.Unit)) (out now : List Entry) → Said (on_devices course) ended out now → AddsQuiet out now) where
     pub steps_in_order : (fuse : Option Burn) → fuse_for life.cut j ≡ fuse → (t new : Trace) (how : Result (Unit {0}) Stop) (next : Live directory.Unit → Trace → Type 0)
         → ((end : Live directory.Unit) (mid : Trace) → next end mid → Moves IsInOrder (IsBehind life l j) (EndsIn life l how) mid.out new.out)
-        → Steps by_lines (entry.Step j) fuse course t how new next → Moves IsInOrder (IsBefore life l j) (EndsIn life l how) t.out new.out
+        → Steps by_entries (entry.Step j) fuse course t how new next → Moves IsInOrder (IsBefore life l j) (EndsIn life l how) t.out new.out
     steps_in_order None none t new how next after its = subst (λ (r : Result (Unit {0}) Stop). Moves IsInOrder (IsBefore life l j) (EndsIn life l r) t.out new.out) (sym its.0)
         (stops_before life l j Cut t.out new.out (ap (λ (x : Trace). x.out) its.1) (refl, unlit life.cut j none))
     steps_in_order (Some f) lit t new how next after (inl wants) = subst (λ (r : Result (Unit {0}) Stop). Moves IsInOrder (IsBefore life l j) (EndsIn life l r) t.out new.out) (sym wants.0)
@@ -130,7 +130,7 @@ module _ (life : Life) (l j : ℕ) (course : Course directory.Unit NodeStop (Liv
         (quiet_so_far life l j t.out mid.out (lit_begins life.cut j f lit) (quiet _ t.out mid.out goes.0)) (wanted (IsWithin life l j false) mid new wants.1))
     steps_in_order (Some f) lit t new how next after (inr (inr (end, mid, goes, inr so))) =
         moves_then IsInOrder (IsBefore life l j) (IsBehind life l j) (EndsIn life l how) t.out (mid.out ++ entry.Step j ∷ []) new.out
-        (quiet_step life l j t.out mid.out (mid.out ++ entry.Step j ∷ []) later (lit_begins life.cut j f lit) (quiet _ t.out mid.out goes.0) refl) (after end (by_lines.says mid (entry.Step j)) so)
+        (quiet_step life l j t.out mid.out (mid.out ++ entry.Step j ∷ []) later (lit_begins life.cut j f lit) (quiet _ t.out mid.out goes.0) refl) (after end (by_entries.says mid (entry.Step j)) so)
 
 -- a step says quiet lines alone
 said_none : {S : Type 0} (st : S) (ended : Ended NodeStop S) (out now : List Entry) → Said (on_devices {Dir = directory.Unit} {F = NodeStop} (Goes st)) ended out now → AddsQuiet out now
@@ -172,7 +172,7 @@ step_is_quiet g j other st ended out now said = said_none st ended out now said
 -- EVENTS, those from number i on
 
 pub takes_in_order : (g : Lived) (i : ℕ) (events : List Event) (st : Live directory.Unit) (t new : Trace) (how : Result (Unit {0}) Stop) → i ≤ length g.life.events → events ≡ drop i g.life.events
-    → TakesAll by_lines g (i + 1) events st t how new → Moves IsInOrder (IsBehind g.life g.number i) (EndsIn g.life g.number how) t.out new.out
+    → TakesAll by_entries g (i + 1) events st t how new → Moves IsInOrder (IsBehind g.life g.number i) (EndsIn g.life g.number how) t.out new.out
 takes_in_order g i [] st t new how within rest its =
     subst (λ (r : Result (Unit {0}) Stop). Moves IsInOrder (IsBehind g.life g.number i) (EndsIn g.life g.number r) t.out new.out) (sym its.0)
     (moves_none IsInOrder (IsBehind g.life g.number i) (IsBetween (g.number + 1)) t.out new.out (ap (λ (x : Trace). x.out) its.1) (λ s p at. at.last all))
@@ -183,7 +183,7 @@ takes_in_order g i (its ∷ events) st t new how within rest takes =
     moves_then IsInOrder (IsBehind g.life g.number i) (IsBefore g.life g.number (i + 1)) (EndsIn g.life g.number how) t.out t.out new.out
     (moves_none IsInOrder (IsBehind g.life g.number i) (IsBefore g.life g.number (i + 1)) t.out t.out refl (λ s p at. at.next below))
     (steps_in_order g.life g.number (i + 1) (step_of g (i + 1) its st) (omega arith) (step_is_quiet g (i + 1) its st) (fuse_for g.life.cut (i + 1)) refl t new how
-    (λ end mid. TakesAll by_lines g (i + 1 + 1) events end mid how new)
+    (λ end mid. TakesAll by_entries g (i + 1 + 1) events end mid how new)
     (λ end mid so. takes_in_order g (i + 1) events end mid new how (omega (arith, below)) (subst (λ (k : ℕ). events ≡ drop k g.life.events) (sym (add-one i)) (rest_at g.life.events i its events rest)) so) takes)
   where
     below : i < length g.life.events
@@ -219,7 +219,7 @@ module _ (g : Lived) where
 
   opening_in_order : (fuse : Option Burn) → fuse_for g.life.cut 0 ≡ fuse → (t new : Trace) (how : Result (Unit {0}) Stop) (next : Live directory.Unit → Trace → Type 0)
       → ((end : Live directory.Unit) (mid : Trace) → next end mid → Moves IsInOrder (IsBehind g.life g.number 0) (EndsIn g.life g.number how) mid.out new.out)
-      → Steps by_lines (entry.Step 0) fuse (node_opening (at_step g 0)) t how new next → Moves IsInOrder (IsBefore g.life g.number 0) (EndsIn g.life g.number how) t.out new.out
+      → Steps by_entries (entry.Step 0) fuse (node_opening (at_step g 0)) t how new next → Moves IsInOrder (IsBefore g.life g.number 0) (EndsIn g.life g.number how) t.out new.out
   opening_in_order None none t new how next after its = subst (λ (r : Result (Unit {0}) Stop). Moves IsInOrder (IsBefore g.life g.number 0) (EndsIn g.life g.number r) t.out new.out) (sym its.0)
       (stops_before g.life g.number 0 Cut t.out new.out (ap (λ (x : Trace). x.out) its.1) (refl, unlit g.life.cut 0 none))
   opening_in_order (Some f) lit t new how next after (inl wants) = subst (λ (r : Result (Unit {0}) Stop). Moves IsInOrder (IsBefore g.life g.number 0) (EndsIn g.life g.number r) t.out new.out) (sym wants.0)
@@ -236,11 +236,11 @@ module _ (g : Lived) where
   opening_in_order (Some f) lit t new how next after (inr (inr (end, mid, goes, inr so))) =
       moves_then IsInOrder (IsBefore g.life g.number 0) (IsBehind g.life g.number 0) (EndsIn g.life g.number how) t.out (mid.out ++ entry.Step 0 ∷ []) new.out
       (opening_step g.life g.number t.out mid.out (mid.out ++ entry.Step 0 ∷ []) (lit_begins g.life.cut 0 f lit) (went_opened g.number t.out mid.out end (opened_in (went end) t.out mid.out goes.0)) refl)
-      (after end (by_lines.says mid (entry.Step 0)) so)
+      (after end (by_entries.says mid (entry.Step 0)) so)
 
   -- A LIFE
-  pub lives_in_order : (files : Files) (t new : Trace) (how : Result (Unit {0}) Stop) → LivesSo by_lines g files t how new → Moves IsInOrder (IsBefore g.life g.number 0) (EndsIn g.life g.number how) t.out new.out
-  lives_in_order files t new how (inl steps) = opening_in_order (fuse_for g.life.cut 0) refl t new how (λ end mid. TakesAll by_lines g 1 g.life.events end mid how new)
+  pub lives_in_order : (files : Files) (t new : Trace) (how : Result (Unit {0}) Stop) → LivesSo by_entries g files t how new → Moves IsInOrder (IsBefore g.life g.number 0) (EndsIn g.life g.number how) t.out new.out
+  lives_in_order files t new how (inl steps) = opening_in_order (fuse_for g.life.cut 0) refl t new how (λ end mid. TakesAll by_entries g 1 g.life.events end mid how new)
       (λ end mid so. takes_in_order g 0 g.life.events end mid new how (omega arith) refl so) steps
   lives_in_order files t new how (inr refused) = absurd refused.1.2
 
@@ -251,7 +251,7 @@ abbrev pub RunEndsIn : Script → Result (Unit {0}) Fault → Setting → Progre
 RunEndsIn script result s p = RunEndsBy MayTell script result s p
 
 module _ (script : Script) where
-  life_in_order : (l : ℕ) (life : Life) (seen : Held → Seen) (files : Files) (t mid : Trace) (how : Result (Unit {0}) Stop) → LivesSo by_lines (lived script l life seen files) files t how mid
+  life_in_order : (l : ℕ) (life : Life) (seen : Held → Seen) (files : Files) (t mid : Trace) (how : Result (Unit {0}) Stop) → LivesSo by_entries (lived script l life seen files) files t how mid
       → Moves IsInOrder (IsBefore life l 0) (EndsBy MayTell life l how) t.out mid.out
   life_in_order l life seen files t mid how so = moves_within IsInOrder (IsBefore life l 0) (IsBefore life l 0) (EndsIn life l how) (EndsBy MayTell life l how) t.out mid.out (λ s p at. at) (by_end how)
       (lives_in_order (lived script l life seen files) files t mid how so)
@@ -262,7 +262,7 @@ module _ (script : Script) where
       by_end (Err (FaultOf its)) s p at = at
       by_end (Err Failed) s p at = at
 
-  pub all_in_order : (first : Files → Type 0) (t new : Trace) (result : Result (Unit {0}) Fault) → RunsAllSo by_lines script first t result new
+  pub all_in_order : (first : Files → Type 0) (t new : Trace) (result : Result (Unit {0}) Fault) → RunsAllSo by_entries script first t result new
       → Moves IsInOrder (IsBetweenOf script 0) (RunEndsIn script result) t.out new.out
   all_in_order first t new result runs = all_move IsInOrder MayTell (λ s p. inl refl) moves_cut script (λ l life seen files at reads. life_in_order l life seen files)
       (λ its refused s p is. inr (inl (none_ended p.cuts is.between.lives, is.between.step, is.between.nothing))) first t new result runs
@@ -273,7 +273,7 @@ module _ (script : Script) where
 
 -- THE CLAUSES of order
 
-pub tells_fault : (its answered : Fault) (mid new : Trace) → TellsEnd by_lines (Err its) (Err answered) mid new → TellsFault its answered mid.out new.out
+pub tells_fault : (its answered : Fault) (mid new : Trace) → TellsEnd by_entries (Err its) (Err answered) mid new → TellsFault its answered mid.out new.out
 tells_fault its answered mid new (inl wants) = inl (the_fault wants.0, ap (λ (x : Trace). x.out) wants.1)
   where
     the_fault : {a b : Fault} → ◌≡◌ {A = Result (Unit {0}) Fault} (Err a) (Err b) → a ≡ b
@@ -283,28 +283,28 @@ tells_fault its answered mid new (inr told) = inr (the_fault told.0, told.1, ap 
     the_fault : {a b : Fault} → ◌≡◌ {A = Result (Unit {0}) Fault} (Err a) (Err b) → a ≡ b
     the_fault e = cc
 
-pub run_in_order : (script : Script) (first : Files → Type 0) (t new : Trace) (answered : Result (Unit {0}) Fault) → RunsSo by_lines script first t answered new → Adds t.out new.out (RunsInOrder script)
+pub run_in_order : (script : Script) (first : Files → Type 0) (t new : Trace) (answered : Result (Unit {0}) Fault) → RunsSo by_entries script first t answered new → Adds t.out new.out (RunsInOrder script)
 run_in_order script first t new answered run = by_result run.result (all_in_order script first t run.mid run.result run.lives) run.told
   where
-    not_ok : (its : Fault) → TellsEnd by_lines (Err its) (Ok tt) run.mid new → ⊥
+    not_ok : (its : Fault) → TellsEnd by_entries (Err its) (Ok tt) run.mid new → ⊥
     not_ok its (inl wants) = let wrong : ◌≡◌ {A = Result (Unit {0}) Fault} (Ok tt) (Err NoMemory) = wants.0 in cc
     not_ok its (inr told) = let wrong : ◌≡◌ {A = Result (Unit {0}) Fault} (Ok tt) (Err its) = told.0 in cc
 
-    faulted : (its : Fault) → Moves IsInOrder (IsBetweenOf script 0) (MayTell its) t.out run.mid.out → (answered : Result (Unit {0}) Fault) → TellsEnd by_lines (Err its) answered run.mid new
+    faulted : (its : Fault) → Moves IsInOrder (IsBetweenOf script 0) (MayTell its) t.out run.mid.out → (answered : Result (Unit {0}) Fault) → TellsEnd by_entries (Err its) answered run.mid new
         → Adds t.out new.out (RunsInOrder script)
     faulted its moves (Ok done) told = absurd (not_ok its told)
     faulted its moves (Err answered) told = told_in_order script its answered t.out run.mid.out new.out moves (tells_fault its answered run.mid new told)
 
-    by_result : (result : Result (Unit {0}) Fault) → Moves IsInOrder (IsBetweenOf script 0) (RunEndsIn script result) t.out run.mid.out → TellsEnd by_lines result answered run.mid new
+    by_result : (result : Result (Unit {0}) Fault) → Moves IsInOrder (IsBetweenOf script 0) (RunEndsIn script result) t.out run.mid.out → TellsEnd by_entries result answered run.mid new
         → Adds t.out new.out (RunsInOrder script)
     by_result (Ok done) moves told = runs_in_order script (IsBetweenOf script (length script.lives)) t.out new.out
         (subst (λ (x : Trace). Moves IsInOrder (IsBetweenOf script 0) (IsBetweenOf script (length script.lives)) t.out x.out) (sym told.1) moves)
     by_result (Err its) moves told = faulted its moves answered told
 
-pub run_all_lives : (script : Script) (first : Files → Type 0) (t new : Trace) → RunsSo by_lines script first t (Ok tt) new → Adds t.out new.out (RunsAll script)
+pub run_all_lives : (script : Script) (first : Files → Type 0) (t new : Trace) → RunsSo by_entries script first t (Ok tt) new → Adds t.out new.out (RunsAll script)
 run_all_lives script first t new run = by_result run.result (all_in_order script first t run.mid run.result run.lives) run.told
   where
-    by_result : (result : Result (Unit {0}) Fault) → Moves IsInOrder (IsBetweenOf script 0) (RunEndsIn script result) t.out run.mid.out → TellsEnd by_lines result (Ok tt) run.mid new
+    by_result : (result : Result (Unit {0}) Fault) → Moves IsInOrder (IsBetweenOf script 0) (RunEndsIn script result) t.out run.mid.out → TellsEnd by_entries result (Ok tt) run.mid new
         → Adds t.out new.out (RunsAll script)
     by_result (Ok done) moves told = runs_all script t.out new.out
         (subst (λ (x : Trace). Moves IsInOrder (IsBetweenOf script 0) (IsBetweenOf script (length script.lives)) t.out x.out) (sym told.1) moves)

@@ -9,7 +9,7 @@ use Rattle.dkg_core.specs.Behind.{OnlySays}
 use Rattle.dkg_core.specs.Courses.{Ask, CallOutside, Course, Do, EndsSo, Goes, Say, Stops, bind, deeds_of, under}
 use Rattle.dkg_core.specs.Forms.{ComesOver}
 use Rattle.dkg_core.specs.SayingThrough.{SaysSo}
-use Rattle.dkg_core.specs.Transcripts.{AddsDeeds, deed_lines}
+use Rattle.dkg_core.specs.Transcripts.{AddsDeeds, deed_entries}
 use Rattle.dkg_core.proofs.Lines.{runs_add_deeds}
 use Rattle.dkg_along.proofs.Used.{all_front}
 
@@ -79,7 +79,7 @@ over_under P name (Stops fault) h so = tt
 
 -- A RUN of it adds such lines, wherever it ends.
 
-deeds_say : {Dir F S : Type 0} (P : Entry → Type 0) (course : Course Dir F S) (h : Held) → SaysOver P course h → AllByRecursion P (deed_lines (deeds_of course h))
+deeds_say : {Dir F S : Type 0} (P : Entry → Type 0) (course : Course Dir F S) (h : Held) → SaysOver P course h → AllByRecursion P (deed_entries (deeds_of course h))
 deeds_say P (Say line course) h so = (so.0, deeds_say P course h so.1)
 deeds_say P (Do op course) h so = deeds_say P course (held_after op h) so
 deeds_say P (CallOutside outer course) h so = deeds_say P course h so

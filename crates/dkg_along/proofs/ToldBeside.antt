@@ -22,7 +22,7 @@ use Rattle.dkg_lives.specs.Ways.{StaysHeld, by_worlds}
 use Rattle.dkg_lives.proofs.Awaiting.{IsReached}
 use Rattle.dkg_along.proofs.KeptSteps.{IsAtStep}
 use Rattle.dkg_along.proofs.LifeSteps.{IsLifeOfSetting}
-use Rattle.dkg_along.proofs.LineLives.{After, CutThen, EachTold, KnownAfter, LeadsOn, Left, Told, come}
+use Rattle.dkg_along.proofs.EntryLives.{After, CutThen, EachTold, KnownAfter, LeadsOn, Left, Told, come}
 use Rattle.dkg_along.proofs.LivesKept.{IsBetween}
 
 abbrev U : Type 0

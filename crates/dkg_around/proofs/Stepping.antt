@@ -22,7 +22,7 @@ use Rattle.dkg_text.specs.declared.script.Event.{Event}
 use Rattle.dkg_lives.specs.Ended.{by_node_stop}
 use Rattle.dkg_lives.specs.Given.{Lived, step_of}
 use Rattle.dkg_lives.specs.Lives.{Steps, TakesAll, fuse_for}
-use Rattle.dkg_lives.specs.Ways.{Way, by_lines, by_worlds, trace}
+use Rattle.dkg_lives.specs.Ways.{Way, by_entries, by_worlds, trace}
 
 -- it was answered Ok
 abbrev pub IsDone : Result (Unit {0}) Stop → Type 0
@@ -147,7 +147,7 @@ uncut Failed is = absurd (let wrong : ◌≡◌ {A = Ended NodeStop (Live direct
 uncut (FaultOf its) is = absurd (fault_uncut its is)
 
 pub lines_go : (course : Course directory.Unit NodeStop (Live directory.Unit)) (ended : Ended NodeStop (Live directory.Unit)) (f : Burn) (out now : List Entry) (picks : List ℕ) → Tells course ended out now
-    → (ended ≡ broken by_cut → 0 < f.call) → by_lines.goes course ended f (trace out picks) (trace now picks)
+    → (ended ≡ broken by_cut → 0 < f.call) → by_entries.goes course ended f (trace out picks) (trace now picks)
 lines_go course ended f out now picks told cut = (told, refl, cut)
 
 -- OVER WORLDS

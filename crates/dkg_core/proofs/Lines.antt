@@ -6,7 +6,7 @@ use Rattle.dkg_store.specs.Acts.{Held, World, says, does, Completes, Faults, Bre
 use Rattle.dkg_core.specs.Courses.{Course, Say, Do, CallOutside, Ask, Goes, Stops, on_devices, Deed, SaidEntry, DidOperation, CalledOutside, deeds_of}
 use Rattle.dkg_core.specs.Said.{SaysAll, SaysUpTo, SaysFirst, SaysBy}
 use Rattle.dkg_core.specs.Laws.{Law, Holds}
-use Rattle.dkg_core.specs.Transcripts.{deed_lines, IsOwnEnd, AddsDeeds, RunsAddDeeds, Obeys, deeds_behind, IfWentTo, LinesObey}
+use Rattle.dkg_core.specs.Transcripts.{deed_entries, IsOwnEnd, AddsDeeds, RunsAddDeeds, Obeys, deeds_behind, IfWentTo, LinesObey}
 
 -- THE LINES OF DEEDS
 
@@ -22,11 +22,11 @@ module _ {Dir F S : Type 0} where
   }
 
   -- nothing was said
-  none_said : (course : Course Dir F S) (ended : Ended F S) (w new : World) (rest : List Entry) → new.out ≡ w.out → deed_lines (deeds_of course w.held) ≡ rest → IsOwnEnd course ended w.held new.held rest → AddsDeeds course ended w new
+  none_said : (course : Course Dir F S) (ended : Ended F S) (w new : World) (rest : List Entry) → new.out ≡ w.out → deed_entries (deeds_of course w.held) ≡ rest → IsOwnEnd course ended w.held new.held rest → AddsDeeds course ended w new
   none_said course ended w new rest same are own = record { added = []; rest = rest; out = same ∙ sym (append-nil w.out); of_deeds = are; own_end = own }
 
   -- .. by what is no line
-  as_said : (course next : Course Dir F S) (ended : Ended F S) (w mid new : World) → mid.out ≡ w.out → deed_lines (deeds_of course w.held) ≡ deed_lines (deeds_of next mid.held)
+  as_said : (course next : Course Dir F S) (ended : Ended F S) (w mid new : World) → mid.out ≡ w.out → deed_entries (deeds_of course w.held) ≡ deed_entries (deeds_of next mid.held)
       → ((rest : List Entry) → IsOwnEnd next ended mid.held new.held rest → IsOwnEnd course ended w.held new.held rest) → AddsDeeds next ended mid new → AddsDeeds course ended w new
   as_said course next ended w mid new same are so adds = record {
     added = adds.added;
@@ -76,7 +76,7 @@ runs_add_deeds course (broken cause) w new run = breaks cause course w new run
 
 module _ {Dir F S : Type 0} (law : Law Dir S) where
   abbrev Way : (past : List (Deed Dir)) → Ended F S → List Entry → Type 0
-  Way past ended lines = (deeds : List (Deed Dir)) × Obeys law past deeds × (lines ≡ deed_lines deeds) × IfWentTo ended (law.end (deeds_behind past deeds))
+  Way past ended lines = (deeds : List (Deed Dir)) × Obeys law past deeds × (lines ≡ deed_entries deeds) × IfWentTo ended (law.end (deeds_behind past deeds))
 
   all : (past : List (Deed Dir)) (course : Course Dir F S) (end : S) (lines : List Entry) → Holds law past course → SaysAll (on_devices course) end lines → Way past (went end) lines
   all past (Say line course) end lines h a = let more = all (SaidEntry line ∷ past) course end a.0 h.1 a.2 in (SaidEntry line ∷ more.0, (h.0, more.1), a.1 ∙ ap (λ (ls : List Entry). line ∷ ls) more.2, more.3)
@@ -117,7 +117,7 @@ lines_obey law past course ended old new holds said =
 
 -- what a law has of each line, the lines have
 pub all_lines : {Dir S : Type 0} (law : Law Dir S) (P : Entry → Type 0) → ((past : List (Deed Dir)) (line : Entry) → law.line past line → P line) → (past deeds : List (Deed Dir)) → Obeys law past deeds
-    → AllByRecursion P (deed_lines deeds)
+    → AllByRecursion P (deed_entries deeds)
 all_lines law P so past [] obeys = tt
 all_lines law P so past (SaidEntry line ∷ deeds) obeys = (so past line obeys.0, all_lines law P so (SaidEntry line ∷ past) deeds obeys.1)
 all_lines law P so past (DidOperation op ∷ deeds) obeys = all_lines law P so (DidOperation op ∷ past) deeds obeys.1

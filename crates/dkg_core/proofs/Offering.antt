@@ -10,20 +10,20 @@ use Rattle.dkg_core.specs.Said.{Said}
 use Rattle.dkg_core.specs.Fixed.{Fixed}
 use Rattle.dkg_core.specs.Live.{Live, Message, Mailed, Peer, Finalized, NextLog, ReleaseLog, EpochInfoOf, Feed, Over, Cancel, Work}
 use Rattle.dkg_core.specs.Core.{step}
-use Rattle.dkg_core.specs.Laws.{Law, Holds, PeerLine, peer_law, OtherLine, OfHalves, IsDealtToItself, IsOffered, other_law, reach_of}
+use Rattle.dkg_core.specs.Laws.{Law, Holds, PeerEntry, peer_law, OtherEntry, OfHalves, IsDealtToItself, IsOffered, other_law, reach_of}
 use Rattle.dkg_core.specs.Behind.{IsAside}
-use Rattle.dkg_core.specs.Transcripts.{deed_lines}
+use Rattle.dkg_core.specs.Transcripts.{deed_entries}
 use Rattle.dkg_core.specs.Offering.{IsOfferOf, OffersAreDealt, NodeOffersAreDealt}
 use Rattle.dkg_core.proofs.Behind.{steps_say_behind}
 use Rattle.dkg_core.proofs.Hearing.{heard}
 use Rattle.dkg_core.proofs.Lines.{lines_obey, all_lines}
 use Rattle.dkg_core.proofs.Others.{others_acknowledge_nothing}
 
-peer_offers : {Dir : Type 0} (c : Fixed Dir) (st : Live Dir) (from : ℕ) (past : List (Deed Dir)) (line : Entry) → PeerLine c st from past line → IsOfferOf c st line
+peer_offers : {Dir : Type 0} (c : Fixed Dir) (st : Live Dir) (from : ℕ) (past : List (Deed Dir)) (line : Entry) → PeerEntry c st from past line → IsOfferOf c st line
 peer_offers c st from past (Offer epoch player public private) h = absurd h
 peer_offers c st from past line h = tt
 
-other_offers : {Dir : Type 0} (c : Fixed Dir) (own : OfHalves) (st : Live Dir) (past : List (Deed Dir)) (line : Entry) → OtherLine c own (IsOffered c st) past line → IsOfferOf c st line
+other_offers : {Dir : Type 0} (c : Fixed Dir) (own : OfHalves) (st : Live Dir) (past : List (Deed Dir)) (line : Entry) → OtherEntry c own (IsOffered c st) past line → IsOfferOf c st line
 other_offers c own st past (Offer epoch player public private) h = h
 other_offers c own st past line h = tt
 
@@ -39,7 +39,7 @@ module _ {Dir : Type 0} (c : Fixed Dir) (st : Live Dir) (ended : Ended Fault (Li
       → Said (on_devices (step c message st)) ended old new → AddsDealt
   of_law law message so holds said =
       let front = lines_obey law [] (step c message st) ended old new holds said in
-      (deed_lines front.deeds, front.added, all_lines law (IsOfferOf c st) so [] front.deeds front.obeys)
+      (deed_entries front.deeds, front.added, all_lines law (IsOfferOf c st) so [] front.deeds front.obeys)
 
   of_other : (message : Message Dir) → Holds (other_law c (IsDealtToItself c st) (IsOffered c st) (reach_of c message)) [] (step c message st) → Said (on_devices (step c message st)) ended old new → AddsDealt
   of_other message holds said = of_law (other_law c (IsDealtToItself c st) (IsOffered c st) (reach_of c message)) message (other_offers c (IsDealtToItself c st) st) holds said

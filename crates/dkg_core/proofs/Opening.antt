@@ -30,7 +30,7 @@ use Rattle.dkg_core.specs.Plans as p
 use Rattle.dkg_core.specs.OneShots as o
 use Rattle.dkg_core.specs.Blocks.{ends_once}
 use Rattle.dkg_core.specs.Core.{opens_in, begun_life}
-use Rattle.dkg_core.specs.Laws.{Law, Holds, IsSilent, PrunesAtMost, prune_law, OpeningLine, OpeningOperation, opening_law, start_of, StartsWithin, OpeningsPrune}
+use Rattle.dkg_core.specs.Laws.{Law, Holds, IsSilent, PrunesAtMost, prune_law, OpeningEntry, OpeningOperation, opening_law, start_of, StartsWithin, OpeningsPrune}
 use Rattle.dkg_core.specs.Heard.{OpeningsRestore}
 use Rattle.dkg_core.proofs.Holding.{holds_as, holds_if}
 use Rattle.dkg_core.proofs.Pruning.{setups_prune, draws_up}
@@ -56,7 +56,7 @@ further most past (OnDisk (Appends e)) h = absurd h
 further most past (OnDisk (Prunes min)) h = omega arith
 further most past (Changes op) h = lower 0 most (omega arith) past (Changes op) h
 
-silent_in : {Dir : Type 0} (c : Fixed Dir) (past : List (Deed Dir)) (line : Entry) → IsSilent past line → OpeningLine c past line
+silent_in : {Dir : Type 0} (c : Fixed Dir) (past : List (Deed Dir)) (line : Entry) → IsSilent past line → OpeningEntry c past line
 silent_in c past (Opened life restored) h = absurd h
 silent_in c past line h = h
 

@@ -38,7 +38,7 @@ use Rattle.dkg_core.specs.Setup as s
 use Rattle.dkg_core.specs.Dealing as d
 use Rattle.dkg_core.specs.Including as i
 use Rattle.dkg_core.specs.Blocks as b
-use Rattle.dkg_core.specs.Laws.{Law, Holds, IsSilent, PrunesAtMost, prune_law, OtherLine, OtherOperation, OfHalves, OfOffers, IsAmong, IsDealtToItself, IsOffered, other_law, OthersAcknowledgeNothing}
+use Rattle.dkg_core.specs.Laws.{Law, Holds, IsSilent, PrunesAtMost, prune_law, OtherEntry, OtherOperation, OfHalves, OfOffers, IsAmong, IsDealtToItself, IsOffered, other_law, OthersAcknowledgeNothing}
 use Rattle.dkg_core.proofs.Holding.{holds_as, holds_bind, holds_if, holds_option}
 use Rattle.dkg_core.proofs.Pruning.{setups_prune}
 use Rattle.dkg_core.proofs.Unsent.{all_as, found_among, IsUnsent, are_unsent}
@@ -239,7 +239,7 @@ module _ {Dir : Type 0} (c : Fixed Dir) (own : OfHalves) (offered : OfOffers) (m
 
 -- SETUP
 
-quiet : {Dir : Type 0} (c : Fixed Dir) (own : OfHalves) (offered : OfOffers) (past : List (Deed Dir)) (line : Entry) → IsSilent past line → OtherLine c own offered past line
+quiet : {Dir : Type 0} (c : Fixed Dir) (own : OfHalves) (offered : OfOffers) (past : List (Deed Dir)) (line : Entry) → IsSilent past line → OtherEntry c own offered past line
 quiet c own offered past (lines.Recorded epoch dealer public private) h = absurd h
 quiet c own offered past (lines.Ack epoch dealer ack) h = absurd h
 quiet c own offered past (lines.Offer epoch player public private) h = absurd h
@@ -266,7 +266,7 @@ module _ {Dir : Type 0} (c : Fixed Dir) (own : OfHalves) (offered : OfOffers) (b
 
   -- .. at the end of which the tip is the block
   abbrev at_block : Law Dir (Live Dir)
-  at_block = record { line = OtherLine c own offered; operation = OtherOperation c own reach; end = λ past st. awaited_height st ≡ block.height + 1 }
+  at_block = record { line = OtherEntry c own offered; operation = OtherOperation c own reach; end = λ past st. awaited_height st ≡ block.height + 1 }
 
   sets_up : (past : List (Deed Dir)) (st : Live Dir) → awaited_height st ≡ block.height + 1 → Holds of_block past (s.setup c None st)
   sets_up past st is =

@@ -54,7 +54,7 @@ use Rattle.dkg_core.specs.Forms.{IsForm, Applied, judged_block, ComesOver, round
 use Rattle.dkg_core.specs.Stepping.{IsDealingStop, given_itself, next_epoch}
 use Rattle.dkg_core.specs.Asked.{OfShares, ReadsShare, IsArtifactIn, IsResultIn, IsJobIn, HasAsked, IsInformed, IsAskStop, IsMadeIn}
 use Rattle.dkg_core.specs.Through.{IsFormThrough, IsLiveThrough, IsTakenThrough, IsShareTaken, cancelled, verification_ended, included as included_life, observed, waits_for}
-use Rattle.dkg_core.specs.SayingThrough.{SaysSo, payload_by, IsAskedAnswer, IsReadAnswer, IsUnasked, IsMailLine, IsFinalAnswer, IsBlockAnswer, IsBlockLineThrough, StepsSayThrough}
+use Rattle.dkg_core.specs.SayingThrough.{SaysSo, payload_by, IsAskedAnswer, IsReadAnswer, IsUnasked, IsMailEntry, IsFinalAnswer, IsBlockAnswer, IsBlockLineThrough, StepsSayThrough}
 use Rattle.dkg_core.proofs.Advancing as adv
 use Rattle.dkg_core.proofs.Advancing.{included, none_found, of_round, read_again, requeued, retained_is, some_of}
 use Rattle.dkg_core.proofs.Applied.{includes_above, judged_is}
@@ -553,26 +553,26 @@ module _ {Dir : Type 0} (c : Fixed Dir) (form : IsFormThrough c) (stored : OfSha
   has_now : HasAsked c stored st
   has_now = live.asked.has
 
-  gives : (number height : ℕ) (found : Option SignedDealerLog) → SaysSo (IsMailLine c st (NextLog number height)) (i.gives_log c number height found (with_used number st))
+  gives : (number height : ℕ) (found : Option SignedDealerLog) → SaysSo (IsMailEntry c st (NextLog number height)) (i.gives_log c number height found (with_used number st))
   gives number height None = ((None, refl), tt)
   gives number height (Some log) = ((Some (payload_bytes c (log_payload log)), refl), tt)
 
-  asks_so : (number : ℕ) (stage : Stage) → st.participation.stage ≡ stage → SaysSo (IsMailLine c st (EpochInfoOf number)) (i.asks_in c number (with_used number st) stage)
+  asks_so : (number : ℕ) (stage : Stage) → st.participation.stage ≡ stage → SaysSo (IsMailEntry c st (EpochInfoOf number)) (i.asks_in c number (with_used number st) stage)
   asks_so number Deals is = tt
   asks_so number Includes is =
       let now : Live Dir = i.queued number (with_used number st) in
       reads_so c form.form stored reads now live.informed
       (requeued c stored st st.inclusion now.inclusion.queue now.inclusion.used now.inclusion.told has_now (λ follows. absurd (let no : ◌≡◌ {A = Stage} Follows Includes = sym follows ∙ is in cc)))
-      (IsMailLine c st (EpochInfoOf number)) (λ line its. inl its)
+      (IsMailEntry c st (EpochInfoOf number)) (λ line its. inl its)
   asks_so number Follows is = (inr (is, refl), tt)
   asks_so number Ends is = absurd (not_ended c st live.stands is)
 
-  changes : (its : Mail Dir) (number : ℕ) (f : Request Dir → Request Dir) → ((line : Entry) → IsReadAnswer c (i.changed number f st) line → IsMailLine c st its line)
-      → SaysSo (IsMailLine c st its) (i.advanced c (i.changed number f st))
+  changes : (its : Mail Dir) (number : ℕ) (f : Request Dir → Request Dir) → ((line : Entry) → IsReadAnswer c (i.changed number f st) line → IsMailEntry c st its line)
+      → SaysSo (IsMailEntry c st its) (i.advanced c (i.changed number f st))
   changes its number f so =
       let g : Request Dir → Request Dir = λ r. if r.number == number then f r else r in
       reads_so c form.form stored reads (i.changed number f st) live.informed
-      (requeued c stored st st.inclusion (map g st.inclusion.queue) st.inclusion.used st.inclusion.told has_now (λ follows. ap (λ (q : List (Request Dir)). map g q) (has_now.none follows))) (IsMailLine c st its) so
+      (requeued c stored st st.inclusion (map g st.inclusion.queue) st.inclusion.used st.inclusion.told has_now (λ follows. ap (λ (q : List (Request Dir)). map g q) (has_now.none follows))) (IsMailEntry c st its) so
 
   cancels : (number : ℕ) → SaysSo (λ line. IsReadAnswer c (cancelled number st) line) (i.cancels c number st)
   cancels number = either (waits_for number st)
@@ -606,18 +606,18 @@ module _ {Dir : Type 0} (c : Fixed Dir) (form : IsFormThrough c) (stored : OfSha
       (read.0, read.1, (r, subst (IsAmong r) queue_is read.2.1, read.2.2, read_again c read.0 st (verification_ended st).inclusion r ∙ sym (read_again c read.0 st its r) ∙ read.2.3))
   as_finished its queue_is line read = absurd read
 
-  works : (handed : Option VerifiedLogs) → IsHanded c handed st → SaysSo (IsMailLine c st (Work handed)) (i.works c handed st)
+  works : (handed : Option VerifiedLogs) → IsHanded c handed st → SaysSo (IsMailEntry c st (Work handed)) (i.works c handed st)
   works handed taken =
-      so_if (IsMailLine c st (Work handed)) (is_some st.inclusion.running) (bind (i.ends_verifying c handed st) (λ now. i.advanced c now)) (Goes st)
-      (λ e. so_known (IsMailLine c st (Work handed)) (IsAskStop c st) (λ end left. (left ≡ None) × IsEndedIn c stored st end) (i.ends_verifying c handed st) (λ now. i.advanced c now)
-      (ends_so c form stored reads st live (IsMailLine c st (Work handed)) (λ round info job number records_of_epoch of_info runs waits. inl (round, info, records_of_epoch, of_info, (job, runs, waits, refl))) handed taken)
+      so_if (IsMailEntry c st (Work handed)) (is_some st.inclusion.running) (bind (i.ends_verifying c handed st) (λ now. i.advanced c now)) (Goes st)
+      (λ e. so_known (IsMailEntry c st (Work handed)) (IsAskStop c st) (λ end left. (left ≡ None) × IsEndedIn c stored st end) (i.ends_verifying c handed st) (λ now. i.advanced c now)
+      (ends_so c form stored reads st live (IsMailEntry c st (Work handed)) (λ round info job number records_of_epoch of_info runs waits. inl (round, info, records_of_epoch, of_info, (job, runs, waits, refl))) handed taken)
       (verifying_ends c stored st None form.form form.finishing reads live.informed has_now handed taken)
-      (λ end its. subst (λ (x : Live Dir). SaysSo (IsMailLine c st (Work handed)) (i.advanced c x)) (sym its.1.same)
-      (reads_so c form.form stored reads (with_inclusion end.inclusion st) live.informed (subst (HasAsked c stored) its.1.same its.1.has) (IsMailLine c st (Work handed))
+      (λ end its. subst (λ (x : Live Dir). SaysSo (IsMailEntry c st (Work handed)) (i.advanced c x)) (sym its.1.same)
+      (reads_so c form.form stored reads (with_inclusion end.inclusion st) live.informed (subst (HasAsked c stored) its.1.same its.1.has) (IsMailEntry c st (Work handed))
       (λ line read. inr (as_finished end.inclusion its.1.queue line read))))) (λ e. tt)
 
-  pub mail_so : (its : Mail Dir) → IsTakenThrough c (Mailed its) st → SaysSo (IsMailLine c st its) (step c (Mailed its) st)
-  mail_so (Peer from bytes) taken = hears_so c (IsMailLine c st (Peer from bytes)) (λ line is. is) from bytes st st.participation.stage
+  pub mail_so : (its : Mail Dir) → IsTakenThrough c (Mailed its) st → SaysSo (IsMailEntry c st its) (step c (Mailed its) st)
+  mail_so (Peer from bytes) taken = hears_so c (IsMailEntry c st (Peer from bytes)) (λ line is. is) from bytes st st.participation.stage
   mail_so (NextLog number height) taken = gives number height (i.served_now (with_used number st))
   mail_so (ReleaseLog height) taken = tt
   mail_so (EpochInfoOf number) taken = asks_so number st.participation.stage refl
@@ -741,4 +741,4 @@ pub steps_say_through : {Dir : Type 0} → StepsSayThrough Dir
 steps_say_through c stored st (Finalized block) ended old new form reads taken live said =
     said_so (IsBlockLineThrough c stored st block) (step c (Finalized block) st) ended old new (block_so c form stored reads st live block) said
 steps_say_through c stored st (Mailed mail) ended old new form reads taken live said =
-    said_so (IsMailLine c st mail) (step c (Mailed mail) st) ended old new (mail_so c form stored reads st live mail taken) said
+    said_so (IsMailEntry c st mail) (step c (Mailed mail) st) ended old new (mail_so c form stored reads st live mail taken) said

@@ -30,22 +30,22 @@ pub record IsEnterable {Dir : Type 0} (st : Live Dir) (past : List (Deed Dir)) (
   pub registered : lookup epoch st.orchestrator.schemes ≡ Some scheme
   pub started : IsEngineStarted epoch scheme past
 
-abbrev pub EntryLine : {Dir : Type 0} → Live Dir → List (Deed Dir) → Entry → Type 0
-EntryLine st past (Entered epoch) = IsEnterable st past epoch
-EntryLine st past line = Unit {0}
+abbrev pub EnteringEntry : {Dir : Type 0} → Live Dir → List (Deed Dir) → Entry → Type 0
+EnteringEntry st past (Entered epoch) = IsEnterable st past epoch
+EnteringEntry st past line = Unit {0}
 
 -- An enterable epoch alone is entered, no device is touched, and a half that acknowledges has entered this epoch.
-abbrev pub entry_law : {Dir : Type 0} → Live Dir → (epoch : ℕ) → Law Dir (LifeAndAnswer Dir)
-entry_law st epoch = record {
-  line = EntryLine st;
+abbrev pub entering_law : {Dir : Type 0} → Live Dir → (epoch : ℕ) → Law Dir (LifeAndAnswer Dir)
+entering_law st epoch = record {
+  line = EnteringEntry st;
   operation = λ past op. ⊥;
   end = λ past half. half.answer ≡ AcknowledgesBlock → half.live.orchestrator.entered ≡ Some epoch;
 }
 
 abbrev pub EntersRegistered : Type 0 → Type 0
-EntersRegistered Dir = (c : Fixed Dir) (w : Waiting Dir) (st : Live Dir) (past : List (Deed Dir)) → Holds (entry_law st w.epoch) past (enters c w st)
+EntersRegistered Dir = (c : Fixed Dir) (w : Waiting Dir) (st : Live Dir) (past : List (Deed Dir)) → Holds (entering_law st w.epoch) past (enters c w st)
 
 -- The last block of the entered epoch is acknowledged once the next epoch was entered.
 abbrev pub LastBlocksAreEntered : Type 0 → Type 0
 LastBlocksAreEntered Dir = (c : Fixed Dir) (b : Block Dir) (st : Live Dir) (epoch : ℕ) (past : List (Deed Dir)) → active st.orchestrator ≡ Some epoch
-    → b.height ≡ last c.blocks_per_epoch epoch → Holds (entry_law st (epoch + 1)) past (takes_delivered c b st)
+    → b.height ≡ last c.blocks_per_epoch epoch → Holds (entering_law st (epoch + 1)) past (takes_delivered c b st)

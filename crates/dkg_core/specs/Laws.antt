@@ -93,12 +93,12 @@ OpeningOperation most past (OnDisk ClearsPlan) = Unit {0}
 OpeningOperation most past op = PrunesAtMost most past op
 
 -- the line with what was restored, as the first thing behind the barrier and the journal's opening
-abbrev pub OpeningLine : {Dir : Type 0} → Fixed Dir → List (Deed Dir) → Entry → Type 0
-OpeningLine c past (Opened life restored) = (life ≡ c.life) × (past ≡ DidOperation (OnDisk (Opens c.opening_calls)) ∷ DidOperation (OnDisk Bars) ∷ [])
-OpeningLine c past line = IsSilent past line
+abbrev pub OpeningEntry : {Dir : Type 0} → Fixed Dir → List (Deed Dir) → Entry → Type 0
+OpeningEntry c past (Opened life restored) = (life ≡ c.life) × (past ≡ DidOperation (OnDisk (Opens c.opening_calls)) ∷ DidOperation (OnDisk Bars) ∷ [])
+OpeningEntry c past line = IsSilent past line
 
 abbrev pub opening_law : {Dir : Type 0} → Fixed Dir → (most : ℕ) → Law Dir (Live Dir)
-opening_law c most = record { line = OpeningLine c; operation = OpeningOperation most; end = Anything }
+opening_law c most = record { line = OpeningEntry c; operation = OpeningOperation most; end = Anything }
 
 -- the height above the position that the source tells
 abbrev pub start_of : {Dir : Type 0} → Fixed Dir → ℕ
@@ -144,11 +144,11 @@ pub record IsAcknowledged {Dir : Type 0} (c : Fixed Dir) (st : Live Dir) (past :
   pub of : ((past ≡ []) × (recorded_at st.records.dealings epoch dealer ≡ Some pair)) ⊎ (IsAccepted c st epoch dealer pair.0 pair.1 × WasRecorded epoch dealer pair.0 pair.1 past)
 
 -- what a peer's message may say
-abbrev pub PeerLine : {Dir : Type 0} → Fixed Dir → Live Dir → (from : ℕ) → List (Deed Dir) → Entry → Type 0
-PeerLine c st from past (Recorded epoch dealer public private) = (dealer ≡ from) × IsAccepted c st epoch dealer public private × WasPut epoch dealer public private past
-PeerLine c st from past (Ack epoch dealer ack) = (dealer ≡ from) × IsAcknowledged c st past epoch dealer ack
-PeerLine c st from past (Offer epoch player public private) = ⊥
-PeerLine c st from past line = IsQuiet line
+abbrev pub PeerEntry : {Dir : Type 0} → Fixed Dir → Live Dir → (from : ℕ) → List (Deed Dir) → Entry → Type 0
+PeerEntry c st from past (Recorded epoch dealer public private) = (dealer ≡ from) × IsAccepted c st epoch dealer public private × WasPut epoch dealer public private past
+PeerEntry c st from past (Ack epoch dealer ack) = (dealer ≡ from) × IsAcknowledged c st past epoch dealer ack
+PeerEntry c st from past (Offer epoch player public private) = ⊥
+PeerEntry c st from past line = IsQuiet line
 
 -- .. and do: it prunes nothing, leaves the plan, and puts the private half of an accepted dealing alone, before anything else
 abbrev pub PeerOperation : {Dir : Type 0} → Fixed Dir → Live Dir → (from : ℕ) → List (Deed Dir) → Operation → Type 0
@@ -160,7 +160,7 @@ PeerOperation c st from past (OnDisk ClearsPlan) = ⊥
 PeerOperation c st from past op = Unit {0}
 
 abbrev pub peer_law : {Dir : Type 0} → Fixed Dir → Live Dir → (from : ℕ) → Law Dir (Live Dir)
-peer_law c st from = record { line = PeerLine c st from; operation = PeerOperation c st from; end = Anything }
+peer_law c st from = record { line = PeerEntry c st from; operation = PeerOperation c st from; end = Anything }
 
 -- A peer's message records a valid dealing of its sender under a new key alone, and acknowledges what is recorded by then alone.
 abbrev pub PeersAreHeard : Type 0 → Type 0
@@ -204,11 +204,11 @@ pub record IsOffered {Dir : Type 0} (c : Fixed Dir) (st : Live Dir) (epoch playe
   pub other : player ≡ c.me → ⊥
 
 -- No dealing is acknowledged, of dealings only this node's own is recorded, and such halves are offered.
-abbrev pub OtherLine : {Dir : Type 0} → Fixed Dir → OfHalves → OfOffers → List (Deed Dir) → Entry → Type 0
-OtherLine c own offered past (Recorded epoch dealer public private) = (dealer ≡ c.me) × own epoch public private
-OtherLine c own offered past (Ack epoch dealer ack) = ⊥
-OtherLine c own offered past (Offer epoch player public private) = offered epoch player public private
-OtherLine c own offered past line = IsQuiet line
+abbrev pub OtherEntry : {Dir : Type 0} → Fixed Dir → OfHalves → OfOffers → List (Deed Dir) → Entry → Type 0
+OtherEntry c own offered past (Recorded epoch dealer public private) = (dealer ≡ c.me) × own epoch public private
+OtherEntry c own offered past (Ack epoch dealer ack) = ⊥
+OtherEntry c own offered past (Offer epoch player public private) = offered epoch player public private
+OtherEntry c own offered past line = IsQuiet line
 
 abbrev pub OtherOperation : {Dir : Type 0} → Fixed Dir → OfHalves → (most : ℕ) → List (Deed Dir) → Operation → Type 0
 OtherOperation c own most past (OnDisk (Prunes min)) = min ≤ most
@@ -219,7 +219,7 @@ OtherOperation c own most past (Changes (PutDealing epoch dealer private)) = (de
 OtherOperation c own most past op = Unit {0}
 
 abbrev pub other_law : {Dir : Type 0} → Fixed Dir → OfHalves → OfOffers → (most : ℕ) → Law Dir (Live Dir)
-other_law c own offered most = record { line = OtherLine c own offered; operation = OtherOperation c own most; end = Anything }
+other_law c own offered most = record { line = OtherEntry c own offered; operation = OtherOperation c own most; end = Anything }
 
 -- the epoch below whose predecessor a message may prune: that of the height above a delivered block, and else none
 abbrev pub reach_of : {Dir : Type 0} → Fixed Dir → Message Dir → ℕ

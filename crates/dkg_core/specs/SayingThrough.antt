@@ -69,13 +69,13 @@ IsUnasked (Committed epoch share) = ⊥
 IsUnasked line = Unit {0}
 
 -- MAIL
-abbrev pub IsMailLine : {Dir : Type 0} → Fixed Dir → Live Dir → Mail Dir → Entry → Type 0
-IsMailLine c st (Peer from bytes) line = IsUnasked line
-IsMailLine c st (NextLog number height) line = (payload : Option (List ℕ)) × (line ≡ Log number payload)
-IsMailLine c st (ReleaseLog height) line = ⊥
-IsMailLine c st (EpochInfoOf number) line = IsReadAnswer c (asked_by (EpochInfoOf number) st) line ⊎ ((st.participation.stage ≡ Follows) × (line ≡ Answer number (Unavailable Following)))
-IsMailLine c st (Work handed) line = IsWaitedAnswer c st line ⊎ IsReadAnswer c (verification_ended st) line
-IsMailLine c st mail line = IsReadAnswer c (asked_by mail st) line
+abbrev pub IsMailEntry : {Dir : Type 0} → Fixed Dir → Live Dir → Mail Dir → Entry → Type 0
+IsMailEntry c st (Peer from bytes) line = IsUnasked line
+IsMailEntry c st (NextLog number height) line = (payload : Option (List ℕ)) × (line ≡ Log number payload)
+IsMailEntry c st (ReleaseLog height) line = ⊥
+IsMailEntry c st (EpochInfoOf number) line = IsReadAnswer c (asked_by (EpochInfoOf number) st) line ⊎ ((st.participation.stage ≡ Follows) × (line ≡ Answer number (Unavailable Following)))
+IsMailEntry c st (Work handed) line = IsWaitedAnswer c st line ⊎ IsReadAnswer c (verification_ended st) line
+IsMailEntry c st mail line = IsReadAnswer c (asked_by mail st) line
 
 -- A BLOCK, by the stage of the life that it is applied to: while including, the last one answers what waits, and what is left of requests
 abbrev pub IsFinalAnswer : {Dir : Type 0} → Fixed Dir → Live Dir → (last : Bool) → Block Dir → Entry → Type 0
@@ -97,7 +97,7 @@ IsBlockLineThrough c stored st b line = Unit {0}
 
 abbrev pub IsLineThrough : {Dir : Type 0} → Fixed Dir → OfShares → Live Dir → Message Dir → Entry → Type 0
 IsLineThrough c stored st (Finalized b) line = IsBlockLineThrough c stored st b line
-IsLineThrough c stored st (Mailed mail) line = IsMailLine c st mail line
+IsLineThrough c stored st (Mailed mail) line = IsMailEntry c st mail line
 
 -- ANY STEP says such lines alone.
 abbrev pub StepsSayThroughAt : {Dir : Type 0} → Fixed Dir → OfShares → Type 0

@@ -23,11 +23,11 @@ TranscriptsMove F S = (acts : Acts F S) (ended : Ended F S) (w new : World) (oth
 
 -- DEEDS AND THEIR LINES
 
-abbrev pub deed_lines : {Dir : Type 0} → List (Deed Dir) → List Entry
-deed_lines [] = []
-deed_lines (SaidEntry line ∷ deeds) = line ∷ deed_lines deeds
-deed_lines (DidOperation op ∷ deeds) = deed_lines deeds
-deed_lines (CalledOutside outer ∷ deeds) = deed_lines deeds
+abbrev pub deed_entries : {Dir : Type 0} → List (Deed Dir) → List Entry
+deed_entries [] = []
+deed_entries (SaidEntry line ∷ deeds) = line ∷ deed_entries deeds
+deed_entries (DidOperation op ∷ deeds) = deed_entries deeds
+deed_entries (CalledOutside outer ∷ deeds) = deed_entries deeds
 
 -- How it ended by itself: with all its lines, in its end, or by its fault.
 abbrev pub IsOwnEnd : {Dir F S : Type 0} → Course Dir F S → Ended F S → (held now : Held) → (rest : List Entry) → Type 0
@@ -40,7 +40,7 @@ pub record AddsDeeds {Dir F S : Type 0} (course : Course Dir F S) (ended : Ended
   pub added : List Entry
   pub rest : List Entry
   pub out : new.out ≡ w.out ++ added
-  pub of_deeds : deed_lines (deeds_of course w.held) ≡ added ++ rest
+  pub of_deeds : deed_entries (deeds_of course w.held) ≡ added ++ rest
   pub own_end : IsOwnEnd course ended w.held new.held rest
 
 -- A RUN OF A COURSE adds the lines of its deeds, in their order.
@@ -70,7 +70,7 @@ IfWentTo (broken cause) P = Unit {0}
 pub record LinesFront {Dir F S : Type 0} (law : Law Dir S) (past : List (Deed Dir)) (ended : Ended F S) (old new : List Entry) : Type 0 where
   pub deeds : List (Deed Dir)
   pub obeys : Obeys law past deeds
-  pub added : new ≡ old ++ deed_lines deeds
+  pub added : new ≡ old ++ deed_entries deeds
   pub end : IfWentTo ended (law.end (deeds_behind past deeds))
 
 -- LINES THAT A COURSE SAYS keep its laws, whatever the devices tell.

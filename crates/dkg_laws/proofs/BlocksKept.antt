@@ -13,11 +13,11 @@ use Rattle.dkg_core.specs.Fixed.{Fixed}
 use Rattle.dkg_core.specs.Live.{Live, Message, Mailed, Peer, Finalized, NextLog, ReleaseLog, EpochInfoOf, Feed, Over, Cancel, Work}
 use Rattle.dkg_core.specs.Core.{step}
 use Rattle.dkg_core.specs.Behind.{IsAside}
-use Rattle.dkg_core.specs.Laws.{Law, Holds, PeerOperation, peer_law, IsDealtToItself, IsOffered, OtherLine, OtherOperation, other_law, reach_of}
+use Rattle.dkg_core.specs.Laws.{Law, Holds, PeerOperation, peer_law, IsDealtToItself, IsOffered, OtherEntry, OtherOperation, other_law, reach_of}
 use Rattle.dkg_core.specs.Heard.{recovered_in}
 use Rattle.dkg_core.specs.Enduring.{IsKeptFrom}
 use Rattle.dkg_core.specs.Forms.{IsTakenIn}
-use Rattle.dkg_core.specs.Transcripts.{deed_lines}
+use Rattle.dkg_core.specs.Transcripts.{deed_entries}
 use Rattle.dkg_laws.specs.BlocksKept.{IsLineOfBlock, NodeStepsKeepNotes, NodeStepsKeepPlans, BlocksKeep, NodeStepsSpareTheirLogs}
 use Rattle.dkg_core.proofs.Behind.{steps_run_behind}
 use Rattle.dkg_laws.proofs.Enduring.{steps_keep}
@@ -33,7 +33,7 @@ use Rattle.dkg_laws.proofs.Said.{runs_say}
 use Rattle.dkg_core.proofs.Stepping.{not_included}
 
 module _ {Dir : Type 0} (c : Fixed Dir) (st : Live Dir) where
-  any_past : (past : List (Deed Dir)) (line : Entry) → OtherLine c (IsDealtToItself c st) (IsOffered c st) past line → IsLineOfBlock c st line
+  any_past : (past : List (Deed Dir)) (line : Entry) → OtherEntry c (IsDealtToItself c st) (IsOffered c st) past line → IsLineOfBlock c st line
   any_past past (Recorded epoch dealer public private) h = h
   any_past past (Ack epoch dealer ack) h = h
   any_past past (Offer epoch player public private) h = h
@@ -110,9 +110,9 @@ blocks_keep {Dir} c block st ended most w new low agreed can run =
     let law = other_law c (IsDealtToItself c st) (IsOffered c st) (reach_of c message) in
     let front = lines_obey law [] (step c message st) behind.half w.out behind.mid.out (others_acknowledge_nothing c st message tt) (runs_say course behind.half w behind.mid behind.run) in
     record {
-      lines = deed_lines front.deeds ++ behind.lines;
-      out = behind.out ∙ ap (λ (ls : List Entry). ls ++ behind.lines) front.added ∙ append_assoc w.out (deed_lines front.deeds) behind.lines;
-      said = with_aside c st (deed_lines front.deeds) behind.lines (all_lines law (IsLineOfBlock c st) (any_past c st) [] front.deeds front.obeys) behind.aside;
+      lines = deed_entries front.deeds ++ behind.lines;
+      out = behind.out ∙ ap (λ (ls : List Entry). ls ++ behind.lines) front.added ∙ append_assoc w.out (deed_entries front.deeds) behind.lines;
+      said = with_aside c st (deed_entries front.deeds) behind.lines (all_lines law (IsLineOfBlock c st) (any_past c st) [] front.deeds front.obeys) behind.aside;
       whole = subst (λ (h : Held). IsWhole (notes h) h.secrets) (sym behind.held)
           (along_runs (IsKeptFrom (c.rules.ack_of c.me) most w.out) course behind.half w behind.mid
           (steps_keep c st message most w.out w low agreed can (record { whole = agreed.whole; added = []; out = sym (append-nil w.out); said = tt })) behind.run).whole;

@@ -26,7 +26,7 @@ use Rattle.dkg_core.specs.Node.{unless_once}
 use Rattle.dkg_core.specs.Behind.{OnlySays}
 use Rattle.dkg_core.specs.Laws.{IsOther}
 use Rattle.dkg_core.specs.Endings.{CameTo}
-use Rattle.dkg_laws.specs.Idle.{IsAskedLine, MailsAreIdle}
+use Rattle.dkg_laws.specs.Idle.{IsAskedEntry, MailsAreIdle}
 use Rattle.dkg_core.proofs.Behind.{IfGoes, leaves_devices, only_behind, only_if, only_option, only_under}
 
 module _ {Dir : Type 0} (c : Fixed Dir) (st : Live Dir) where
@@ -38,32 +38,32 @@ module _ {Dir : Type 0} (c : Fixed Dir) (st : Live Dir) where
   Beside end = end ≡ with end.inclusion
 
   abbrev Only : Course Dir Fault (Live Dir) → Type 0
-  Only course = OnlySays IsAskedLine Beside course
+  Only course = OnlySays IsAskedEntry Beside course
 
   abbrev GoesOn : Continuation Dir → Type 0
   GoesOn next = (made : Artifact Dir) (i : Inclusion Dir) → Only (next made (with i))
 
   -- a course that goes on from such a life
   behind : (course : Course Dir Fault (Live Dir)) (next : Live Dir → Course Dir Fault (Live Dir)) → Only course → ((i : Inclusion Dir) → Only (next (with i))) → Only (bind course next)
-  behind course next only so = only_behind IsAskedLine Beside Beside course next only (λ end is. subst (λ (x : Live Dir). Only (next x)) (sym is) (so end.inclusion))
+  behind course next only so = only_behind IsAskedEntry Beside Beside course next only (λ end is. subst (λ (x : Live Dir). Only (next x)) (sym is) (so end.inclusion))
 
   -- THE ARTIFACT
 
   in_directory : (info : EpochInfo Dir) (acts : Course Dir Fault (Live Dir)) → Only acts → Only (inc.with_directory c info acts)
-  in_directory info acts only = only_if IsAskedLine Beside (c.directories.matches info.directory (inc.info_peers info)) acts (Stops (DirectoryMismatch info.epoch)) only tt
+  in_directory info acts only = only_if IsAskedEntry Beside (c.directories.matches info.directory (inc.info_peers info)) acts (Stops (DirectoryMismatch info.epoch)) only tt
 
   shared : (info : EpochInfo Dir) (found : Option Verified) (f : Option ℕ → Course Dir Fault (Live Dir)) → ((share : Option ℕ) → Only (f share)) → Only (inc.share_by c info found f)
   shared info (Some found) f each = each found.share
-  shared info None f each = only_if IsAskedLine Beside (has info.output.players c.me) (looks c (λ s. f (lookup info.epoch s.shares))) (f None) (λ h. each (lookup info.epoch (c.seen h).shares)) (each None)
+  shared info None f each = only_if IsAskedEntry Beside (has info.output.players c.me) (looks c (λ s. f (lookup info.epoch s.shares))) (f None) (λ h. each (lookup info.epoch (c.seen h).shares)) (each None)
 
   provided : (epoch : ℕ) (acts : Course Dir Fault (Live Dir)) → Only acts → Only (inc.with_provided c epoch acts)
   provided epoch acts only =
       let count = length (c.provided.participants epoch) in
       let few : Course Dir Fault (Live Dir) = if nat_lt c.limit count then Stops (InvalidParticipants (ProviderAbove count c.limit)) else acts in
       let some : Course Dir Fault (Live Dir) = if count == 0 then Stops (InvalidParticipants ProviderEmpty) else few in
-      only_if IsAskedLine Beside (nat_le (2 ^ 64) epoch) (Stops HeightRange) some tt
-      (only_if IsAskedLine Beside (count == 0) (Stops (InvalidParticipants ProviderEmpty)) few tt
-      (only_if IsAskedLine Beside (nat_lt c.limit count) (Stops (InvalidParticipants (ProviderAbove count c.limit))) acts tt only))
+      only_if IsAskedEntry Beside (nat_le (2 ^ 64) epoch) (Stops HeightRange) some tt
+      (only_if IsAskedEntry Beside (count == 0) (Stops (InvalidParticipants ProviderEmpty)) few tt
+      (only_if IsAskedEntry Beside (nat_lt c.limit count) (Stops (InvalidParticipants (ProviderAbove count c.limit))) acts tt only))
 
   keeps : (logs : LogMap) (next : Continuation Dir) → GoesOn next → GoesOn (inc.keeping_artifact logs next)
   keeps logs next so made i = so made (inc.with_cached logs made (with i)).inclusion
@@ -75,11 +75,11 @@ module _ {Dir : Type 0} (c : Fixed Dir) (st : Live Dir) where
 
   derived : (o : Option (OneShot Dir)) (r : VerifiedLogs) (i : Inclusion Dir) (next : Continuation Dir) → GoesOn next → Only (inc.derives c o r (with i) next)
   derived (Some o) r i next so =
-      only_option IsAskedLine Beside (λ (found : Verified). inc.oneshot_with c o found.output found.share (with i) (inc.keeping_artifact r.logs next)) r.result
+      only_option IsAskedEntry Beside (λ (found : Verified). inc.oneshot_with c o found.output found.share (with i) (inc.keeping_artifact r.logs next)) r.result
       (inc.keeping_artifact r.logs next (record { info = None; share = None }) (with i)) (λ found. once o found.output found.share i (inc.keeping_artifact r.logs next) (keeps r.logs next so))
       (keeps r.logs next so (record { info = None; share = None }) i)
   derived None r i next so =
-      only_option IsAskedLine Beside (λ (info : EpochInfo Dir). inc.derives_next c info r (with i) (inc.keeping_artifact r.logs next)) st.participation.current (Stops HeightRange)
+      only_option IsAskedEntry Beside (λ (info : EpochInfo Dir). inc.derives_next c info r (with i) (inc.keeping_artifact r.logs next)) st.participation.current (Stops HeightRange)
       (λ info. let made : EpochInfo Dir = info_by c.provided info (option_map (λ (found : Verified). found.output) r.result) in
       provided (info.epoch + 2) (inc.share_by c info r.result (λ share. inc.with_directory c made (inc.keeping_artifact r.logs next (record { info = Some made; share = share }) (with i))))
       (shared info r.result (λ share. inc.with_directory c made (inc.keeping_artifact r.logs next (record { info = Some made; share = share }) (with i)))
@@ -114,7 +114,7 @@ module _ {Dir : Type 0} (c : Fixed Dir) (st : Live Dir) where
   reads round next i Deals running queue so = refl
   reads round next i Includes None [] so = refl
   reads round next i Includes None (r ∷ rs) so =
-      only_if IsAskedLine Beside (is_need (read_of c round (with i) r)) (Goes (with i)) (bind (inc.fed c round r.number (with_queue rs (with i)) (read_of c round (with i) r)) next) refl
+      only_if IsAskedEntry Beside (is_need (read_of c round (with i) r)) (Goes (with i)) (bind (inc.fed c round r.number (with_queue rs (with i)) (read_of c round (with i) r)) next) refl
       (behind (inc.fed c round r.number (with_queue rs (with i)) (read_of c round (with i) r)) next (fed round r.number (record i { queue = rs }) (read_of c round (with i) r)) so)
   reads round next i Includes (Some job) queue so = refl
   reads round next i Follows running queue so = refl
@@ -123,7 +123,7 @@ module _ {Dir : Type 0} (c : Fixed Dir) (st : Live Dir) where
   advances : (most : ℕ) (i : Inclusion Dir) → Only (inc.advances c most (with i))
   advances zero i = refl
   advances (suc most) i =
-      only_option IsAskedLine Beside (λ (round : Round). inc.reads_first c round (λ now. inc.advances c most now) (with i)) st.participation.round (Goes (with i))
+      only_option IsAskedEntry Beside (λ (round : Round). inc.reads_first c round (λ now. inc.advances c most now) (with i)) st.participation.round (Goes (with i))
       (λ round. reads round (λ now. inc.advances c most now) i st.participation.stage i.running i.queue (λ now. advances most now)) refl
 
   pub advanced : (i : Inclusion Dir) → Only (inc.advanced c (with i))
@@ -165,24 +165,24 @@ module _ {Dir : Type 0} (c : Fixed Dir) (st : Live Dir) where
   mails (Feed request block) other = advanced (inc.changed request (λ r. if r.ended then r else record r { blocks = r.blocks ++ block ∷ [] }) st).inclusion
   mails (Over request) other = advanced (inc.changed request (λ r. record r { ended = true }) st).inclusion
   mails (Cancel request) other =
-      only_if IsAskedLine Beside (option_map_or (λ n. n == request) st.inclusion.waiter false) (Goes (with_inclusion (record st.inclusion { waiter = None }) st))
+      only_if IsAskedEntry Beside (option_map_or (λ n. n == request) st.inclusion.waiter false) (Goes (with_inclusion (record st.inclusion { waiter = None }) st))
       (inc.advanced c (with_queue (filter (λ r. not (r.number == request)) st.inclusion.queue) st)) refl (advanced (record st.inclusion { queue = filter (λ r. not (r.number == request)) st.inclusion.queue }))
   mails (Work handed) other =
-      only_if IsAskedLine Beside (is_some st.inclusion.running) (bind (inc.ends_verifying c handed st) (λ now. inc.advanced c now)) (Goes st)
+      only_if IsAskedEntry Beside (is_some st.inclusion.running) (bind (inc.ends_verifying c handed st) (λ now. inc.advanced c now)) (Goes st)
       (behind (inc.ends_verifying c handed st) (λ now. inc.advanced c now) (ends handed st.inclusion.running) (λ i. advanced i)) refl
 
   -- A NODE
 
-  again : st.orchestrator.waiting ≡ None → (i : Inclusion Dir) → OnlySays IsAskedLine Beside (unless_once c (half.asks_again c (with i)) (Goes (with i)))
+  again : st.orchestrator.waiting ≡ None → (i : Inclusion Dir) → OnlySays IsAskedEntry Beside (unless_once c (half.asks_again c (with i)) (Goes (with i)))
   again none i =
-      only_if IsAskedLine Beside (is_some c.oneshot) (Goes (with i)) (half.asks_again c (with i)) refl
-      (subst (λ (o : Option (Waiting Dir)). OnlySays IsAskedLine Beside (option_map_or (λ w. bind (half.enters c w (with i)) (half.acked_late w.block)) o (Goes (with i)))) (sym none) refl)
+      only_if IsAskedEntry Beside (is_some c.oneshot) (Goes (with i)) (half.asks_again c (with i)) refl
+      (subst (λ (o : Option (Waiting Dir)). OnlySays IsAskedEntry Beside (option_map_or (λ w. bind (half.enters c w (with i)) (half.acked_late w.block)) o (Goes (with i)))) (sym none) refl)
 
-  nodes : (mail : Mail Dir) → IsOther (Mailed mail) → st.orchestrator.waiting ≡ None → OnlySays IsAskedLine Beside (bind (under Faulted (step c (Mailed mail) st)) (λ end. unless_once c (half.asks_again c end) (Goes end)))
+  nodes : (mail : Mail Dir) → IsOther (Mailed mail) → st.orchestrator.waiting ≡ None → OnlySays IsAskedEntry Beside (bind (under Faulted (step c (Mailed mail) st)) (λ end. unless_once c (half.asks_again c end) (Goes end)))
   nodes mail other none =
-      only_behind IsAskedLine Beside Beside (under Faulted (step c (Mailed mail) st)) (λ end. unless_once c (half.asks_again c end) (Goes end))
-      (only_under IsAskedLine Beside Faulted (step c (Mailed mail) st) (mails mail other))
-      (λ end is. subst (λ (x : Live Dir). OnlySays IsAskedLine Beside (unless_once c (half.asks_again c x) (Goes x))) (sym is) (again none end.inclusion))
+      only_behind IsAskedEntry Beside Beside (under Faulted (step c (Mailed mail) st)) (λ end. unless_once c (half.asks_again c end) (Goes end))
+      (only_under IsAskedEntry Beside Faulted (step c (Mailed mail) st) (mails mail other))
+      (λ end is. subst (λ (x : Live Dir). OnlySays IsAskedEntry Beside (unless_once c (half.asks_again c x) (Goes x))) (sym is) (again none end.inclusion))
 
   came : (ended : Ended NodeStop (Live Dir)) → IfGoes Beside ended → CameTo (λ stop. Unit {0}) Beside ended
   came (went end) goes = goes
@@ -191,5 +191,5 @@ module _ {Dir : Type 0} (c : Fixed Dir) (st : Live Dir) where
 
 pub mails_are_idle : {Dir : Type 0} → MailsAreIdle Dir
 mails_are_idle c mail st ended w new other none run =
-    let its = leaves_devices IsAskedLine (Beside c st) (bind (under Faulted (step c (Mailed mail) st)) (λ end. unless_once c (half.asks_again c end) (Goes end))) ended w new (nodes c st mail other none) run in
+    let its = leaves_devices IsAskedEntry (Beside c st) (bind (under Faulted (step c (Mailed mail) st)) (λ end. unless_once c (half.asks_again c end) (Goes end))) ended w new (nodes c st mail other none) run in
     record { held = its.held; fuse = its.fuse; lines = its.lines; out = its.out; says = its.says; goes = came c st ended its.goes }

@@ -45,7 +45,7 @@ use Rattle.dkg_core.specs.Behind.{OnlySays}
 use Rattle.dkg_core.specs.Laws.{reach_of}
 use Rattle.dkg_core.specs.Endings.{validity}
 use Rattle.dkg_core.specs.Forms.{Applied, judged_block, ComesOver, FindsHeld, round_for, share_read, seed_read}
-use Rattle.dkg_laws.specs.Idle.{IsAskedLine}
+use Rattle.dkg_laws.specs.Idle.{IsAskedEntry}
 use Rattle.dkg_core.specs.Stepping.{next_epoch}
 use Rattle.dkg_core.specs.Storing.{ReadsSecrets}
 use Rattle.dkg_core.specs.Asked.{OfShares, ReadsShare, IsArtifactIn, IsResultIn, IsJobIn, HasAsked, IsAskStop, IsMadeIn}
@@ -373,7 +373,7 @@ module _ {Dir : Type 0} (c : Fixed Dir) (form : IsFormThrough c) (stored : OfSha
 
     final_moves : (w : World) → w.held ≡ held → Throughout P (b.final_block c round block st) w
     final_moves w same =
-        idle_behind P quiet IsAskedLine (idle.Beside c st) (IsAskStop c st) (λ end left. (left ≡ Some held) × IsEndedIn c stored st end) (i.ends_verifying c None st)
+        idle_behind P quiet IsAskedEntry (idle.Beside c st) (IsAskStop c st) (λ end left. (left ≡ Some held) × IsEndedIn c stored st end) (i.ends_verifying c None st)
         (λ now. b.concludes_by c round block logs (cached_for st.inclusion.cached logs) (cached_for now.inclusion.cached logs) now) w (idle.ends c st None st.inclusion.running)
         (subst (λ (h : Held). ComesOver (IsAskStop c st) (λ end left. (left ≡ Some held) × IsEndedIn c stored st end) (i.ends_verifying c None st) (Some h)) (sym same)
         (verifying_ends c stored st (Some held) form.form form.finishing reads live.informed live.asked.has None (λ r e. absurd (none_apart r e)))) (begun w same)

@@ -25,7 +25,7 @@ use Rattle.dkg_core.specs.Core.{step}
 use Rattle.dkg_core.specs.Entering as half
 use Rattle.dkg_core.specs.Node.{unless_once}
 use Rattle.dkg_core.specs.Laws.{IsQuiet}
-use Rattle.dkg_core.specs.Transcripts.{deed_lines, BeginsOpened}
+use Rattle.dkg_core.specs.Transcripts.{deed_entries, BeginsOpened}
 use Rattle.dkg_core.specs.Splitting.{IsEarly, fault_named}
 use Rattle.dkg_core.specs.Behind.{EndsBehind, IfEarly, IsAside}
 use Rattle.dkg_core.specs.Endings.{ComesTo}
@@ -166,7 +166,7 @@ module _ {Dir : Type 0} (c : Fixed Dir) (from : ℕ) (bytes : List ℕ) (st : Li
       either true run = done run
       either false run = done (subst (λ (course : Course Dir NodeStop (Live Dir)). EndsSo course (went last) mid new) (asks_nothing c end none) run)
 
-last_line : {Dir : Type 0} (deeds : List (Deed Dir)) (line : Entry) → deed_lines (deeds ++ SaidEntry line ∷ []) ≡ deed_lines deeds ++ line ∷ []
+last_line : {Dir : Type 0} (deeds : List (Deed Dir)) (line : Entry) → deed_entries (deeds ++ SaidEntry line ∷ []) ≡ deed_entries deeds ++ line ∷ []
 last_line [] line = refl
 last_line (SaidEntry its ∷ deeds) line = ap (λ (ls : List Entry). its ∷ ls) (last_line deeds line)
 last_line (DidOperation op ∷ deeds) line = last_line deeds line
@@ -192,6 +192,6 @@ node_dues_are_answered {Dir} c st end from bytes due w new none run =
     said mid now run =
         let adds = runs_add_deeds (step c (Mailed (Peer from bytes)) st) (went mid) w now run in
         let last = answered c st from bytes due w.held in
-        let are = ap deed_lines last.2 ∙ last_line last.0 (Ack due.round.number from last.1) in
+        let are = ap deed_entries last.2 ∙ last_line last.0 (Ack due.round.number from last.1) in
         let all = sym (adds.of_deeds ∙ ap (λ (ls : List Entry). adds.added ++ ls) adds.own_end.0 ∙ append-nil adds.added) in
-        (deed_lines last.0, last.1, adds.out ∙ ap (λ (ls : List Entry). w.out ++ ls) (all ∙ are))
+        (deed_entries last.0, last.1, adds.out ∙ ap (λ (ls : List Entry). w.out ++ ls) (all ∙ are))

@@ -26,7 +26,7 @@ use Rattle.dkg_core.specs.Meant.{ReadsRecords}
 use Rattle.dkg_core.specs.Heard.{recovered_in, KeepsFrom, IsSaid, MayHave, IsKeptAt}
 use Rattle.dkg_core.specs.Agreeing.{AreAgreed}
 use Rattle.dkg_core.specs.Enduring.{IsKeptFrom}
-use Rattle.dkg_core.specs.Transcripts.{deed_lines}
+use Rattle.dkg_core.specs.Transcripts.{deed_entries}
 use Rattle.dkg_laws.specs.NodeKept.{BeginsRestored, NodeOpeningsRestore, NodeOpeningsKeep, NodeOpeningsAgree, NodePeersAreKept, NodeStepsAgree, NodeStepsGiveBack}
 use Rattle.dkg_core.proofs.Agreeing.{openings_agree, steps_agree}
 use Rattle.dkg_core.proofs.Behind.{openings_run_behind, steps_run_behind}
@@ -92,8 +92,8 @@ module _ {Dir : Type 0} (c : Fixed Dir) where
         let rest : Course Dir Fault (Live Dir) = opens_in c c.oneshot (begun_life seen) in
         let said = runs_say (on_devices rest) ended (says opened first_line) new run in
         let front = lines_obey aside_law [] rest ended (says opened first_line).out new.out (opens c aside_law (λ height. Unit {0}) reaching [] c.oneshot (begun_life seen)) said in (
-          first_line ∷ deed_lines front.deeds,
-          front.added ∙ append_assoc w.out (first_line ∷ []) (deed_lines front.deeds),
+          first_line ∷ deed_entries front.deeds,
+          front.added ∙ append_assoc w.out (first_line ∷ []) (deed_entries front.deeds),
           (
             refl,
             ap (λ (dealings : List Pair). map restored_of dealings) (reads.dealings opened.held),

@@ -16,8 +16,8 @@ use Rattle.dkg_core.specs.Fixed.{Fixed}
 use Rattle.dkg_core.specs.Live.{Live, Message, Mailed, Peer, Finalized, NextLog, ReleaseLog, EpochInfoOf, Feed, Over, Cancel, Work, awaited_height}
 use Rattle.dkg_core.specs.Setup.{setup}
 use Rattle.dkg_core.specs.Core.{opening, step, opens_in, begun_life}
-use Rattle.dkg_core.specs.Laws.{Law, Holds, Anything, IsQuiet, IsSilent, PeerLine, peer_law, OtherLine, OfHalves, OfOffers, IsDealtToItself, IsOffered, other_law, prune_law, reach_of}
-use Rattle.dkg_core.specs.Transcripts.{deed_lines, StepsAreQuiet, BeginsOpened, OpeningsAreQuiet}
+use Rattle.dkg_core.specs.Laws.{Law, Holds, Anything, IsQuiet, IsSilent, PeerEntry, peer_law, OtherEntry, OfHalves, OfOffers, IsDealtToItself, IsOffered, other_law, prune_law, reach_of}
+use Rattle.dkg_core.specs.Transcripts.{deed_entries, StepsAreQuiet, BeginsOpened, OpeningsAreQuiet}
 use Rattle.dkg_core.proofs.Hearing.{heard}
 use Rattle.dkg_core.proofs.Holding.{holds_as}
 use Rattle.dkg_core.proofs.Lines.{lines_obey, all_lines}
@@ -35,13 +35,13 @@ silent_quiet past (Ack epoch dealer ack) h = absurd h
 silent_quiet past (Offer epoch player public private) h = tt
 silent_quiet past line h = h
 
-peer_quiet : {Dir : Type 0} (c : Fixed Dir) (st : Live Dir) (from : ℕ) (past : List (Deed Dir)) (line : Entry) → PeerLine c st from past line → IsQuiet line
+peer_quiet : {Dir : Type 0} (c : Fixed Dir) (st : Live Dir) (from : ℕ) (past : List (Deed Dir)) (line : Entry) → PeerEntry c st from past line → IsQuiet line
 peer_quiet c st from past (Recorded epoch dealer public private) h = tt
 peer_quiet c st from past (Ack epoch dealer ack) h = tt
 peer_quiet c st from past (Offer epoch player public private) h = tt
 peer_quiet c st from past line h = h
 
-other_quiet : {Dir : Type 0} (c : Fixed Dir) (own : OfHalves) (offered : OfOffers) (past : List (Deed Dir)) (line : Entry) → OtherLine c own offered past line → IsQuiet line
+other_quiet : {Dir : Type 0} (c : Fixed Dir) (own : OfHalves) (offered : OfOffers) (past : List (Deed Dir)) (line : Entry) → OtherEntry c own offered past line → IsQuiet line
 other_quiet c own offered past (Recorded epoch dealer public private) h = tt
 other_quiet c own offered past (Ack epoch dealer ack) h = absurd h
 other_quiet c own offered past (Offer epoch player public private) h = tt
@@ -57,7 +57,7 @@ module _ {Dir : Type 0} (c : Fixed Dir) (st : Live Dir) (ended : Ended Fault (Li
       → Said (on_devices (step c message st)) ended old new → AddsQuiet
   of_law law message so holds said =
       let front = lines_obey law [] (step c message st) ended old new holds said in
-      (deed_lines front.deeds, front.added, all_lines law IsQuiet so [] front.deeds front.obeys)
+      (deed_entries front.deeds, front.added, all_lines law IsQuiet so [] front.deeds front.obeys)
 
   of_other : (message : Message Dir) → Holds (other_law c (IsDealtToItself c st) (IsOffered c st) (reach_of c message)) [] (step c message st) → Said (on_devices (step c message st)) ended old new → AddsQuiet
   of_other message holds said = of_law (other_law c (IsDealtToItself c st) (IsOffered c st) (reach_of c message)) message (other_quiet c (IsDealtToItself c st) (IsOffered c st)) holds said

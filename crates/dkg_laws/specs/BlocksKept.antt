@@ -12,7 +12,7 @@ use Rattle.dkg_core.specs.Fixed.{Fixed}
 use Rattle.dkg_core.specs.Live.{Live, NodeStop, Message, Finalized, Delivers}
 use Rattle.dkg_core.specs.Node.{node_step}
 use Rattle.dkg_core.specs.Behind.{event_of}
-use Rattle.dkg_core.specs.Laws.{IsDealtToItself, IsOffered, OtherLine, reach_of}
+use Rattle.dkg_core.specs.Laws.{IsDealtToItself, IsOffered, OtherEntry, reach_of}
 use Rattle.dkg_core.specs.Heard.{recovered_in}
 use Rattle.dkg_core.specs.Agreeing.{AreAgreed, CanRecord}
 use Rattle.dkg_core.specs.Forms.{IsForm, IsLiveIn, IsTakenIn}
@@ -38,7 +38,7 @@ NodeStepsKeepPlans Dir = (c : Fixed Dir) (st : Live Dir) (message : Message Dir)
 
 -- Nothing is acknowledged, of dealings this node's own alone is recorded, and what its dealer deals is offered.
 abbrev pub IsLineOfBlock : {Dir : Type 0} → Fixed Dir → Live Dir → Entry → Type 0
-IsLineOfBlock c st line = OtherLine c (IsDealtToItself c st) (IsOffered c st) [] line
+IsLineOfBlock c st line = OtherEntry c (IsDealtToItself c st) (IsOffered c st) [] line
 
 -- Such lines were added, the devices are whole, and what they gave back of these epochs they give back.
 pub record IsKeptBehind {Dir : Type 0} (c : Fixed Dir) (st : Live Dir) (most : ℕ) (w new : World) : Type 0 where

@@ -12,10 +12,10 @@ use Rattle.dkg_core.specs.Laws.{IsOther}
 use Rattle.dkg_core.specs.Endings.{CameTo}
 
 -- what a request is answered
-abbrev pub IsAskedLine : Entry → Type 0
-IsAskedLine (Answer request answer) = Unit {0}
-IsAskedLine (Log request log) = Unit {0}
-IsAskedLine line = ⊥
+abbrev pub IsAskedEntry : Entry → Type 0
+IsAskedEntry (Answer request answer) = Unit {0}
+IsAskedEntry (Log request log) = Unit {0}
+IsAskedEntry line = ⊥
 
 -- The devices are what they were, such lines alone were said, and where it went to its end, only what the life has of requests has changed.
 pub record LeavesIdle {Dir : Type 0} (st : Live Dir) (ended : Ended NodeStop (Live Dir)) (w new : World) : Type 0 where
@@ -23,7 +23,7 @@ pub record LeavesIdle {Dir : Type 0} (st : Live Dir) (ended : Ended NodeStop (Li
   pub fuse : new.fuse ≡ w.fuse
   pub lines : List Entry
   pub out : new.out ≡ w.out ++ lines
-  pub says : AllByRecursion IsAskedLine lines
+  pub says : AllByRecursion IsAskedEntry lines
   pub goes : CameTo (λ stop. Unit {0}) (λ end. end ≡ with_inclusion end.inclusion st) ended
 
 -- MAIL BUT A PEER'S is idle, of whatever life and form, where the orchestrator waits for nothing.

@@ -49,7 +49,7 @@ use Rattle.dkg_core.specs.Dealing as d
 use Rattle.dkg_core.specs.Core.{step}
 use Rattle.dkg_core.specs.Agreeing.{AreAgreed}
 use Rattle.dkg_core.specs.Heard.{Fits, recovered_in}
-use Rattle.dkg_core.specs.Transcripts.{AddsDeeds, IfWentTo, IsOwnEnd, deed_lines}
+use Rattle.dkg_core.specs.Transcripts.{AddsDeeds, IfWentTo, IsOwnEnd, deed_entries}
 use Rattle.dkg_core.specs.Behind.{IsAside, OnlySays}
 use Rattle.dkg_core.proofs.Behind.{leaves_devices}
 use Rattle.dkg_core.proofs.Keeping.{fold_silent, left_entries, silent_whole}
@@ -113,11 +113,11 @@ module _ (epoch dealer private : ℕ) (public : List ℕ) (w : World) (is_event 
       by_secrets (inr is) = has_of new (notes w.held) secrets_then same is half_put.0 (inl (tears.same, half_put.1))
 
   torn_append : (cause : Cause) (new : World) → Tears cause (OnDisk (Appends note)) (does w (Changes (PutDealing epoch dealer private))) new → HasNew epoch dealer public private w new
-  torn_append cause new tears = by_entries (left_entries note w.held.journaled new.held.journaled tears.torn.1)
+  torn_append cause new tears = has_by (left_entries note w.held.journaled new.held.journaled tears.torn.1)
     where
-      by_entries : (notes new.held ≡ notes w.held) ⊎ (notes new.held ≡ placed (notes w.held) note) → HasNew epoch dealer public private w new
-      by_entries (inl is) = has_of new (notes w.held) secrets_then is tears.torn.0 half_put.0 (inl (tears.same, half_put.1))
-      by_entries (inr is) = has_of new (placed (notes w.held) note) secrets_then is tears.torn.0 both_put.0 (inr both_put.1)
+      has_by : (notes new.held ≡ notes w.held) ⊎ (notes new.held ≡ placed (notes w.held) note) → HasNew epoch dealer public private w new
+      has_by (inl is) = has_of new (notes w.held) secrets_then is tears.torn.0 half_put.0 (inl (tears.same, half_put.1))
+      has_by (inr is) = has_of new (placed (notes w.held) note) secrets_then is tears.torn.0 both_put.0 (inr both_put.1)
 
   done : (out : List Entry) → HasNew epoch dealer public private w (record (does (does w (Changes (PutDealing epoch dealer private))) (OnDisk (Appends note))) { out = out })
   done out = (both_put.0, inr both_put.1)
@@ -149,7 +149,7 @@ are_with b m recorded epoch dealer v now none are = record {
 -- nothing of dealings
 pub record IsPassed {Dir : Type 0} (c : Fixed Dir) (st : Live Dir) (from : ℕ) (bytes : List ℕ) (course : Course Dir Fault (Live Dir)) (h : Held) : Type 0 where
   pub only : OnlySays (λ line. Unit {0}) (λ end. Unit {0}) course
-  pub aside : AllByRecursion IsAside (deed_lines (deeds_of course h))
+  pub aside : AllByRecursion IsAside (deed_entries (deeds_of course h))
   pub undue : IsUndue c st from bytes
 
 -- The devices are whole, and give back what they gave.
@@ -158,7 +158,7 @@ IsSameGiven w new = IsWhole (notes new.held) new.held.secrets × (recovered_in n
 
 -- an acknowledgement for this node's dealer
 pub record IsTakenAck {Dir : Type 0} (c : Fixed Dir) (st : Live Dir) (from : ℕ) (bytes : List ℕ) (course : Course Dir Fault (Live Dir)) (h : Held) : Type 0 where
-  pub aside : AllByRecursion IsAside (deed_lines (deeds_of course h))
+  pub aside : AllByRecursion IsAside (deed_entries (deeds_of course h))
   pub undue : IsUndue c st from bytes
   pub ack : List ℕ
   pub brings : whole (message_at c.limit bytes) ≡ Ok (AnAck ack)
@@ -173,7 +173,7 @@ pub record IsAgain {Dir : Type 0} (c : Fixed Dir) (st : Live Dir) (from : ℕ) (
   pub brings : BringsDealing c st bytes round public private
   pub there : recorded_at st.records.dealings round.number from ≡ Some pair
   pub only : OnlySays (λ line. Unit {0}) (λ end. Unit {0}) course
-  pub lines : deed_lines (deeds_of course h) ≡ entry.Ack round.number from (c.rules.ack_of c.me round from pair.0) ∷ []
+  pub lines : deed_entries (deeds_of course h) ≡ entry.Ack round.number from (c.rules.ack_of c.me round from pair.0) ∷ []
 
 -- a new one's record and acknowledgement
 pub record IsNew {Dir : Type 0} (c : Fixed Dir) (st : Live Dir) (from : ℕ) (bytes : List ℕ) (course : Course Dir Fault (Live Dir)) (h : Held) : Type 0 where
@@ -183,7 +183,7 @@ pub record IsNew {Dir : Type 0} (c : Fixed Dir) (st : Live Dir) (from : ℕ) (by
   pub brings : BringsDealing c st bytes round public private
   pub none : recorded_at st.records.dealings round.number from ≡ None
   pub valid : c.rules.dealing_of round c.me from public private ≡ Ok tt
-  pub lines : deed_lines (deeds_of course h) ≡ entry.Recorded round.number from public private ∷ entry.Ack round.number from (c.rules.ack_of c.me round from public) ∷ []
+  pub lines : deed_entries (deeds_of course h) ≡ entry.Recorded round.number from public private ∷ entry.Ack round.number from (c.rules.ack_of c.me round from public) ∷ []
   pub lasts : (w : World) → IsEvent (events.Dealing from public) → get (recovered_in w.held) (round.number, from) ≡ None → IsWhole (notes w.held) w.held.secrets
       → Throughout (HasNew round.number from public private w) course w
 
@@ -193,12 +193,12 @@ module _ {Dir : Type 0} (st : Live Dir) (round : Round) (dealer : Dealer) (from 
   abbrev noted : Course Dir Fault (Live Dir)
   noted = d.appends round.number (events.Ack from ack) (Goes (d.counts dealer from ack (d.with_ack round.number from ack st)))
 
-  aside_if : (h : Held) (t : Bool) (x y : Course Dir Fault (Live Dir)) → AllByRecursion IsAside (deed_lines (deeds_of x h)) → AllByRecursion IsAside (deed_lines (deeds_of y h))
-      → AllByRecursion IsAside (deed_lines (deeds_of (if t then x else y) h))
+  aside_if : (h : Held) (t : Bool) (x y : Course Dir Fault (Live Dir)) → AllByRecursion IsAside (deed_entries (deeds_of x h)) → AllByRecursion IsAside (deed_entries (deeds_of y h))
+      → AllByRecursion IsAside (deed_entries (deeds_of (if t then x else y) h))
   aside_if h true x y one other = one
   aside_if h false x y one other = other
 
-  ack_aside : (h : Held) (check : Result (Unit {0}) AckError) → AllByRecursion IsAside (deed_lines (deeds_of (d.checked_ack round dealer from ack st check) h))
+  ack_aside : (h : Held) (check : Result (Unit {0}) AckError) → AllByRecursion IsAside (deed_entries (deeds_of (d.checked_ack round dealer from ack st check) h))
   ack_aside h (Err e) = (tt, tt)
   ack_aside h (Ok passed) =
       aside_if h (is_some (lookup from dealer.acks)) (Goes st) (if is_some (recorded_at st.records.acks round.number from) then Goes (d.counts dealer from ack st) else noted) tt

@@ -53,7 +53,7 @@ use Rattle.dkg_core.specs.Fixed.{Fixed}
 use Rattle.dkg_core.specs.Forms.{Applied, Judged, Passed, Refusal, committed_by, judged_block, judged_over_tip, set_up_by}
 use Rattle.dkg_core.specs.Heard.{Fits, recovered_in}
 use Rattle.dkg_core.specs.Including as i
-use Rattle.dkg_laws.specs.Idle.{IsAskedLine}
+use Rattle.dkg_laws.specs.Idle.{IsAskedEntry}
 use Rattle.dkg_core.specs.Laws.{IsOther}
 use Rattle.dkg_core.specs.Live.{Deals, Dealer, Ends, Follows, Includes, Live, Mail, Plays, Records, Seat, Mailed, Stage, Watches, is_last_height, recorded_at, with_inclusion, with_participation, with_tip}
 use Rattle.dkg_core.specs.Logs.{is_accepted, carried_log_event, recorded_log}
@@ -335,10 +335,10 @@ module _ {Dir : Type 0} (c : Fixed Dir) (given : Held) (asked : List Pair) where
 
   -- REQUESTS are read
   advanced : (st : Live Dir) (h : Held) → asked ≡ st.records.dealings → Known st h → Comes (i.advanced c st) h
-  advanced st h same a = lands_asked given asked IsAskedLine st (i.advanced c st) h same a (idle.advanced c st st.inclusion)
+  advanced st h same a = lands_asked given asked IsAskedEntry st (i.advanced c st) h same a (idle.advanced c st st.inclusion)
 
   pub asks : (mail : Mail Dir) (st : Live Dir) (h : Held) → IsOther (Mailed mail) → asked ≡ st.records.dealings → Known st h → Comes (step c (Mailed mail) st) h
-  asks mail st h other same a = lands_asked given asked IsAskedLine st (step c (Mailed mail) st) h same a (idle.mails c st mail other)
+  asks mail st h other same a = lands_asked given asked IsAskedEntry st (step c (Mailed mail) st) h same a (idle.mails c st mail other)
 
   -- ITS OWN DEALING, which another one that is recorded ends
 

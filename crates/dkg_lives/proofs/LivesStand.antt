@@ -22,7 +22,7 @@ use Rattle.dkg_laws.proofs.NodeThrough.{node_openings_through, node_steps_come_t
 use Rattle.dkg_laws.proofs.Openings.{node_openings_lead, node_openings_lead_over}
 use Rattle.dkg_lives.specs.Epochs.{IsAtEvent, IsLifeInForm, any_shares}
 use Rattle.dkg_lives.specs.Given.{Lived, at_step, step_of}
-use Rattle.dkg_lives.specs.Ways.{Way, by_lines, by_worlds}
+use Rattle.dkg_lives.specs.Ways.{Way, by_entries, by_worlds}
 use Rattle.dkg_lives.proofs.Awaiting.{IsBefore, IsReached}
 use Rattle.dkg_lives.proofs.Former.{IsMessage, event_in_form, form_at, lacks_nobody, live_at, message_in, step_taken, through_at}
 use Rattle.dkg_lives.proofs.Stood.{begun_stands, step_stands}
@@ -43,7 +43,7 @@ pub record LeadsAlong {W : Type 0} (way : Way W) : Type 0 where
   pub steps : (c : Fixed directory.Unit) (st end : Live directory.Unit) (message : Message directory.Unit) (f : Burn) (w new : W) → IsFormThrough c → LacksNobody c → IsTakenThrough c message st
       → IsLiveThrough c any_shares st → IsActiveThrough st → way.goes (node_step c (event_of message) st) (went end) f w new → IsStepped c st message end
 
-pub lines_lead : LeadsAlong by_lines
+pub lines_lead : LeadsAlong by_entries
 lines_lead = record {
   opens = λ c st f t new form lacks goes. let its = node_openings_lead c (went st) t.out new.out form lacks goes.0 in (c.seen its.0, its.1, its.2);
   steps = λ c st end message f t new form lacks taken live active goes. (

@@ -62,8 +62,8 @@ abbrev pub trace : List Entry → (picks : List ℕ) → Trace
 trace out picks = record { out = out; picks = picks }
 
 -- over lines alone, of any devices: a cut is the fuse's
-abbrev pub by_lines : Way Trace
-by_lines = record {
+abbrev pub by_entries : Way Trace
+by_entries = record {
   goes = λ course ended f t now. Said (on_devices course) ended t.out now.out × (now.picks ≡ t.picks) × (ended ≡ broken by_cut → 0 < f.call);
   says = λ t line. record t { out = t.out ++ line ∷ [] };
   stops = λ t pick. record t { picks = t.picks ++ pick ∷ [] };

@@ -21,7 +21,7 @@ use Rattle.dkg_probe.specs.Acts.{ProbeActs, Say, Track, Goes, Stops, says_all, P
 use Rattle.dkg_probe.specs.Candidates.{Awaiting, Candidate, is_candidate, with_candidate, first_candidate, next_asked}
 use Rattle.dkg_probe.specs.OneEpoch.{OfOneEpoch, SaidSince}
 use Rattle.dkg_probe.specs.Probing as probing
-use Rattle.dkg_probe.specs.Probing.{ProbeFixed, Probes, latest_request, with_sample, with_awaited, asks_dealers, asks_peer_for, asks_next, one_more, is_done, is_first, activates, subscribes, retries_in, retries, with_known, artifact_line, of_genesis, resolves, begins_at, awaits_block, from_floor, dealers_in, samples, chooses, is_dealer, hears_latest, adds_candidate, hears_boundary, info_for, info_at_height, found_in, from_body, hears_body, hears_block, hears_in, discovers, response_to, answers_peer, serves, hears, takes}
+use Rattle.dkg_probe.specs.Probing.{ProbeFixed, Probes, latest_request, with_sample, with_awaited, asks_dealers, asks_peer_for, asks_next, one_more, is_done, is_first, activates, subscribes, retries_in, retries, with_known, artifact_entry, of_genesis, resolves, begins_at, awaits_block, from_floor, dealers_in, samples, chooses, is_dealer, hears_latest, adds_candidate, hears_boundary, info_for, info_at_height, found_in, from_body, hears_body, hears_block, hears_in, discovers, response_to, answers_peer, serves, hears, takes}
 use Rattle.dkg_probe.specs.Sampling.{awaits, sample_recorded, selected, floor_of, sample_forgotten}
 use Rattle.dkg_probe.specs.Sources.{ProbeSource}
 use Rattle.dkg_probe.specs.Wire.{ProbeReply, BoundaryReply, BlockReply, LatestReply, with_commitment, request_of, reply_of}
@@ -73,8 +73,8 @@ none_tracked P (Goes its) sets n all = refl
 none_tracked P (Stops its) sets n all = refl
 
 module _ {Dir : Type 0} (c : ProbeFixed Dir) (P : Entry → Probes Dir → Type 0) (Q : Type 0) (sent : (to : Option ℕ) (bytes : List ℕ) (acts : Probes Dir) → P (Sent to bytes) acts) (blocked : (peer : ℕ) (reason : BlockedWhy) (acts : Probes Dir) → P (Blocked peer reason) acts)
-    (found : (known : Known Dir) (st : State Dir) → known.info.epoch ≡ known.floor.epoch → P (artifact_line c.spelling known) (Goes (with_known known st)))
-    (genesis : (floor : Finalization) (st : State Dir) → floor.epoch ≡ 0 → P (artifact_line c.spelling (of_genesis c floor)) (Goes (with_known (of_genesis c floor) st))) where
+    (found : (known : Known Dir) (st : State Dir) → known.info.epoch ≡ known.floor.epoch → P (artifact_entry c.spelling known) (Goes (with_known known st)))
+    (genesis : (floor : Finalization) (st : State Dir) → floor.epoch ≡ 0 → P (artifact_entry c.spelling (of_genesis c floor)) (Goes (with_known (of_genesis c floor) st))) where
   abbrev Fine : Probes Dir → Type 0
   Fine = Each P Q
 
@@ -220,7 +220,7 @@ pub one_epoch_since : {Dir : Type 0} (c : ProbeFixed Dir) (lack : Option ℕ) (s
     → ProbeRuns (takes c lack source event st) ended out new → SaidSince (OfOneEpoch c.spelling) out new
 one_epoch_since {Dir} c lack source event st ended out new genesis ran =
     let P : Entry → Probes Dir → Type 0 = Said (OfOneEpoch c.spelling) in
-    let from_genesis : (floor : Finalization) (st : State Dir) → floor.epoch ≡ 0 → P (artifact_line c.spelling (of_genesis c floor)) (Goes (with_known (of_genesis c floor) st)) =
+    let from_genesis : (floor : Finalization) (st : State Dir) → floor.epoch ≡ 0 → P (artifact_entry c.spelling (of_genesis c floor)) (Goes (with_known (of_genesis c floor) st)) =
     λ floor st e. record { of = c.genesis; at = floor; info_is = refl; floor_is = refl; same = genesis ∙ sym e } in
     let all = takes_fine c P (Unit {0}) (λ to bytes acts. tt) (λ peer reason acts. tt) (λ known st e. record { of = known.info; at = known.floor; info_is = refl; floor_is = refl; same = e }) from_genesis tt lack source event st in
     said_running (OfOneEpoch c.spelling) (Unit {0}) (takes c lack source event st) ended out new all ran

@@ -28,7 +28,7 @@ use Rattle.dkg_probe.specs.declared.wire.Request.{Request}
 use Rattle.dkg_probe.specs.Acts.{Say, Track, Goes, Stops, says_all, ProbeCompletes}
 use Rattle.dkg_probe.specs.Candidates.{Awaiting, Candidate, all_candidates, is_candidate, new_awaiting, with_candidate, first_candidate, later_of, next_asked}
 use Rattle.dkg_probe.specs.Probing as probing
-use Rattle.dkg_probe.specs.Probing.{ProbeFixed, Probes, latest_request, request_line, with_sample, with_awaited, asks_dealers, asks_peer_for, asks_next, one_more, is_done, is_first, activates, subscribes, retries_in, retries, with_known, artifact_line, of_genesis, resolves, begins_at, awaits_block, from_floor, dealers_in, samples, chooses, is_dealer, hears_latest, adds_candidate, hears_boundary, info_for, info_at_height, found_in, refuses, from_body, hears_body, hears_block, hears_in, discovers, response_to, answers_peer, serves, hears, takes, then_serves, new_state}
+use Rattle.dkg_probe.specs.Probing.{ProbeFixed, Probes, latest_request, request_entry, with_sample, with_awaited, asks_dealers, asks_peer_for, asks_next, one_more, is_done, is_first, activates, subscribes, retries_in, retries, with_known, artifact_entry, of_genesis, resolves, begins_at, awaits_block, from_floor, dealers_in, samples, chooses, is_dealer, hears_latest, adds_candidate, hears_boundary, info_for, info_at_height, found_in, refuses, from_body, hears_body, hears_block, hears_in, discovers, response_to, answers_peer, serves, hears, takes, then_serves, new_state}
 use Rattle.dkg_probe.specs.Sampling.{Sampled, Replies, reply_at, awaits, sample_recorded, better, is_higher, highest, is_enough, selected, floor_of, sample_forgotten}
 use Rattle.dkg_probe.specs.Sound.{CountsAsReply, IsFloor, OffersBlock, Waits, FromBlock, FromGenesis, IsFound, IsSoundState, KeepsArtifact}
 use Rattle.dkg_probe.specs.Sources.{ProbeSource}

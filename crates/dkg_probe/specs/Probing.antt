@@ -73,12 +73,12 @@ abbrev pub asks_dealers : {Dir : Type 0} → ProbeFixed Dir → State Dir → Pr
 asks_dealers c st = says_all (map latest_request c.bootstrap.participants.dealers) (Goes (with_sample (sample_forgotten st.sample) st))
 
 -- A candidate is asked for the block, or all are asked for its finalization.
-abbrev pub request_line : Option Candidate → (epoch : ℕ) → Entry
-request_line None epoch = Sent None (0 ∷ uint epoch)
-request_line (Some candidate) epoch = Sent (Some candidate.0) (2 ∷ uint epoch)
+abbrev pub request_entry : Option Candidate → (epoch : ℕ) → Entry
+request_entry None epoch = Sent None (0 ∷ uint epoch)
+request_entry (Some candidate) epoch = Sent (Some candidate.0) (2 ∷ uint epoch)
 
 abbrev pub asks_peer_for : {Dir : Type 0} → Option Candidate → (epoch : ℕ) → State Dir → Probes Dir
-asks_peer_for candidate epoch st = Say (request_line candidate epoch) (Goes st)
+asks_peer_for candidate epoch st = Say (request_entry candidate epoch) (Goes st)
 
 -- The candidate that was asked is dropped, and the next one is asked.
 abbrev pub asks_next : {Dir : Type 0} → Awaiting → State Dir → Probes Dir
@@ -122,11 +122,11 @@ retries c st = if is_done st || (st.subscribers == 0) then Goes st else retries_
 abbrev pub with_known : {Dir : Type 0} → Known Dir → State Dir → State Dir
 with_known known st = record st { subscribers = 0; awaited = None; known = Some known }
 
-abbrev pub artifact_line : {Dir : Type 0} → (Dir → List ℕ) → Known Dir → Entry
-artifact_line spelling known = Artifact (payload_spelling spelling (info_payload known.info)) (finalization_spelling known.floor)
+abbrev pub artifact_entry : {Dir : Type 0} → (Dir → List ℕ) → Known Dir → Entry
+artifact_entry spelling known = Artifact (payload_spelling spelling (info_payload known.info)) (finalization_spelling known.floor)
 
 abbrev pub resolves : {Dir : Type 0} → (Dir → List ℕ) → Known Dir → State Dir → Probes Dir
-resolves spelling known st = Say (artifact_line spelling known) (Goes (with_known known st))
+resolves spelling known st = Say (artifact_entry spelling known) (Goes (with_known known st))
 
 abbrev pub of_genesis : {Dir : Type 0} → ProbeFixed Dir → Finalization → Known Dir
 of_genesis c floor = record { finalization = None; info = c.genesis; floor = floor }

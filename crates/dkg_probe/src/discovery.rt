@@ -6,7 +6,7 @@ ghost use Rattle.dkg_types.specs.PayloadCodes.{payload_spelling, info_payload};
 ghost use Rattle.dkg_types.specs.Tracking.{AnswersTracking, with_set};
 ghost use Rattle.dkg_probe.specs.Acts.{IsFront, ProbeRuns, ManagerTracks};
 ghost use Rattle.dkg_probe.specs.Candidates.{first_candidate, next_asked};
-ghost use Rattle.dkg_probe.specs.Probing.{activates, asks_dealers, begins_at, discovers, probe_ended_by, ended_in, fixed, from_floor, hears_body, hears_in, hears_latest, info_at_height, is_done, is_first, latest_request, refuses, request_line, resolves, retries, samples, subscribes, tracked_of};
+ghost use Rattle.dkg_probe.specs.Probing.{activates, asks_dealers, begins_at, discovers, probe_ended_by, ended_in, fixed, from_floor, hears_body, hears_in, hears_latest, info_at_height, is_done, is_first, latest_request, refuses, request_entry, resolves, retries, samples, subscribes, tracked_of};
 ghost use Rattle.dkg_probe.specs.Wire.{BlockReply, BoundaryReply, with_commitment, reply_of, said_by};
 
 use crate::artifact::Artifact;
@@ -87,7 +87,7 @@ fn ask_next<Dir: Directory + Drop>(
     out: &mut Transcript,
 ) -> Mem<()>
     ensures next { awaited.new ≡ next_asked awaited.old }
-    ensures ok { OnOk result (out.new.entries ≡ out.old.entries ++ request_line (first_candidate awaited.old.others) awaited.old.floor.epoch ∷ []) }
+    ensures ok { OnOk result (out.new.entries ≡ out.old.entries ++ request_entry (first_candidate awaited.old.others) awaited.old.floor.epoch ∷ []) }
     ensures err { OnErr result (out.new.entries ≡ out.old.entries) }
 {
     let epoch = awaited.floor().epoch;

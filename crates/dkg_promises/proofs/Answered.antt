@@ -39,7 +39,7 @@ use Rattle.dkg_core.specs.Logs.{canonical, filled_by}
 use Rattle.dkg_core.specs.Node.{node_step}
 use Rattle.dkg_laws.specs.NodeSaying.{IsHalfLine}
 use Rattle.dkg_core.specs.Said.{Said}
-use Rattle.dkg_core.specs.SayingThrough.{IsBlockAnswer, IsFinalAnswer, IsLineThrough, IsMailLine, IsReadAnswer, IsUnasked, IsWaitedAnswer, OfRequest, payload_by}
+use Rattle.dkg_core.specs.SayingThrough.{IsBlockAnswer, IsFinalAnswer, IsLineThrough, IsMailEntry, IsReadAnswer, IsUnasked, IsWaitedAnswer, OfRequest, payload_by}
 use Rattle.dkg_core.specs.Sources.{Tip}
 use Rattle.dkg_core.specs.Stepping.{dealt_behind, given_itself}
 use Rattle.dkg_core.specs.Through.{IsLiveThrough, asked_by, included}
@@ -296,7 +296,7 @@ module _ {Known : Knows} (g : Lived) (here : IsLifeInForm g) (i : ℕ) (its : Ev
   waits_on : (number : ℕ) → ((s : RequestStanding) → IsUncancelled s → IsUncancelled (turns number s its)) → IsAwaited g Known e i st.inclusion.running st.participation.round number → IsUncancelled (request_standing g.life number (suc i))
   waits_on number keeps one = subst IsUncancelled (sym (stands_more number g.life i its is)) (keeps (request_standing g.life number i) one.uncancelled)
 
-  mail_answers : (mail : Mail U) → m.message ≡ Mailed mail → (line : Entry) → IsMailLine c st mail line → IsSaidHere line
+  mail_answers : (mail : Mail U) → m.message ≡ Mailed mail → (line : Entry) → IsMailEntry c st mail line → IsSaidHere line
   mail_answers (Peer from bytes) sent line said = unasked_so line said
   mail_answers (NextLog number height) sent line said = subst (λ (x : Entry). IsSaidHere x) (sym said.1) tt
   mail_answers (ReleaseLog height) sent line said = absurd said

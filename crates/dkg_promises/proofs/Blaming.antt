@@ -62,7 +62,7 @@ use Rattle.dkg_lives.specs.Epochs.{IsAtEvent, IsChecked, IsLifeInForm, StandsInS
 use Rattle.dkg_lives.specs.Given.{Lived, anchor_in, at_step, blocks_in, lived, step_of}
 use Rattle.dkg_lives.specs.Lives.{LivesSo, RunsAllSo, RunsSo, Steps, TakesAll, TellsEnd, fuse_for}
 use Rattle.dkg_promises.specs.SharesStand.{ComesInto, TellsCommit}
-use Rattle.dkg_lives.specs.Ways.{ReadsSomething, Trace, by_lines}
+use Rattle.dkg_lives.specs.Ways.{ReadsSomething, Trace, by_entries}
 use Rattle.dkg_promises.proofs.Answered.{IsSaidAt, answered_so, step_answers, unanswered_so}
 use Rattle.dkg_lives.proofs.Apart.{IsApart, Reads, node_apart}
 use Rattle.dkg_along.proofs.Asking.{AreMade, IsCarried, info_later, opening_carried, opening_made, step_carried, step_made}
@@ -490,7 +490,7 @@ module _ (script : Script) (life : Life) (l : ℕ) (life_is : slice_get script.l
       (whole : IsReached life.cut j → (IsCutBefore life.cut j → ⊥) → (end : Live directory.Unit) (out now : List Entry) → Said (on_devices course) (went end) out now → Moves (Says script) (IsBefore life l j) (IsToldIn j opened) out now) where
     steps_judged : (fuse : Option Burn) → fuse_for life.cut j ≡ fuse → (t new : Trace) (how : Result (Unit {0}) Stop) (next : Live directory.Unit → Trace → Type 0)
         → (IsReached life.cut j → (end : Live directory.Unit) (mid : Trace) → Next end → next end mid → Moves (Says script) (IsBehind life l j) (Ends how) mid.out new.out)
-        → Steps by_lines (entry.Step j) fuse course t how new next → Moves (Says script) (IsBefore life l j) (Ends how) t.out new.out
+        → Steps by_entries (entry.Step j) fuse course t how new next → Moves (Says script) (IsBefore life l j) (Ends how) t.out new.out
     steps_judged None none t new how next after its = subst (λ (r : Result (Unit {0}) Stop). Moves (Says script) (IsBefore life l j) (Ends r) t.out new.out) (sym its.0)
         (moves_none (Says script) (IsBefore life l j) (IsAtCut life l) t.out new.out (ap (λ (x : Trace). x.out) its.1) (λ s p is. cut_before life l j s p (unlit life.cut j none) is))
     steps_judged (Some f) lit t new how next after (inl wants) = subst (λ (r : Result (Unit {0}) Stop). Moves (Says script) (IsBefore life l j) (Ends r) t.out new.out) (sym wants.0)
@@ -511,7 +511,7 @@ module _ (script : Script) (life : Life) (l : ℕ) (life_is : slice_get script.l
         let came = comes reached (went end) t.out mid.out goes.0 in
         moves_then (Says script) (IsBefore life l j) (IsToldIn j opened) (Ends how) t.out mid.out new.out (whole (reached_lit life.cut j f lit uncut) (lit_begins life.cut j f lit) end t.out mid.out goes.0)
         (moves_then (Says script) (IsToldIn j opened) (IsBehind life l j) (Ends how) mid.out (mid.out ++ entry.Step j ∷ []) new.out (step_part j opened mid.out has came.1)
-        (after reached end (by_lines.says mid (entry.Step j)) came.0 so))
+        (after reached end (by_entries.says mid (entry.Step j)) came.0 so))
 
 -- A LIFE
 
@@ -521,7 +521,7 @@ module _ (g : Lived) (here : IsLifeInForm g) where
 
   event_judged : (i : ℕ) (e : Event) (st : Live directory.Unit) → slice_get g.life.events i ≡ Some e → IsUncut g.life.cut (suc i) → Known g here i st → (t new : Trace) (how : Result (Unit {0}) Stop) (next : Live directory.Unit → Trace → Type 0)
       → (IsReached g.life.cut (suc i) → (end : Live directory.Unit) (mid : Trace) → Known g here (suc i) end → next end mid → Moves (Says g.script) (IsBehind g.life g.number (suc i)) (EndsHere how) mid.out new.out)
-      → Steps by_lines (entry.Step (suc i)) (fuse_for g.life.cut (suc i)) (step_of g (suc i) e st) t how new next → Moves (Says g.script) (IsBefore g.life g.number (suc i)) (EndsHere how) t.out new.out
+      → Steps by_entries (entry.Step (suc i)) (fuse_for g.life.cut (suc i)) (step_of g (suc i) e st) t how new next → Moves (Says g.script) (IsBefore g.life g.number (suc i)) (EndsHere how) t.out new.out
   event_judged i e st e_is uncut known t new how next after steps =
       steps_judged g.script g.life g.number here.life_is (suc i) false (λ first. absurd (later first)) (step_of g (suc i) e st) (Known g here (suc i)) uncut
       (λ reached ended out now said. step_comes g here i e e_is reached st known.stood known.held ended out now said)
@@ -549,7 +549,7 @@ module _ (g : Lived) (here : IsLifeInForm g) where
           (subst (λ (xs : List Entry). AllByRecursion (CommitsInto g.script g.number g.life (suc i)) xs) (append_cancel_left out commits.0 adds.added (sym commits.1 ∙ adds.parts)) commits.2)
 
   takes_judged : (i : ℕ) (events : List Event) (st : Live directory.Unit) (t new : Trace) (how : Result (Unit {0}) Stop) → i ≤ length g.life.events → events ≡ drop i g.life.events → IsUncut g.life.cut (suc i) → Known g here i st
-      → TakesAll by_lines g (suc i) events st t how new → Moves (Says g.script) (IsBehind g.life g.number i) (EndsHere how) t.out new.out
+      → TakesAll by_entries g (suc i) events st t how new → Moves (Says g.script) (IsBehind g.life g.number i) (EndsHere how) t.out new.out
   takes_judged i [] st t new how within rest uncut stood its =
       subst (λ (r : Result (Unit {0}) Stop). Moves (Says g.script) (IsBehind g.life g.number i) (EndsHere r) t.out new.out) (sym its.0)
       (moves_none (Says g.script) (IsBehind g.life g.number i) (IsBetween (g.number + 1)) t.out new.out (ap (λ (x : Trace). x.out) its.1) (λ s p at. at.last all))
@@ -559,9 +559,9 @@ module _ (g : Lived) (here : IsLifeInForm g) where
   takes_judged i (e ∷ events) st t new how within rest uncut stood takes =
       moves_then (Says g.script) (IsBehind g.life g.number i) (IsBefore g.life g.number (suc i)) (EndsHere how) t.out t.out new.out
       (moves_none (Says g.script) (IsBehind g.life g.number i) (IsBefore g.life g.number (suc i)) t.out t.out refl (λ s p at. subst (λ (j : ℕ). IsBefore g.life g.number j s p) (add-one i) (at.next below)))
-      (event_judged i e st (item_at g.life.events i e events rest) uncut stood t new how (λ end mid. TakesAll by_lines g (suc i + 1) events end mid how new)
+      (event_judged i e st (item_at g.life.events i e events rest) uncut stood t new how (λ end mid. TakesAll by_entries g (suc i + 1) events end mid how new)
       (λ reached end mid next so. takes_judged (suc i) events end mid new how (omega (arith, below)) (rest_at g.life.events i e events rest) (before_suc g.life.cut (suc i) reached) next
-      (subst (λ (j : ℕ). TakesAll by_lines g j events end mid how new) (add-one (suc i)) so)) takes)
+      (subst (λ (j : ℕ). TakesAll by_entries g j events end mid how new) (add-one (suc i)) so)) takes)
     where
       below : i < length g.life.events
       below = let some : suc (length events) ≡ length g.life.events - i = ap length rest ∙ length-drop i g.life.events in omega (arith, some)
@@ -592,7 +592,7 @@ module _ (g : Lived) (here : IsLifeInForm g) where
   opens_within not ended out now said (inr adds) = moves_within (Says g.script) (IsBefore g.life g.number 0) (IsBefore g.life g.number 0) (IsWithin g.life g.number 0 true) (λ s p. (so : Bool) × IsWithin g.life g.number 0 so s p) out now
       (λ s p at. at) (λ s p at. (true, at)) (opens_part not ended out now said adds)
 
-  life_judged : (files : Files) (t new : Trace) (how : Result (Unit {0}) Stop) → LivesSo by_lines g files t how new → Moves (Says g.script) (IsBefore g.life g.number 0) (EndsHere how) t.out new.out
+  life_judged : (files : Files) (t new : Trace) (how : Result (Unit {0}) Stop) → LivesSo by_entries g files t how new → Moves (Says g.script) (IsBefore g.life g.number 0) (EndsHere how) t.out new.out
   life_judged files t new how (inl steps) =
       steps_judged g.script g.life g.number here.life_is 0 true (λ first. refl) (node_opening (at_step g 0)) (Known g here 0) (before_all g.life.cut) (λ reached. opening_comes g here)
       (λ reached not stop out now said. opens_within not (by_node_stop stop) out now said (opening_added g.number out now (by_node_stop stop) (opened_in g (by_node_stop stop) out now said)))
@@ -601,7 +601,7 @@ module _ (g : Lived) (here : IsLifeInForm g) where
       told_part g.script g.life g.number here.life_is 0 true out now (entry.Opened g.number adds.restored ∷ adds.more) adds.parts
       (λ s p none. all_written s adds.more (read s p (entry.Opened g.number adds.restored)) adds.quiet ∙ ap (λ (xs : List Entry). (xs ++ entry.Opened g.number adds.restored ∷ []) ++ adds.more) none)
       (opening_tells g here end out now said) (opens_part not (went end) out now said adds))
-      (fuse_for g.life.cut 0) refl t new how (λ end mid. TakesAll by_lines g 1 g.life.events end mid how new)
+      (fuse_for g.life.cut 0) refl t new how (λ end mid. TakesAll by_entries g 1 g.life.events end mid how new)
       (λ reached end mid next so. takes_judged 0 g.life.events end mid new how (omega arith) refl (before_suc g.life.cut 0 reached) next so) steps
   life_judged files t new how (inr refused) = absurd refused.1.2
 
@@ -611,7 +611,7 @@ module _ (script : Script) (checked : IsChecked script) (each_over : (l : ℕ) (
   cut_judged : (life : Life) (l : ℕ) (its : cut.Cut) (out now : List Entry) → life.cut ≡ Some its → now ≡ out ++ entry.Cut its.step its.call ∷ [] → Moves (Says script) (IsAtCut life l) (IsBetween (l + 1)) out now
   cut_judged life l its out now cut_is is = judged_by script (IsAtCut life l) (IsBetween (l + 1)) out now (entry.Cut its.step its.call ∷ []) is (λ s p at. ((tt, (tt, tt)), tt)) (moves_cut life l its out now cut_is is)
 
-  all_told : (first : Files → Type 0) (t new : Trace) (result : Result (Unit {0}) Fault) → RunsAllSo by_lines script first t result new
+  all_told : (first : Files → Type 0) (t new : Trace) (result : Result (Unit {0}) Fault) → RunsAllSo by_entries script first t result new
       → Moves (Says script) (IsBetweenOf script 0) (RunEndsBy (TellsWhy script) script result) t.out new.out
   all_told first t new result runs = all_move (Says script) (TellsWhy script) (λ s p. inl tt) cut_judged script
       (λ l life seen files at reads t mid how so. life_judged (lived script l life seen files) (each_over l life seen files at reads) files t mid how so)
@@ -620,7 +620,7 @@ module _ (script : Script) (checked : IsChecked script) (each_over : (l : ℕ) (
       none_some : {x : Fault} → ◌≡◌ {A = Option Fault} None (Some x) → ⊥
       none_some e = cc
 
-  pub all_judged : (first : Files → Type 0) (t new : Trace) (result : Result (Unit {0}) Fault) → RunsAllSo by_lines script first t result new
+  pub all_judged : (first : Files → Type 0) (t new : Trace) (result : Result (Unit {0}) Fault) → RunsAllSo by_entries script first t result new
       → Moves (Judges script) (IsBetweenOf script 0) (RunEndsBy (TellsWhy script) script result) t.out new.out
   all_judged first t new result runs =
       let moves = all_told first t new result runs in
@@ -647,10 +647,10 @@ module _ (script : Script) (checked : IsChecked script) (each_over : (l : ℕ) (
       told : (files : Files) (held : Secrets) → AtEachEntry (setting_of script files held) (Says script (setting_of script files held)) added
       told files held = let s = setting_of script files held in at_each s (Says script s) added (each_after s (Says script s) added (at_start s) (each s (at_start s) (starts script files held)))
 
-  pub run_tells : (first : Files → Type 0) (t new : Trace) (answered : Result (Unit {0}) Fault) → RunsSo by_lines script first t answered new → Adds t.out new.out Tells
+  pub run_tells : (first : Files → Type 0) (t new : Trace) (answered : Result (Unit {0}) Fault) → RunsSo by_entries script first t answered new → Adds t.out new.out Tells
   run_tells first t new answered run = by_result run.result (all_told first t run.mid run.result run.lives) answered run.told
     where
-      not_ok : (its : Fault) → TellsEnd by_lines (Err its) (Ok tt) run.mid new → ⊥
+      not_ok : (its : Fault) → TellsEnd by_entries (Err its) (Ok tt) run.mid new → ⊥
       not_ok its (inl wants) = let wrong : ◌≡◌ {A = Result (Unit {0}) Fault} (Ok tt) (Err NoMemory) = wants.0 in cc
       not_ok its (inr told) = let wrong : ◌≡◌ {A = Result (Unit {0}) Fault} (Ok tt) (Err its) = told.0 in cc
 
@@ -666,16 +666,16 @@ module _ (script : Script) (checked : IsChecked script) (each_over : (l : ℕ) (
       )
 
       by_result : (result : Result (Unit {0}) Fault) → Moves (Says script) (IsBetweenOf script 0) (RunEndsBy (TellsWhy script) script result) t.out run.mid.out
-          → (answered : Result (Unit {0}) Fault) → TellsEnd by_lines result answered run.mid new → Adds t.out new.out Tells
+          → (answered : Result (Unit {0}) Fault) → TellsEnd by_entries result answered run.mid new → Adds t.out new.out Tells
       by_result (Ok done) moves answered told = unchanged (IsBetweenOf script (length script.lives)) moves (ap (λ (x : Trace). x.out) told.1)
       by_result (Err its) moves (Ok done) told = absurd (not_ok its told)
       by_result (Err its) moves (Err answered) told = faulted its moves answered (tells_fault its answered run.mid new told)
 
-  pub run_blames : (first : Files → Type 0) (t new : Trace) (answered : Result (Unit {0}) Fault) → RunsSo by_lines script first t answered new → Adds t.out new.out (BlamesSo script)
+  pub run_blames : (first : Files → Type 0) (t new : Trace) (answered : Result (Unit {0}) Fault) → RunsSo by_entries script first t answered new → Adds t.out new.out (BlamesSo script)
   run_blames first t new answered run = let told = run_tells first t new answered run in (told.0, told.1, told.2.0)
 
-  pub run_answers : (first : Files → Type 0) (t new : Trace) (answered : Result (Unit {0}) Fault) → RunsSo by_lines script first t answered new → Adds t.out new.out (AnswersSo script)
+  pub run_answers : (first : Files → Type 0) (t new : Trace) (answered : Result (Unit {0}) Fault) → RunsSo by_entries script first t answered new → Adds t.out new.out (AnswersSo script)
   run_answers first t new answered run = let told = run_tells first t new answered run in (told.0, told.1, told.2.1.0)
 
-  pub run_commits : (first : Files → Type 0) (t new : Trace) (answered : Result (Unit {0}) Fault) → RunsSo by_lines script first t answered new → Adds t.out new.out CommitsIn
+  pub run_commits : (first : Files → Type 0) (t new : Trace) (answered : Result (Unit {0}) Fault) → RunsSo by_entries script first t answered new → Adds t.out new.out CommitsIn
   run_commits first t new answered run = let told = run_tells first t new answered run in (told.0, told.1, told.2.1.1)

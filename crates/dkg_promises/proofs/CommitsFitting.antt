@@ -34,7 +34,7 @@ use Rattle.dkg_core.specs.Courses.{Course, EndsSo}
 use Rattle.dkg_core.specs.Endings.{CameTo, first_block, first_epoch}
 use Rattle.dkg_core.specs.Fixed.{Fixed}
 use Rattle.dkg_core.specs.Forms.{IsNodeBegun, IsOpeningStop, LeavesHeld, held_behind}
-use Rattle.dkg_laws.specs.Idle.{IsAskedLine}
+use Rattle.dkg_laws.specs.Idle.{IsAskedEntry}
 use Rattle.dkg_core.specs.Live.{Finalized, Live, Message, NodeStop, Peer, Mailed}
 use Rattle.dkg_core.specs.Node.{node_opening, node_step}
 use Rattle.dkg_core.specs.NodeEndings.{IsFaultBy}
@@ -181,7 +181,7 @@ module _ (s : Setting) (cuts : List (Option CutAt)) (form : IsFormOfInclusion s.
             fits line taken = tt
         by_kind (inr (inl p)) = said_over P (node_step c (event_of (Mailed (Peer p.0 p.1))) st) ended w new (peer_over c (FitsAt s) p.0 p.1 st w.held) (run_of (Mailed (Peer p.0 p.1)) p.3)
         by_kind (inr (inr o)) =
-            let idle = mails_are_idle c o.0 st ended w new o.2 active.active.unawaited (run_of (Mailed o.0) o.1) in (idle.lines, idle.out, all_as IsAskedLine P idle.lines (asked c (FitsAt s)) idle.says)
+            let idle = mails_are_idle c o.0 st ended w new o.2 active.active.unawaited (run_of (Mailed o.0) o.1) in (idle.lines, idle.out, all_as IsAskedEntry P idle.lines (asked c (FitsAt s)) idle.says)
 
   module _ (base : List Entry) where
     abbrev World_so : World → Type 0

@@ -54,7 +54,7 @@ use Rattle.dkg_core.specs.Node.{kept_material, node_opening, node_step, unless_o
 use Rattle.dkg_laws.specs.NodeSaying.{IsHalfLine}
 use Rattle.dkg_core.specs.Plans as p
 use Rattle.dkg_core.specs.Said.{Said, SaysAll}
-use Rattle.dkg_core.specs.SayingThrough.{IsLineThrough, IsMailLine, SaysSo}
+use Rattle.dkg_core.specs.SayingThrough.{IsLineThrough, IsMailEntry, SaysSo}
 use Rattle.dkg_core.specs.Setup as s
 use Rattle.dkg_core.specs.Sources.{Tip, startup}
 use Rattle.dkg_core.specs.Through.{IsLiveThrough, unasked}
@@ -538,7 +538,7 @@ module _ (g : Lived) (here : IsLifeInForm g) where
         answer_apart : (epoch number : ℕ) (share : Option ℕ) (answer : AnswerLine) → Committed epoch share ≡ Answer number answer → ⊥
         answer_apart epoch number share answer e = cc
 
-        by_mail : (mail : Mail U) (line : Entry) → IsMailLine c st mail line → OnCommit IntoHere line
+        by_mail : (mail : Mail U) (line : Entry) → IsMailEntry c st mail line → OnCommit IntoHere line
         by_mail (Peer from bytes) (Committed epoch share) said = absurd said
         by_mail (NextLog number height) (Committed epoch share) said = absurd (log_apart epoch number share said.0 said.1)
         by_mail (ReleaseLog height) (Committed epoch share) said = absurd said

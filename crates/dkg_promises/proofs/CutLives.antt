@@ -32,7 +32,7 @@ use Rattle.dkg_life.specs.declared.stop.Stop.TheVariants.{Cut, Failed, Fault as 
 use Rattle.dkg_lives.specs.Ended.{by_node_stop}
 use Rattle.dkg_lives.specs.Given.{Lived, anchor_in, at_step, blocks_in, delivered_by, node_event_in, lived, numbered, step_of, unsealed}
 use Rattle.dkg_lives.specs.Lives.{AnyFiles, EndsLife, LivesFrom, LivesSo, RunsAllSo, RunsOver, RunsSo, Steps, TakesAll, TellsEnd, fuse_for, never}
-use Rattle.dkg_lives.specs.Ways.{Way, by_lines, by_worlds, trace}
+use Rattle.dkg_lives.specs.Ways.{Way, by_entries, by_worlds, trace}
 use Rattle.dkg_along.proofs.Ordered.{lit_within, unlit}
 use Rattle.dkg_promises.proofs.Keeping.{lives_of, same_behind}
 use Rattle.dkg_along.proofs.Leading.{After, IsInStep, Leads, TellsLines, leads_none, leads_then, life_leads, lines_tell, worlds_tell}
@@ -346,9 +346,9 @@ module _ (script : Script) (files : Files) (held : Secrets) (answered : Result (
             (same_behind old its.added added (sym its.out ∙ is)) its.so;
       }
 
-  pub lines_cut : (first : Files → Type 0) (picks : List ℕ) → RunsSo by_lines script first (trace old []) answered (trace new picks)
-      → RunsSo by_lines (as_cut (its_ends added) script) first (trace old []) answered (trace new picks)
+  pub lines_cut : (first : Files → Type 0) (picks : List ℕ) → RunsSo by_entries script first (trace old []) answered (trace new picks)
+      → RunsSo by_entries (as_cut (its_ends added) script) first (trace old []) answered (trace new picks)
   unfolding lines_tell
   lines_cut first picks run =
-      let its = runs_cut by_lines lines_tell script files held first (trace old []) answered (trace new picks) run in
-      subst (λ (lines : List Entry). RunsSo by_lines (as_cut (its_ends lines) script) first (trace old []) answered (trace new picks)) (same_behind old its.added added (sym its.out ∙ is)) its.so
+      let its = runs_cut by_entries lines_tell script files held first (trace old []) answered (trace new picks) run in
+      subst (λ (lines : List Entry). RunsSo by_entries (as_cut (its_ends lines) script) first (trace old []) answered (trace new picks)) (same_behind old its.added added (sym its.out ∙ is)) its.so

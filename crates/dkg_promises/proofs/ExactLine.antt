@@ -76,7 +76,7 @@ use Rattle.dkg_promises.proofs.ExactSteps.{ExactHere, SomeAt}
 use Rattle.dkg_lives.proofs.Former.{life_in, live_through}
 use Rattle.dkg_promises.proofs.LastLogs.{canonical_chain}
 use Rattle.dkg_along.proofs.LifeSteps.{IsGoing, IsLifeOfSetting}
-use Rattle.dkg_along.proofs.LineLives.{come}
+use Rattle.dkg_along.proofs.EntryLives.{come}
 use Rattle.dkg_along.proofs.MarksAt.{gives_recorded, lacks_none}
 use Rattle.dkg_lives.proofs.NextLives.{applied_so}
 use Rattle.dkg_along.proofs.Plays.{deals_early}

@@ -34,7 +34,7 @@ use Rattle.dkg_promises.proofs.ExactSteps.{ExactBetween}
 use Rattle.dkg_promises.proofs.ExactTold.{ExactEntry, SharesBetween, SharesHere, exact_leads}
 use Rattle.dkg_promises.proofs.Keeping.{IsGivenSetting}
 use Rattle.dkg_along.proofs.LifeSteps.{IsLifeOfSetting}
-use Rattle.dkg_along.proofs.LineLives.{EachTold, KnownAfter, known_of, told_at}
+use Rattle.dkg_along.proofs.EntryLives.{EachTold, KnownAfter, known_of, told_at}
 use Rattle.dkg_along.proofs.LivesTold.{Anything}
 use Rattle.dkg_along.proofs.MarksAt.{handed_known}
 use Rattle.dkg_promises.proofs.NotedFirst.{handed_noted}

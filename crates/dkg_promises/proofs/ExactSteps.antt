@@ -39,7 +39,7 @@ use Rattle.dkg_core.specs.Courses.{Course, EndsSo}
 use Rattle.dkg_core.specs.Endings.{CameTo, first_block, first_epoch}
 use Rattle.dkg_core.specs.Fixed.{Fixed, OneShot, has}
 use Rattle.dkg_core.specs.Forms.{Applied, IsNodeBegun, IsOpeningStop, IsSeated, IsSetUpIn, Judged, LeavesHeld, Passed, Refusal, held_behind, judged_block, seed_read, share_read, started}
-use Rattle.dkg_laws.specs.Idle.{IsAskedLine, LeavesIdle}
+use Rattle.dkg_laws.specs.Idle.{IsAskedEntry, LeavesIdle}
 use Rattle.dkg_core.specs.Live as core
 use Rattle.dkg_core.specs.Live.{Deals, Ends, Finalized, Follows, Includes, Live, Mail, Message, NodeStop, Peer, Plays, Seat, Mailed, Stage, Watches, is_last_height, records_of_epoch}
 use Rattle.dkg_core.specs.Logs.{logs_of}
@@ -69,7 +69,7 @@ use Rattle.dkg_lives.proofs.Currently.{begun_behind, begun_more}
 use Rattle.dkg_lives.proofs.Former.{BringsBlock, BringsOther, BringsPeer, IsMadeOf, IsMessage, brings_kind, event_in_form, form_at, lacks_nobody, life_in, live_through, message_in, step_taken, through_at}
 use Rattle.dkg_along.proofs.KeptSteps.{IsAtStep}
 use Rattle.dkg_along.proofs.LifeSteps.{IsGoing, IsLifeOfSetting}
-use Rattle.dkg_along.proofs.LineLives.{come, come_more}
+use Rattle.dkg_along.proofs.EntryLives.{come, come_more}
 use Rattle.dkg_along.proofs.LivesKept.{IsBetween, taken_before, taken_within}
 use Rattle.dkg_promises.proofs.OfferedHalves.{all_of}
 use Rattle.dkg_along.proofs.RunKept.{cuts_all}
@@ -184,13 +184,13 @@ abbrev NoCommit : Entry → Type 0
 NoCommit (entry.Committed epoch share) = ⊥
 NoCommit line = Unit {0}
 
-asked_last : (lines : List Entry) (last : Option (ℕ × Part)) → AllByRecursion IsAskedLine lines → set_up_last last lines ≡ last
+asked_last : (lines : List Entry) (last : Option (ℕ × Part)) → AllByRecursion IsAskedEntry lines → set_up_last last lines ≡ last
 asked_last [] last all = refl
 asked_last (entry.Answer request answer ∷ lines) last all = asked_last lines last all.1
 asked_last (entry.Log request log ∷ lines) last all = asked_last lines last all.1
 asked_last (line ∷ lines) last all = absurd all.0
 
-asked_commits : (lines : List Entry) (last : Option (ℕ × Part)) → AllByRecursion IsAskedLine lines → AtCommits Never last lines
+asked_commits : (lines : List Entry) (last : Option (ℕ × Part)) → AllByRecursion IsAskedEntry lines → AtCommits Never last lines
 asked_commits [] last all = tt
 asked_commits (entry.Answer request answer ∷ lines) last all = (tt, asked_commits lines last all.1)
 asked_commits (entry.Log request log ∷ lines) last all = (tt, asked_commits lines last all.1)

@@ -62,7 +62,7 @@ use Rattle.dkg_promises.proofs.ExactSteps.{ExactBetween, ExactHere, Never, SomeA
 use Rattle.dkg_lives.proofs.Former.{BringsBlock, BringsMail, IsMadeOf, IsMessage, brings_so, event_in_form, message_in}
 use Rattle.dkg_along.proofs.KeptSteps.{IsAtStep}
 use Rattle.dkg_along.proofs.LifeSteps.{IsGoing, IsLifeOfSetting}
-use Rattle.dkg_along.proofs.LineLives.{After, EachTold, KnownAfter, LeadsOn, Left, come, come_more}
+use Rattle.dkg_along.proofs.EntryLives.{After, EachTold, KnownAfter, LeadsOn, Left, come, come_more}
 use Rattle.dkg_along.proofs.LivesTold.{Anything, BaseBetween, BaseHere, base_leads}
 use Rattle.dkg_promises.proofs.OfferedHalves.{all_of}
 use Rattle.dkg_along.proofs.Ordered.{opened_in, step_is_quiet}

@@ -53,7 +53,7 @@ use Rattle.dkg_lives.specs.Epochs.{IsChecked, IsLifeInForm, any_shares, awaited_
 use Rattle.dkg_lives.specs.Given.{Lived, at_step, lived, step_of}
 use Rattle.dkg_promises.specs.Leaves.{IsOldest, IsOpenRequest, LeavesNone, LeavesSo, NeedsBlocks, Verifies}
 use Rattle.dkg_lives.specs.Lives.{AnyFiles, EndsLife, LivesFrom, LivesSo, RunsAllSo, RunsSo, Steps, TakesAll, TellsEnd, fuse_for}
-use Rattle.dkg_lives.specs.Ways.{ReadsSomething, Trace, by_lines}
+use Rattle.dkg_lives.specs.Ways.{ReadsSomething, Trace, by_entries}
 use Rattle.dkg_lives.proofs.Accounting.{IsAnsweredIn, IsWaiting, none_in}
 use Rattle.dkg_promises.proofs.Answered.{IsSaidAt}
 use Rattle.dkg_lives.proofs.Apart.{IsApart, Reads, node_apart}
@@ -368,7 +368,7 @@ module _ (g : Lived) (here : IsLifeInForm g) where
   event_leaves : (i : ℕ) (its : Event) (st : Live U) (said : List Entry) → slice_get g.life.events i ≡ Some its → IsUncut g.life.cut (suc i) → Known g here i st → AreTracked g i st said → (fuse : Option Burn) → fuse_for g.life.cut (suc i) ≡ fuse
       → (t new : Trace) (how : Result (Unit {0}) Stop) (goes_on : Live U → Trace → Type 0)
       → (IsReached g.life.cut (suc i) → (end : Live U) (mid : Trace) (more : List Entry) → Known g here (suc i) end → AreTracked g (suc i) end more → goes_on end mid → GrowsOn g.script (Mine (past (suc i) more)) mid.out new.out)
-      → Steps by_lines (entry.Step (suc i)) fuse (step_of g (suc i) its st) t how new goes_on → GrowsOn g.script (Mine (past i said)) t.out new.out
+      → Steps by_entries (entry.Step (suc i)) fuse (step_of g (suc i) its st) t how new goes_on → GrowsOn g.script (Mine (past i said)) t.out new.out
   event_leaves i its st said is uncut known tracked None none t new how goes_on more steps = grows_none g.script (Mine (past i said)) t.out new.out (ap (λ (x : Trace). x.out) steps.1)
   event_leaves i its st said is uncut known tracked (Some f) lit t new how goes_on more (inl wants) = grows_none g.script (Mine (past i said)) t.out new.out (ap (λ (x : Trace). x.out) wants.1)
   event_leaves i its st said is uncut known tracked (Some f) lit t new how goes_on more (inr (inl (stop, ended, goes))) =
@@ -383,15 +383,15 @@ module _ (g : Lived) (here : IsLifeInForm g) where
       let known_end : Known g here (suc i) end = next i its is reached st said known tracked end t.out mid.out lines in
       let tracked_end : AreTracked g (suc i) end (past i said ++ lines.lines) = next_tracked i its is reached st said known tracked end t.out mid.out lines in
       said_then (suc i) end (past i said) lines.lines t.out mid.out new.out lines.added (subst (AllByRecursion IsQuiet) (append_cancel_left t.out adds.added lines.lines (sym adds.parts ∙ lines.added)) adds.quiet) known_end tracked_end
-      (more reached end (by_lines.says mid (entry.Step (suc i))) (past i said ++ lines.lines) known_end tracked_end so)
+      (more reached end (by_entries.says mid (entry.Step (suc i))) (past i said ++ lines.lines) known_end tracked_end so)
 
   takes_leave : (i : ℕ) (events : List Event) (st : Live U) (said : List Entry) (t new : Trace) (how : Result (Unit {0}) Stop) → i ≤ length g.life.events → events ≡ drop i g.life.events → IsUncut g.life.cut (suc i) → Known g here i st
-      → AreTracked g i st said → TakesAll by_lines g (suc i) events st t how new → GrowsOn g.script (Mine (past i said)) t.out new.out
+      → AreTracked g i st said → TakesAll by_entries g (suc i) events st t how new → GrowsOn g.script (Mine (past i said)) t.out new.out
   takes_leave i [] st said t new how within rest uncut known tracked its = grows_none g.script (Mine (past i said)) t.out new.out (ap (λ (x : Trace). x.out) its.1)
   takes_leave i (x ∷ events) st said t new how within rest uncut known tracked takes =
-      event_leaves i x st said (item_at g.life.events i x events rest) uncut known tracked (fuse_for g.life.cut (suc i)) refl t new how (λ end mid. TakesAll by_lines g (suc i + 1) events end mid how new)
+      event_leaves i x st said (item_at g.life.events i x events rest) uncut known tracked (fuse_for g.life.cut (suc i)) refl t new how (λ end mid. TakesAll by_entries g (suc i + 1) events end mid how new)
       (λ reached end mid more known_end tracked_end so. takes_leave (suc i) events end more mid new how (omega (arith, below)) (rest_at g.life.events i x events rest) (before_suc g.life.cut (suc i) reached) known_end tracked_end
-      (subst (λ (j : ℕ). TakesAll by_lines g j events end mid how new) (add-one (suc i)) so)) takes
+      (subst (λ (j : ℕ). TakesAll by_entries g j events end mid how new) (add-one (suc i)) so)) takes
     where
       below : i < length g.life.events
       below = let some : suc (length events) ≡ length g.life.events - i = ap length rest ∙ length-drop i g.life.events in omega (arith, some)
@@ -441,7 +441,7 @@ module _ (g : Lived) (here : IsLifeInForm g) where
       record { added = entry.Opened g.number adds.restored ∷ adds.more; parts = same ∙ adds.parts; scan = opened_scan now adds.restored adds.more (quiet_scan g.script (Mine []) adds.more adds.quiet) }
 
   opening_leaves : (now : Now) (fuse : Option Burn) → fuse_for g.life.cut 0 ≡ fuse → (t new : Trace) (how : Result (Unit {0}) Stop)
-      → Steps by_lines (entry.Step 0) fuse (node_opening (at_step g 0)) t how new (λ end mid. TakesAll by_lines g 1 g.life.events end mid how new) → GrowsOn g.script now t.out new.out
+      → Steps by_entries (entry.Step 0) fuse (node_opening (at_step g 0)) t how new (λ end mid. TakesAll by_entries g 1 g.life.events end mid how new) → GrowsOn g.script now t.out new.out
   opening_leaves now None none t new how steps = grows_none g.script now t.out new.out (ap (λ (x : Trace). x.out) steps.1)
   opening_leaves now (Some f) lit t new how (inl wants) = grows_none g.script now t.out new.out (ap (λ (x : Trace). x.out) wants.1)
   opening_leaves now (Some f) lit t new how (inr (inl (stop, ended, goes))) = by_opening (opening_added g.number t.out new.out (by_node_stop stop) (opened_in g (by_node_stop stop) t.out new.out goes.0))
@@ -460,9 +460,9 @@ module _ (g : Lived) (here : IsLifeInForm g) where
       grows_then g.script now t.out (t.out ++ one) new.out one refl (opened_scan now adds.restored [] tt)
       (subst (λ (x : Now). GrowsOn g.script x (t.out ++ one) new.out) (sym (opened_after now adds.restored))
       (said_then 0 end [] adds.more (t.out ++ one) mid.out new.out (adds.parts ∙ sym (append_assoc t.out one adds.more)) adds.quiet known.0 tracked
-      (takes_leave 0 g.life.events end adds.more (by_lines.says mid (entry.Step 0)) new how (omega arith) refl (before_suc g.life.cut 0 reached) known.0 tracked so)))
+      (takes_leave 0 g.life.events end adds.more (by_entries.says mid (entry.Step 0)) new how (omega arith) refl (before_suc g.life.cut 0 reached) known.0 tracked so)))
 
-  life_leaves : (files : Files) (t new : Trace) (how : Result (Unit {0}) Stop) → LivesSo by_lines g files t how new → (now : Now) → GrowsOn g.script now t.out new.out
+  life_leaves : (files : Files) (t new : Trace) (how : Result (Unit {0}) Stop) → LivesSo by_entries g files t how new → (now : Now) → GrowsOn g.script now t.out new.out
   life_leaves files t new how (inl steps) now = opening_leaves now (fuse_for g.life.cut 0) refl t new how steps
   life_leaves files t new how (inr refused) now = absurd refused.1.2
 
@@ -484,26 +484,26 @@ grows_one script now old new one is left = record { added = one ∷ []; parts = 
 
 module _ (script : Script) (checked : IsChecked script) (each_over : (l : ℕ) (life : Life) (seen : Held → Seen) (files : Files) → slice_get script.lives l ≡ Some life → ReadsSomething seen → IsLifeInForm (lived script l life seen files)) where
   ends_leave : (life : Life) (how : Result (Unit {0}) Stop) (mid new : Trace) (result : Result (Unit {0}) Fault) (goes_on : Trace → Type 0) → ((t : Trace) → goes_on t → (now : Now) → GrowsOn script now t.out new.out)
-      → EndsLife by_lines life how mid result new goes_on → (now : Now) → GrowsOn script now mid.out new.out
-  ends_leave life (Ok done) mid new result goes_on more ends now = more (by_lines.stops mid life.pick) ends now
+      → EndsLife by_entries life how mid result new goes_on → (now : Now) → GrowsOn script now mid.out new.out
+  ends_leave life (Ok done) mid new result goes_on more ends now = more (by_entries.stops mid life.pick) ends now
   ends_leave life (Err (FaultOf its)) mid new result goes_on more ends now = grows_none script now mid.out new.out (ap (λ (x : Trace). x.out) ends.1)
   ends_leave life (Err Failed) mid new result goes_on more ends now = absurd ends
   ends_leave life (Err AtCut) mid new result goes_on more ends now = by_cut life.cut ends
     where
-      by_cut : (o : Option cut.Cut) → IsSomeAnd o (λ its. ((result ≡ Err NoMemory) × (new ≡ by_lines.stops mid its.pick)) ⊎ goes_on (by_lines.says (by_lines.stops mid its.pick) (entry.Cut its.step its.call))) → GrowsOn script now mid.out new.out
+      by_cut : (o : Option cut.Cut) → IsSomeAnd o (λ its. ((result ≡ Err NoMemory) × (new ≡ by_entries.stops mid its.pick)) ⊎ goes_on (by_entries.says (by_entries.stops mid its.pick) (entry.Cut its.step its.call))) → GrowsOn script now mid.out new.out
       by_cut None its = absurd its
       by_cut (Some its) (inl wants) = grows_none script now mid.out new.out (ap (λ (x : Trace). x.out) wants.1)
       by_cut (Some its) (inr so) =
           grows_join script now mid.out (mid.out ++ entry.Cut its.step its.call ∷ []) new.out
           (grows_one script now mid.out (mid.out ++ entry.Cut its.step its.call ∷ []) (entry.Cut its.step its.call) refl (cut_left script now its.step its.call))
-          (more (by_lines.says (by_lines.stops mid its.pick) (entry.Cut its.step its.call)) so)
+          (more (by_entries.says (by_entries.stops mid its.pick) (entry.Cut its.step its.call)) so)
 
-  lives_leave : (first : Files → Type 0) (l : ℕ) (lives : List Life) (t new : Trace) (result : Result (Unit {0}) Fault) → l ≤ length script.lives → lives ≡ drop l script.lives → LivesFrom by_lines script first l lives t result new
+  lives_leave : (first : Files → Type 0) (l : ℕ) (lives : List Life) (t new : Trace) (result : Result (Unit {0}) Fault) → l ≤ length script.lives → lives ≡ drop l script.lives → LivesFrom by_entries script first l lives t result new
       → (now : Now) → GrowsOn script now t.out new.out
   lives_leave first l [] t new result within rest its now = grows_none script now t.out new.out (ap (λ (x : Trace). x.out) its.1)
   lives_leave first l (life ∷ lives) t new result within rest (seen, files, how, mid, reads, known, begins, so, ends) now =
       grows_join script now t.out mid.out new.out (life_leaves (lived script l life seen files) (each_over l life seen files at reads) files t mid how so now)
-      (ends_leave life how mid new result (λ mid. LivesFrom by_lines script AnyFiles (l + 1) lives mid result new)
+      (ends_leave life how mid new result (λ mid. LivesFrom by_entries script AnyFiles (l + 1) lives mid result new)
       (λ t its. lives_leave AnyFiles (l + 1) lives t new result (omega (arith, below)) (subst (λ (k : ℕ). lives ≡ drop k script.lives) (sym (add-one l)) (rest_at script.lives l life lives rest)) its) ends)
     where
       below : l < length script.lives
@@ -512,12 +512,12 @@ module _ (script : Script) (checked : IsChecked script) (each_over : (l : ℕ) (
       at : slice_get script.lives l ≡ Some life
       at = item_at script.lives l life lives rest
 
-  all_leave : (first : Files → Type 0) (t new : Trace) (result : Result (Unit {0}) Fault) → RunsAllSo by_lines script first t result new → (now : Now) → GrowsOn script now t.out new.out
+  all_leave : (first : Files → Type 0) (t new : Trace) (result : Result (Unit {0}) Fault) → RunsAllSo by_entries script first t result new → (now : Now) → GrowsOn script now t.out new.out
   all_leave first t new result (inl (its, refused, is, same)) now = grows_none script now t.out new.out (ap (λ (x : Trace). x.out) same)
   all_leave first t new result (inr (its, inl wants)) now = grows_none script now t.out new.out (ap (λ (x : Trace). x.out) wants.1)
   all_leave first t new result (inr (its, inr lives)) now = lives_leave first 0 script.lives t new result (omega arith) refl lives now
 
-  pub run_leaves : (first : Files → Type 0) (t new : Trace) (answered : Result (Unit {0}) Fault) → RunsSo by_lines script first t answered new → Adds t.out new.out (LeavesSo script)
+  pub run_leaves : (first : Files → Type 0) (t new : Trace) (answered : Result (Unit {0}) Fault) → RunsSo by_entries script first t answered new → Adds t.out new.out (LeavesSo script)
   run_leaves first t new answered run = by_result run.result (all_leave first t run.mid run.result run.lives) answered run.told
     where
       whole : GrowsOn script None t.out new.out → Adds t.out new.out (LeavesSo script)
@@ -527,11 +527,11 @@ module _ (script : Script) (checked : IsChecked script) (each_over : (l : ℕ) (
       by_told its answered grows (inl none) = whole (grows_join script None t.out run.mid.out new.out (grows None) (λ now. grows_none script now run.mid.out new.out none.1))
       by_told its answered grows (inr told) = whole (grows_join script None t.out run.mid.out new.out (grows None) (λ now. grows_one script now run.mid.out new.out (entry.Fault its) told.2 (fault_left script now its)))
 
-      not_ok : (its : Fault) → TellsEnd by_lines (Err its) (Ok tt) run.mid new → ⊥
+      not_ok : (its : Fault) → TellsEnd by_entries (Err its) (Ok tt) run.mid new → ⊥
       not_ok its (inl wants) = let wrong : ◌≡◌ {A = Result (Unit {0}) Fault} (Ok tt) (Err NoMemory) = wants.0 in cc
       not_ok its (inr told) = let wrong : ◌≡◌ {A = Result (Unit {0}) Fault} (Ok tt) (Err its) = told.0 in cc
 
-      by_result : (result : Result (Unit {0}) Fault) → ((now : Now) → GrowsOn script now t.out run.mid.out) → (answered : Result (Unit {0}) Fault) → TellsEnd by_lines result answered run.mid new → Adds t.out new.out (LeavesSo script)
+      by_result : (result : Result (Unit {0}) Fault) → ((now : Now) → GrowsOn script now t.out run.mid.out) → (answered : Result (Unit {0}) Fault) → TellsEnd by_entries result answered run.mid new → Adds t.out new.out (LeavesSo script)
       by_result (Ok done) grows answered told = whole (grows_join script None t.out run.mid.out new.out (grows None) (λ now. grows_none script now run.mid.out new.out (ap (λ (x : Trace). x.out) told.1)))
       by_result (Err its) grows (Ok done) told = absurd (not_ok its told)
       by_result (Err its) grows (Err answered) told = by_told its answered grows (tells_fault its answered run.mid new told)

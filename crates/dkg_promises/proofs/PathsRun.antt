@@ -25,7 +25,7 @@ use Rattle.dkg_lives.specs.Lives.{RunsOver, never}
 use Rattle.dkg_lives.specs.Ways.{by_worlds}
 use Rattle.dkg_promises.proofs.Keeping.{IsGivenSetting}
 use Rattle.dkg_along.proofs.LifeSteps.{IsLifeOfSetting}
-use Rattle.dkg_along.proofs.LineLives.{EachTold, told_at}
+use Rattle.dkg_along.proofs.EntryLives.{EachTold, told_at}
 use Rattle.dkg_along.proofs.LivesTold.{Anything}
 use Rattle.dkg_promises.proofs.NotedFirst.{handed_noted}
 use Rattle.dkg_promises.proofs.PathsTold.{FirstBetween, FirstHere, Nothing, PathEntry, PathsHere, path_leads, past_of}

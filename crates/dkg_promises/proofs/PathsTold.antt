@@ -42,7 +42,7 @@ use Rattle.dkg_promises.proofs.Blaming.{same_position}
 use Rattle.dkg_lives.proofs.Former.{BringsBlock, BringsMail, IsMessage, brings_so, event_in_form, form_at, lacks_nobody, life_in, live_at, message_in, step_taken, through_at}
 use Rattle.dkg_along.proofs.KeptSteps.{IsAtStep}
 use Rattle.dkg_along.proofs.LifeSteps.{IsGoing, IsLifeOfSetting}
-use Rattle.dkg_along.proofs.LineLives.{After, EachTold, KnownAfter, LeadsOn, Left, come, come_more}
+use Rattle.dkg_along.proofs.EntryLives.{After, EachTold, KnownAfter, LeadsOn, Left, come, come_more}
 use Rattle.dkg_along.proofs.LivesTold.{Anything, BaseBetween, BaseHere, base_leads}
 use Rattle.dkg_along.proofs.Ordered.{step_is_quiet}
 use Rattle.dkg_promises.proofs.PathsAsked.{IsPathSaid, IsPathState, path_answer, state_lines, state_next, state_opens}

@@ -35,7 +35,7 @@ use Rattle.dkg_promises.specs.Over.{DevicesAround}
 use Rattle.dkg_promises.specs.Promised.{DoesRun, Promised}
 use Rattle.dkg_promises.specs.Refusals.{BlamesOnlySkips}
 use Rattle.dkg_promises.specs.SharesStand.{CommitsEach, CommitsExactly, CommitsFit, FitsCarried}
-use Rattle.dkg_lives.specs.Ways.{by_lines, trace}
+use Rattle.dkg_lives.specs.Ways.{by_entries, trace}
 use Rattle.dkg_promises.proofs.Begun.{begun_answers, begun_commits, begun_exactly, begun_keeps, begun_offers, begun_paths, begun_plans, begun_valid, begun_valid_uncut, begun_whole, cut_form, cut_runs, cut_script}
 use Rattle.dkg_promises.proofs.Blaming.{CommitsIn, run_answers, run_blames, run_commits}
 use Rattle.dkg_promises.proofs.Completing.{unblamed}
@@ -51,7 +51,7 @@ use Rattle.dkg_promises.proofs.Telling.{run_ends}
 use Rattle.dkg_promises.proofs.Unbegun.{ToldNone, Unmoved, none_answered, none_answers, none_commits, none_committed, none_completes, none_ends, none_keeps, none_left, none_offers, none_paths, none_plans, none_shows, none_skips, none_tells, none_valid, none_whole}
 
 -- WHAT IS KNOWN OF WHAT ENDED THE LIVES is known where it is told
-pub known_told : (F : Fault → Type 0) (its answered : Fault) (mid new : List Entry) (picks : List ℕ) → F NoMemory → TellsEnd by_lines (Err its) (Err answered) (trace mid picks) (trace new picks) → F its → F answered
+pub known_told : (F : Fault → Type 0) (its answered : Fault) (mid new : List Entry) (picks : List ℕ) → F NoMemory → TellsEnd by_entries (Err its) (Err answered) (trace mid picks) (trace new picks) → F its → F answered
 known_told F its answered mid new picks none (inl wants) is = subst F (sym (same_answer wants.0)) none
   where
     same_answer : {x y : Fault} → ◌≡◌ {A = Result (Unit {0}) Fault} (Err x) (Err y) → x ≡ y
@@ -106,13 +106,13 @@ when_told (Err its) Tells P is told = is told
 -- THE PROMISE
 
 -- at Ok all lives were run
-all_run : (script : Script) (old new : List Entry) (picks : List ℕ) (answered : Result (Unit {0}) Fault) (added : List Entry) → new ≡ old ++ added → RunsSo by_lines script AnyFiles (trace old []) answered (trace new picks)
+all_run : (script : Script) (old new : List Entry) (picks : List ℕ) (answered : Result (Unit {0}) Fault) (added : List Entry) → new ≡ old ++ added → RunsSo by_entries script AnyFiles (trace old []) answered (trace new picks)
     → OnOk answered (RunsAll script added)
 all_run script old new picks (Ok done) added is run = added_so old new added (RunsAll script) is (run_all_lives script AnyFiles (trace old []) (trace new picks) run)
 all_run script old new picks (Err its) added is run = tt
 
 module _ (script : Script) (form : IsFormOfInclusion script) (o : DevicesAround) (disk_of : o.tells → o.disk_tells) (old new : List Entry) (picks : List ℕ) (answered : Result (Unit {0}) Fault)
-    (run : RunsSo by_lines script AnyFiles (trace old []) answered (trace new picks)) (runs : DoesRun script o old answered new) (itself : o.disk_tells → o.before.image o.before.files) (left : o.disk_tells → o.now.image o.now.files)
+    (run : RunsSo by_entries script AnyFiles (trace old []) answered (trace new picks)) (runs : DoesRun script o old answered new) (itself : o.disk_tells → o.before.image o.before.files) (left : o.disk_tells → o.now.image o.now.files)
     (causes : IfErr answered (λ its. HasDeviceCause its o.disk_rose o.secrets_rose)) (records : IfErr answered (λ its. o.disk_tells → IsFoundRecord (limit_in script) o.now.files its))
     (fit : o.disk_tells → AreFit (limit_in script) o.before.image → AreFit (limit_in script) o.now.image) (stood : OnOk answered (o.disk_tells → Stands o.before.files o.before.image → Stands o.now.files o.now.image)) where
   -- what the two cases show: the lives were begun, or not
@@ -185,7 +185,7 @@ module _ (script : Script) (form : IsFormOfInclusion script) (o : DevicesAround)
     abbrev its_setting : Setting
     its_setting = setting_as_cut script o.before.files o.before.held added
 
-    as_it_was : RunsSo by_lines its_script AnyFiles (trace old []) answered (trace new picks)
+    as_it_was : RunsSo by_entries its_script AnyFiles (trace old []) answered (trace new picks)
     as_it_was = lines_cut script o.before.files o.before.held answered old new added is AnyFiles picks run
 
     run_ended : EndsRun answered added o.disk_rose o.secrets_rose

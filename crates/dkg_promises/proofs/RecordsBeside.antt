@@ -38,7 +38,7 @@ use Rattle.dkg_lives.proofs.Currently.{begun_more}
 use Rattle.dkg_lives.proofs.Former.{IsMessage, event_in_form, message_in}
 use Rattle.dkg_along.proofs.KeptSteps.{IsAtStep}
 use Rattle.dkg_along.proofs.LifeSteps.{IsLifeOfSetting}
-use Rattle.dkg_along.proofs.LineLives.{After, KnownAfter, Left, come, come_more}
+use Rattle.dkg_along.proofs.EntryLives.{After, KnownAfter, Left, come, come_more}
 use Rattle.dkg_along.proofs.LivesKept.{IsBetween, taken_before, taken_by, taken_within}
 use Rattle.dkg_along.proofs.LivesTold.{Anything, BaseBetween, BaseHere, all_told}
 use Rattle.dkg_promises.proofs.NotedFirst.{AreNoted, noted_same}

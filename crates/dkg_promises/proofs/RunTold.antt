@@ -22,7 +22,7 @@ use Rattle.dkg_lives.specs.Lives.{RunsOver, never}
 use Rattle.dkg_lives.specs.Ways.{by_worlds}
 use Rattle.dkg_promises.proofs.Keeping.{IsGivenSetting, given, lives_of, rests_at_start, same_behind}
 use Rattle.dkg_along.proofs.LifeSteps.{IsLifeOfSetting}
-use Rattle.dkg_along.proofs.LineLives.{EachTold, LeadsOn, Told, run_told}
+use Rattle.dkg_along.proofs.EntryLives.{EachTold, LeadsOn, Told, run_told}
 use Rattle.dkg_along.proofs.LivesTold.{BaseBetween}
 use Rattle.dkg_along.proofs.ToldBeside.{OfLines, OfRests, OfSteps}
 use Rattle.dkg_along.proofs.WorldLives.{IsCounted}

@@ -47,7 +47,7 @@ use Rattle.dkg_core.specs.Endings.{validity}
 use Rattle.dkg_core.specs.Entering.{acked_at, asks_again, takes_delivered}
 use Rattle.dkg_core.specs.Fixed.{Fixed, Material, OneShot, has, start}
 use Rattle.dkg_core.specs.Forms.{Applied, IsForm, Judged, Passed, judged_block}
-use Rattle.dkg_laws.specs.Idle.{IsAskedLine}
+use Rattle.dkg_laws.specs.Idle.{IsAskedEntry}
 use Rattle.dkg_core.specs.Including as i
 use Rattle.dkg_core.specs.Including.{Continuation, cached_for}
 use Rattle.dkg_core.specs.Live.{Artifact, Deals, Dealer, Ends, Faulted, Finalized, Follows, GaveNone, Includes, Job, Live, NodeStop, Peer, Plays, Request, Seat, Mailed, Stage, Verified, VerifiedLogs, Watches, awaited_height, is_last_height, records_of_epoch, phase_of, recorded_at, with_participation, with_queue, with_tip, with_told}
@@ -314,14 +314,14 @@ same_number n m e = grind (arith, nat_tests)
 -- COURSES
 
 module _ {Dir : Type 0} (c : Fixed Dir) where
-  asked_plain : (line : Entry) → IsAskedLine line → IsPlain line
+  asked_plain : (line : Entry) → IsAskedEntry line → IsPlain line
   asked_plain (Answer request answer) is = tt
   asked_plain (Log request log) is = tt
   asked_plain line is = absurd is
 
   -- where requests are read
   advanced_plain : (now : Live Dir) → IsQuiet (i.advanced c now)
-  advanced_plain now = quiet_only IsAskedLine (idle.Beside c now) (i.advanced c now) asked_plain (idle.advanced c now now.inclusion)
+  advanced_plain now = quiet_only IsAskedEntry (idle.Beside c now) (i.advanced c now) asked_plain (idle.advanced c now now.inclusion)
 
   -- what a dealer and a player do
   takes_ack : (epoch : ℕ) (its : Dealer) (player : ℕ) (ack : List ℕ) (now : Live Dir) → IsQuiet (d.takes_ack epoch its player ack now)
@@ -615,7 +615,7 @@ module _ {Dir : Type 0} (c : Fixed Dir) where
           final_so st =
               leads_behind Into most At IsSetUpBy x (i.ends_verifying c None st)
               (λ now. b.concludes_by c round block (canonical c st) (cached_for st.inclusion.cached (canonical c st)) (cached_for now.inclusion.cached (canonical c st)) now)
-              (quiet_only IsAskedLine (idle.Beside c st) (i.ends_verifying c None st) asked_plain (idle.ends c st None st.inclusion.running))
+              (quiet_only IsAskedEntry (idle.Beside c st) (i.ends_verifying c None st) asked_plain (idle.ends c st None st.inclusion.running))
               (λ end. concludes_by (canonical c st) (cached_for st.inclusion.cached (canonical c st)) (cached_for end.inclusion.cached (canonical c st)) end)
 
         follows_so : (st : Live Dir) (x : Telling) → x.untold ≡ None → At x.last → Leads IsSetUpBy x (b.carried c block (λ info. b.follows_into c block info st))

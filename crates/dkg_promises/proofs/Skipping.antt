@@ -34,7 +34,7 @@ use Rattle.dkg_lives.specs.Epochs.{IsAnchorAbove, IsChecked}
 use Rattle.dkg_lives.specs.Given.{AreBytes, blocks_in}
 use Rattle.dkg_lives.specs.Lives.{AnyFiles, RunsSo, TellsEnd}
 use Rattle.dkg_promises.specs.Refusals.{BlamesOnlySkips, IsNoFirst, IsRefusal, Skips, SkipsIn, SkipsNow}
-use Rattle.dkg_lives.specs.Ways.{by_lines, trace}
+use Rattle.dkg_lives.specs.Ways.{by_entries, trace}
 use Rattle.dkg_lives.proofs.Awaiting.{IsReached}
 use Rattle.dkg_promises.proofs.Blaming.{Judges, TellsWhy, all_judged}
 use Rattle.dkg_along.proofs.Chaining.{IsOutside, IsSkipped, Tips, refused_so, tips_so}
@@ -224,7 +224,7 @@ module _ (script : Script) (form : IsFormOfInclusion script) (checked : IsChecke
   cut_form = inclusion_as_cut (progress (setting_of script files held) added).cuts script form
 
   -- THE CLAUSE of skips
-  pub run_skips : RunsSo by_lines cut_script AnyFiles (trace old []) answered (trace new picks) → IfErr answered (BlamesOnlySkips s image (cuts_in s added))
+  pub run_skips : RunsSo by_entries cut_script AnyFiles (trace old []) answered (trace new picks) → IfErr answered (BlamesOnlySkips s image (cuts_in s added))
   run_skips run = by_result run.result (all_judged cut_script checked (lives_over cut_script cut_form checked) AnyFiles (trace old []) run.mid run.result run.lives) (all_in_order cut_script AnyFiles (trace old []) run.mid run.result run.lives) answered run.told
     where
       -- where the fault is told
@@ -276,7 +276,7 @@ module _ (script : Script) (form : IsFormOfInclusion script) (checked : IsChecke
               }
 
       by_result : (result : Result (Unit {0}) Fault) → Moves (Judges cut_script) (IsBetweenOf cut_script 0) (RunEndsBy (TellsWhy cut_script) cut_script result) old run.mid.out → Moves IsInOrder (IsBetweenOf cut_script 0) (RunEndsBy MayTell cut_script result) old run.mid.out
-          → (answered : Result (Unit {0}) Fault) → TellsEnd by_lines result answered run.mid (trace new picks) → IfErr answered (BlamesOnlySkips s image (cuts_in s added))
+          → (answered : Result (Unit {0}) Fault) → TellsEnd by_entries result answered run.mid (trace new picks) → IfErr answered (BlamesOnlySkips s image (cuts_in s added))
       by_result (Ok done) judged ordered answered told = subst (λ (r : Result (Unit {0}) Fault). IfErr r (BlamesOnlySkips s image (cuts_in s added))) (sym told.0) tt
       by_result (Err its) judged ordered (Ok done) told = tt
       by_result (Err its) judged ordered (Err answered) told = by_told (tells_fault its answered run.mid (trace new picks) told)

@@ -36,7 +36,7 @@ use Rattle.dkg_script.specs.Ends.{EndsFaulted, EndsRun, HasRisen, IsToldFault}
 use Rattle.dkg_lives.specs.Epochs.{IsChecked, IsLifeInForm}
 use Rattle.dkg_lives.specs.Given.{blocks_in, lived}
 use Rattle.dkg_lives.specs.Lives.{RunsSo, TellsEnd}
-use Rattle.dkg_lives.specs.Ways.{ReadsSomething, Trace, by_lines}
+use Rattle.dkg_lives.specs.Ways.{ReadsSomething, Trace, by_entries}
 use Rattle.dkg_promises.proofs.Blaming.{Judges, TellsWhy, all_judged}
 use Rattle.dkg_along.proofs.Following.{RunEndsBy}
 use Rattle.dkg_along.proofs.Ordered.{tells_fault}
@@ -183,10 +183,10 @@ ends_faulted its entries disk_rose secrets_rose not ends cause = (ends, cause)
 
 module _ (script : Script) (checked : IsChecked script) (each_over : (l : ℕ) (life : Life) (seen : Held → Seen) (files : Files) → slice_get script.lives l ≡ Some life → ReadsSomething seen → IsLifeInForm (lived script l life seen files)) where
   pub run_ends : (first : Files → Type 0) (t new : Trace) (answered : Result (Unit {0}) Fault) (disk_rose secrets_rose : Type 0)
-      → IfErr answered (λ its. HasDeviceCause its disk_rose secrets_rose) → RunsSo by_lines script first t answered new → Adds t.out new.out (λ added. EndsRun answered added disk_rose secrets_rose)
+      → IfErr answered (λ its. HasDeviceCause its disk_rose secrets_rose) → RunsSo by_entries script first t answered new → Adds t.out new.out (λ added. EndsRun answered added disk_rose secrets_rose)
   run_ends first t new answered disk_rose secrets_rose causes run = by_result run.result (all_judged script checked each_over first t run.mid run.result run.lives) answered causes run.told
     where
-      not_ok : (its : Fault) → TellsEnd by_lines (Err its) (Ok tt) run.mid new → ⊥
+      not_ok : (its : Fault) → TellsEnd by_entries (Err its) (Ok tt) run.mid new → ⊥
       not_ok its (inl wants) = let wrong : ◌≡◌ {A = Result (Unit {0}) Fault} (Ok tt) (Err fault.NoMemory) = wants.0 in cc
       not_ok its (inr told) = let wrong : ◌≡◌ {A = Result (Unit {0}) Fault} (Ok tt) (Err its) = told.0 in cc
 
@@ -209,7 +209,7 @@ module _ (script : Script) (checked : IsChecked script) (each_over : (l : ℕ) (
       )
 
       by_result : (result : Result (Unit {0}) Fault) → Moves (Judges script) (IsBetweenOf script 0) (RunEndsBy (TellsWhy script) script result) t.out run.mid.out
-          → (answered : Result (Unit {0}) Fault) → IfErr answered (λ its. HasDeviceCause its disk_rose secrets_rose) → TellsEnd by_lines result answered run.mid new
+          → (answered : Result (Unit {0}) Fault) → IfErr answered (λ its. HasDeviceCause its disk_rose secrets_rose) → TellsEnd by_entries result answered run.mid new
           → Adds t.out new.out (λ added. EndsRun answered added disk_rose secrets_rose)
       by_result (Ok done) moves answered causes told =
           (moves.added, ap (λ (x : Trace). x.out) told.1 ∙ moves.parts, subst (λ (r : Result (Unit {0}) Fault). EndsRun r moves.added disk_rose secrets_rose) (sym told.0) moves.no_fault)

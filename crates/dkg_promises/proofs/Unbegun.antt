@@ -40,7 +40,7 @@ use Rattle.dkg_lives.specs.Lives.{BeganNone, TellsEnd}
 use Rattle.dkg_promises.specs.Over.{DevicesAround, over}
 use Rattle.dkg_promises.specs.Refusals.{BlamesOnlySkips, IsRefusal}
 use Rattle.dkg_promises.specs.SharesStand.{CommitsEach, TellsCommit}
-use Rattle.dkg_lives.specs.Ways.{Trace, by_lines, trace}
+use Rattle.dkg_lives.specs.Ways.{Trace, by_entries, trace}
 use Rattle.dkg_lives.proofs.Checked.{refused_so}
 use Rattle.dkg_lives.proofs.Currently.{current_all}
 use Rattle.dkg_promises.proofs.Keeping.{history_of}
@@ -81,13 +81,13 @@ began_well script Begun Same (inr none) = by_why none.why
     by_why (inr (fault, refused, is)) = absurd (ok_err is)
 
 -- .. and where a fault ended them, what it made of the lines
-pub began_told : (script : Script) (its answered : Fault) (old mid new : List Entry) (picks : List ℕ) (Begun Devices Same : Type 0) → (Devices → Same) → TellsEnd by_lines (Err its) (Err answered) (trace mid picks) (trace new picks)
+pub began_told : (script : Script) (its answered : Fault) (old mid new : List Entry) (picks : List ℕ) (Begun Devices Same : Type 0) → (Devices → Same) → TellsEnd by_entries (Err its) (Err answered) (trace mid picks) (trace new picks)
     → Begun ⊎ BeganNone script (Err its) (Devices × (mid ≡ old)) → Begun ⊎ ToldNone script (Err answered) old new Same
 began_told script its answered old mid new picks Begun Devices Same so told (inl begun) = inl begun
 began_told script its answered old mid new picks Begun Devices Same so told (inr none) = inr (record { why = by_why none.why told; same = so none.same.0 })
   where
     by_why : (◌≡◌ {A = Result (Unit {0}) Fault} (Err its) (Err NoMemory)) ⊎ ((fault : Fault) × (refused_config script ≡ Some fault) × (◌≡◌ {A = Result (Unit {0}) Fault} (Err its) (Err fault)))
-        → TellsEnd by_lines (Err its) (Err answered) (trace mid picks) (trace new picks)
+        → TellsEnd by_entries (Err its) (Err answered) (trace mid picks) (trace new picks)
         → ((◌≡◌ {A = Result (Unit {0}) Fault} (Err answered) (Err NoMemory)) × (new ≡ old))
         ⊎ ((fault : Fault) × (refused_config script ≡ Some fault) × (◌≡◌ {A = Result (Unit {0}) Fault} (Err answered) (Err fault)) × (new ≡ old ++ entry.Fault fault ∷ []))
     by_why why (inl wants) = inl (wants.0, ap (λ (t : Trace). t.out) wants.1 ∙ none.same.1)

@@ -21,14 +21,14 @@ use Rattle.dkg_lives.specs.Lives.{AnyFiles, RunsOver, RunsSo, never}
 use Rattle.dkg_promises.specs.Over.{DevicesAround}
 use Rattle.dkg_promises.specs.Refusals.{BlamesOnlySkips}
 use Rattle.dkg_promises.specs.SharesStand.{CommitsEach, CommitsExactly, CommitsFit}
-use Rattle.dkg_lives.specs.Ways.{by_lines, trace}
+use Rattle.dkg_lives.specs.Ways.{by_entries, trace}
 
 -- THE ENTRIES are those of a node run of the script, whatever the devices tell: a step that is ended early gives a front of its lines. Each life's end
 -- stopped both devices, each with its pick. (`out` and `new` are the transcript before and behind.)
 pub record SaysRun (script : Script) (o : DevicesAround) (out : List Entry) (result : Result (Unit {0}) Fault) (new : List Entry) : Type 0 where
   pub picks : List ℕ
   pub stopped : o.disk_tells → o.stopped picks
-  pub run : RunsSo by_lines script AnyFiles (trace out []) result (trace new picks)
+  pub run : RunsSo by_entries script AnyFiles (trace out []) result (trace new picks)
 
 -- THE NODE RAN over devices that tell and of which nothing was loose, whatever image a crash leaves now: each life from what the one before left, and cut
 -- exactly where its step makes so many calls.

@@ -34,7 +34,7 @@ use Rattle.dkg_lives.specs.Given.{Lived, at_step, lived, step_of}
 use Rattle.dkg_lives.specs.Moving.{Blames, StopBlames, Went}
 use Rattle.dkg_lives.specs.Lives.{AnyFiles, EndsLife, LivesHere, LivesSo, Steps, TakesAll, fuse_for, never}
 use Rattle.dkg_lives.specs.Stopped.{picks_at_end}
-use Rattle.dkg_lives.specs.Ways.{Trace, by_lines, by_worlds, trace}
+use Rattle.dkg_lives.specs.Ways.{Trace, by_entries, by_worlds, trace}
 use Rattle.dkg_lives.proofs.Living.{rose_around}
 use Rattle.dkg_run.proofs.Running.{ends_over}
 
@@ -75,7 +75,7 @@ module _ {D X : Type 0} (tells : Bool) (disk : D → D → List (DeviceCall Op) 
 -- ONLY A LIFE THAT THE SCRIPT CUTS ends by a cut
 
 module _ (its : Option cut.Cut) (step : ℕ) (line : Entry) (course : Course directory.Unit NodeStop (Live directory.Unit)) (t new : Trace) (next : Live directory.Unit → Trace → Type 0) where
-  step_scripted : (fuse : Option Burn) → fuse_for its step ≡ fuse → Steps by_lines line fuse course t (Err Cut) new next → ((end : Live directory.Unit) (mid : Trace) → next end mid → IsSome its) → IsSome its
+  step_scripted : (fuse : Option Burn) → fuse_for its step ≡ fuse → Steps by_entries line fuse course t (Err Cut) new next → ((end : Live directory.Unit) (mid : Trace) → next end mid → IsSome its) → IsSome its
   step_scripted None is stops more = by_cut its is
     where
       by_cut : (o : Option cut.Cut) → fuse_for o step ≡ None → IsSome o
@@ -88,7 +88,7 @@ module _ (its : Option cut.Cut) (step : ℕ) (line : Entry) (course : Course dir
       the_stop e = cc
 
       burns : 0 < f.call
-      burns = (subst (λ (s : Stop). by_lines.goes course (by_node_stop s) f t new) (sym (the_stop how)) goes).2 refl
+      burns = (subst (λ (s : Stop). by_entries.goes course (by_node_stop s) f t new) (sym (the_stop how)) goes).2 refl
 
       by_cut : (o : Option cut.Cut) → fuse_for o step ≡ Some f → IsSome o
       by_cut None same = absurd (none_burns f (the_fuse same) burns)
@@ -100,33 +100,33 @@ module _ (its : Option cut.Cut) (step : ℕ) (line : Entry) (course : Course dir
           none_burns f e less = omega (arith, subst (λ (b : Burn). 0 < b.call) (sym e) less)
       by_cut (Some c) same = refl
   step_scripted (Some f) is (inr (inr (end, mid, goes, inl wants))) more = absurd (let wrong : ◌≡◌ {A = Result (Unit {0}) Stop} (Err Cut) (Err (FaultOf NoMemory)) = wants.0 in cc)
-  step_scripted (Some f) is (inr (inr (end, mid, goes, inr then))) more = more end (by_lines.says mid line) then
+  step_scripted (Some f) is (inr (inr (end, mid, goes, inr then))) more = more end (by_entries.says mid line) then
 
-takes_scripted : (g : Lived) (j : ℕ) (events : List Event) (st : Live directory.Unit) (t new : Trace) → TakesAll by_lines g j events st t (Err Cut) new → IsSome g.life.cut
+takes_scripted : (g : Lived) (j : ℕ) (events : List Event) (st : Live directory.Unit) (t new : Trace) → TakesAll by_entries g j events st t (Err Cut) new → IsSome g.life.cut
 takes_scripted g j [] st t new takes = absurd (let wrong : ◌≡◌ {A = Result (Unit {0}) Stop} (Err Cut) (Ok tt) = takes.0 in cc)
 takes_scripted g j (event ∷ events) st t new takes =
-    step_scripted g.life.cut j (entry.Step j) (step_of g j event st) t new (λ end mid. TakesAll by_lines g (j + 1) events end mid (Err Cut) new) (fuse_for g.life.cut j) refl takes
+    step_scripted g.life.cut j (entry.Step j) (step_of g j event st) t new (λ end mid. TakesAll by_entries g (j + 1) events end mid (Err Cut) new) (fuse_for g.life.cut j) refl takes
     (λ end mid more. takes_scripted g (j + 1) events end mid new more)
 
-pub life_scripted : (g : Lived) (files : Files) (t new : Trace) (how : Result (Unit {0}) Stop) → LivesSo by_lines g files t how new → how ≡ Err Cut → IsSome g.life.cut
-life_scripted g files t new how lives cuts = by_cases (subst (λ (h : Result (Unit {0}) Stop). LivesSo by_lines g files t h new) cuts lives)
+pub life_scripted : (g : Lived) (files : Files) (t new : Trace) (how : Result (Unit {0}) Stop) → LivesSo by_entries g files t how new → how ≡ Err Cut → IsSome g.life.cut
+life_scripted g files t new how lives cuts = by_cases (subst (λ (h : Result (Unit {0}) Stop). LivesSo by_entries g files t h new) cuts lives)
   where
-    by_cases : LivesSo by_lines g files t (Err Cut) new → IsSome g.life.cut
-    by_cases (inl steps) = step_scripted g.life.cut 0 (entry.Step 0) (node_opening (at_step g 0)) t new (λ end mid. TakesAll by_lines g 1 g.life.events end mid (Err Cut) new) (fuse_for g.life.cut 0) refl steps
+    by_cases : LivesSo by_entries g files t (Err Cut) new → IsSome g.life.cut
+    by_cases (inl steps) = step_scripted g.life.cut 0 (entry.Step 0) (node_opening (at_step g 0)) t new (λ end mid. TakesAll by_entries g 1 g.life.events end mid (Err Cut) new) (fuse_for g.life.cut 0) refl steps
         (λ end mid more. takes_scripted g 1 g.life.events end mid new more)
     by_cases (inr refused) = absurd (refused.1.2)
 
 -- A LIFE WITH ITS END, over the lines, and over worlds
 
 module _ (script : Script) (number : ℕ) (life : Life) (files : Files) (how : Result (Unit {0}) Stop) (result : Result (Unit {0}) Fault) (out mid new : List Entry) where
-  pub life_lines : (seen : Held → Seen) → by_lines.reads seen → ((picks : List ℕ) → LivesSo by_lines (lived script number life seen files) files (trace out picks) how (trace mid picks))
-      → ((picks : List ℕ) → EndsLife by_lines life how (trace mid picks) result (trace new (picks ++ picks_at_end life how)) (λ now. (result ≡ Ok tt) × (now ≡ trace new (picks ++ picks_at_end life how))))
-      → (picks : List ℕ) → LivesHere by_lines script AnyFiles number life (trace out picks) result (trace new (picks ++ picks_at_end life how)) (λ now. (result ≡ Ok tt) × (now ≡ trace new (picks ++ picks_at_end life how)))
+  pub life_lines : (seen : Held → Seen) → by_entries.reads seen → ((picks : List ℕ) → LivesSo by_entries (lived script number life seen files) files (trace out picks) how (trace mid picks))
+      → ((picks : List ℕ) → EndsLife by_entries life how (trace mid picks) result (trace new (picks ++ picks_at_end life how)) (λ now. (result ≡ Ok tt) × (now ≡ trace new (picks ++ picks_at_end life how))))
+      → (picks : List ℕ) → LivesHere by_entries script AnyFiles number life (trace out picks) result (trace new (picks ++ picks_at_end life how)) (λ now. (result ≡ Ok tt) × (now ≡ trace new (picks ++ picks_at_end life how)))
   life_lines seen reads so ends picks = (seen, files, how, trace mid picks, reads, tt, tt, so picks, ends picks)
 
   pub life_closes : (c : Files) (held held_mid held_new : Secrets) (f f_mid f_new : Burn) → held_new ≡ held_mid → f_new ≡ f_mid
       → LivesSo by_worlds (lived script number life seen_planless files) files (at (moment out held f) files) how (at (moment mid held_mid f_mid) c)
-      → EndsLife by_lines life how (trace mid []) result (trace new (picks_at_end life how)) (λ now. (result ≡ Ok tt) × (now ≡ trace new (picks_at_end life how)))
+      → EndsLife by_entries life how (trace mid []) result (trace new (picks_at_end life how)) (λ now. (result ≡ Ok tt) × (now ≡ trace new (picks_at_end life how)))
       → LivesHere by_worlds script (λ its. its ≡ files) number life (at (moment out held f) files) result (at (moment new held_new f_new) c) (λ w. (result ≡ Ok tt) × (w ≡ at (moment new held_new f_new) c))
   life_closes c held held_mid held_new f f_mid f_new same_held same_fuse so ends = (
     seen_planless,

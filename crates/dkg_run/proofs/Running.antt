@@ -16,13 +16,13 @@ use Rattle.dkg_secrets.specs.Secrets.{Secrets}
 use Rattle.dkg_life.specs.declared.stop.Stop.{Stop}
 use Rattle.dkg_life.specs.declared.stop.Stop.TheVariants.{Cut, Failed, Fault as FaultOf}
 use Rattle.dkg_lives.specs.Lives.{AnyFiles, EndsLife, LivesFrom, LivesHere, RunsAllSo, RunsSo, TellsEnd}
-use Rattle.dkg_lives.specs.Ways.{Way, Trace, by_lines, by_worlds, trace}
+use Rattle.dkg_lives.specs.Ways.{Way, Trace, by_entries, by_worlds, trace}
 use Rattle.dkg_around.proofs.Stepping.{drop_item}
 
 -- A LIFE'S END over worlds, from that over lines: the devices' stops change nothing of what is held
 
 module _ (life : Life) (out now : List Entry) (picks after : List ℕ) (w new : World) (result : Result (Unit {0}) Fault) (same_out : new ≡ record w { out = now }) (starts : w.out ≡ out) where
-  pub ends_over : (how : Result (Unit {0}) Stop) → EndsLife by_lines life how (trace out picks) result (trace now after) (λ t. (result ≡ Ok tt) × (t ≡ trace now after))
+  pub ends_over : (how : Result (Unit {0}) Stop) → EndsLife by_entries life how (trace out picks) result (trace now after) (λ t. (result ≡ Ok tt) × (t ≡ trace now after))
       → EndsLife by_worlds life how w result new (λ v. (result ≡ Ok tt) × (v ≡ new))
   ends_over (Ok done) ends = (ends.0, at_out out starts (ap (λ (t : Trace). t.out) ends.1))
     where
@@ -33,8 +33,8 @@ module _ (life : Life) (out now : List Entry) (picks after : List ℕ) (w new : 
   ends_over (Err Cut) ends = by_cut life.cut ends
     where
       by_cut : (o : Option cut.Cut)
-          → IsSomeAnd o (λ its. ((result ≡ Err NoMemory) × (trace now after ≡ by_lines.stops (trace out picks) its.pick))
-          ⊎ ((result ≡ Ok tt) × (by_lines.says (by_lines.stops (trace out picks) its.pick) (entry.Cut its.step its.call) ≡ trace now after)))
+          → IsSomeAnd o (λ its. ((result ≡ Err NoMemory) × (trace now after ≡ by_entries.stops (trace out picks) its.pick))
+          ⊎ ((result ≡ Ok tt) × (by_entries.says (by_entries.stops (trace out picks) its.pick) (entry.Cut its.step its.call) ≡ trace now after)))
           → IsSomeAnd o (λ its. ((result ≡ Err NoMemory) × (new ≡ w)) ⊎ ((result ≡ Ok tt) × (by_worlds.says w (entry.Cut its.step its.call) ≡ new)))
       by_cut None ends = ends
       by_cut (Some its) (inl wants) = inl (wants.0, same_out ∙ ap (λ (l : List Entry). record w { out = l }) (ap (λ (t : Trace). t.out) wants.1 ∙ sym starts))
@@ -122,7 +122,7 @@ pub runs_faulted : {W : Type 0} (way : Way W) (script : Script) (first : Files �
 runs_faulted way script first w mid new its answered lives told = record { result = Err its; mid = mid; lives = lives; told = told }
 
 -- a line that is added over lines is added over worlds
-pub tells_over : (its answered : Fault) (out now : List Entry) (picks : List ℕ) (held : Secrets) (f : Burn) (files : Files) → TellsEnd by_lines (Err its) (Err answered) (trace out picks) (trace now picks)
+pub tells_over : (its answered : Fault) (out now : List Entry) (picks : List ℕ) (held : Secrets) (f : Burn) (files : Files) → TellsEnd by_entries (Err its) (Err answered) (trace out picks) (trace now picks)
     → TellsEnd by_worlds (Err its) (Err answered) (at (moment out held f) files) (at (moment now held f) files)
 tells_over its answered out now picks held f files (inl wants) = inl (wants.0, ap (λ (t : Trace). at (moment t.out held f) files) wants.1)
 tells_over its answered out now picks held f files (inr told) = inr (told.0, told.1, ap (λ (t : Trace). at (moment t.out held f) files) told.2)

@@ -39,7 +39,7 @@ use Rattle.dkg_lives.specs.Moving.{StepBlames, StopBlames, Went}
 use Rattle.dkg_run.specs.Untold.{IsUntold}
 use Rattle.dkg_node.specs.Nodes.{HasOpened, IsOfLife, IsStepHere, IsView, ViewedNew}
 use Rattle.dkg_around.specs.Sources.{IsToOpen, anchor_numbers}
-use Rattle.dkg_lives.specs.Ways.{ReadsSomething, by_lines, trace}
+use Rattle.dkg_lives.specs.Ways.{ReadsSomething, by_entries, trace}
 use Rattle.dkg_around.specs.declared.held.HeldBlocks.{HeldBlocks}
 use Rattle.dkg_node.specs.declared.node.Node.{Node}
 use Rattle.dkg_lives.proofs.Living.{step_blames_around, step_stop_cause}
@@ -52,7 +52,7 @@ use Rattle.dkg_run.proofs.Turns.{cut_lines, stopped_lines, told_lines, untold_li
 
 abbrev pub LinesSo : Script → ℕ → Life → (out : List Entry) → Result (Unit {0}) Stop → (now : List Entry) → Files → Type 0
 LinesSo script number life out how now files =
-    (seen : Held → Seen) × ReadsSomething seen × ((picks : List ℕ) → LivesSo by_lines (lived script number life seen files) files (trace out picks) how (trace now picks))
+    (seen : Held → Seen) × ReadsSomething seen × ((picks : List ℕ) → LivesSo by_entries (lived script number life seen files) files (trace out picks) how (trace now picks))
 
 -- what is read of nothing
 abbrev nothing : Held → Seen
@@ -68,7 +68,7 @@ module _ (script : Script) (number : ℕ) (life : Life) (files : Files) (out : L
     nothing,
     reads_nothing,
     λ picks. inl (cut_lines (entry.Step 0) life.cut 0 none (node_opening (at_step (lived script number life nothing files) 0)) stop at_cut
-        (λ end mid. TakesAll by_lines (lived script number life nothing files) 1 life.events end mid (Err stop) (trace out picks)) out picks),
+        (λ end mid. TakesAll by_entries (lived script number life nothing files) 1 life.events end mid (Err stop) (trace out picks)) out picks),
   )
 
   module _ (f : Burn) (lit : fuse_for life.cut 0 ≡ Some f) where
@@ -77,8 +77,8 @@ module _ (script : Script) (number : ℕ) (life : Life) (files : Files) (out : L
     unsourced_first = (
       nothing,
       reads_nothing,
-      λ picks. inl (step_wants by_lines (entry.Step 0) (fuse_for life.cut 0) (node_opening (at_step (lived script number life nothing files) 0)) (trace out picks)
-          (λ end mid. TakesAll by_lines (lived script number life nothing files) 1 life.events end mid (Err (FaultOf NoMemory)) (trace out picks)) f lit),
+      λ picks. inl (step_wants by_entries (entry.Step 0) (fuse_for life.cut 0) (node_opening (at_step (lived script number life nothing files) 0)) (trace out picks)
+          (λ end mid. TakesAll by_entries (lived script number life nothing files) 1 life.events end mid (Err (FaultOf NoMemory)) (trace out picks)) f lit),
     )
 
     module _ (G : Seen → Type 0) (now : List Entry) where
@@ -90,7 +90,7 @@ module _ (script : Script) (number : ℕ) (life : Life) (files : Files) (out : L
         λ h. read.seen,
         record { read = read.seen; each = refl; unplanned = read.unplanned },
         λ picks. inl (stopped_lines (entry.Step 0) life.cut 0 f lit (node_opening (at_step (lived script number life (λ h. read.seen) files) 0))
-            (λ end mid. TakesAll by_lines (lived script number life (λ h. read.seen) files) 1 life.events end mid (Err stop) (trace now picks)) out now picks stop cuts read.so),
+            (λ end mid. TakesAll by_entries (lived script number life (λ h. read.seen) files) 1 life.events end mid (Err stop) (trace now picks)) out now picks stop cuts read.so),
       )
 
       module _ (node : Node) (read : HasRead G (λ s. ViewedNew (Ok node) (λ ended. Tells (node_opening (at_step (lived script number life (λ h. s) files) 0)) ended out now))) where
@@ -106,7 +106,7 @@ module _ (script : Script) (number : ℕ) (life : Life) (files : Files) (out : L
           λ h. read.seen,
           reads_it,
           λ picks. inl (untold_lines (entry.Step 0) life.cut 0 f lit (node_opening (at_step its 0))
-              (λ end mid. TakesAll by_lines its 1 life.events end mid (Err (FaultOf NoMemory)) (trace now picks)) out now picks (read.so).0 (read.so).2),
+              (λ end mid. TakesAll by_entries its 1 life.events end mid (Err (FaultOf NoMemory)) (trace now picks)) out now picks (read.so).0 (read.so).2),
         )
 
         -- .. or was told, and the steps of the life came then
@@ -120,7 +120,7 @@ module _ (script : Script) (number : ℕ) (life : Life) (files : Files) (out : L
             step_of_it = record { of = of its refl refl (λ h. read.unplanned); blocks_are = same; life_is = refl }
 
             at_first : IsAtEvent its 0 (read.so).0
-            at_first = (opened_at by_lines lines_lead its over_it (read.so).0 f (trace out []) (trace now [])
+            at_first = (opened_at by_entries lines_lead its over_it (read.so).0 f (trace out []) (trace now [])
                 (lines_go (node_opening (at_step its 0)) (went (read.so).0) f out now [] (read.so).2 (λ is. absurd (went_uncut (read.so).0 is)))).3
 
             pub has_opened : AreBytes script.blocks → HasOpened node blocks life
@@ -128,21 +128,21 @@ module _ (script : Script) (number : ℕ) (life : Life) (files : Files) (out : L
 
             pub told_first : (how : Result (Unit {0}) Stop) (behind now_then : List Entry) → behind ≡ now ++ entry.Step 0 ∷ []
                 → ((g : Lived) (st : Live directory.Unit) (picks : List ℕ) → IsLifeInForm g → IsStepHere g node blocks life → IsView node st → IsAtEvent g 0 st
-                → TakesAll by_lines g 1 life.events st (trace behind picks) how (trace now_then picks))
+                → TakesAll by_entries g 1 life.events st (trace behind picks) how (trace now_then picks))
                 → LinesSo script number life out how now_then files
             told_first how behind now_then is takes = (
               λ h. read.seen,
               reads_it,
               λ picks. inl (told_lines (entry.Step 0) life.cut 0 f lit (node_opening (at_step its 0))
-                  (λ end mid. TakesAll by_lines its 1 life.events end mid how (trace now_then picks)) out now picks (read.so).0 (read.so).2 how (trace now_then picks)
-                  (subst (λ (l : List Entry). TakesAll by_lines its 1 life.events (read.so).0 (trace l picks) how (trace now_then picks)) is
+                  (λ end mid. TakesAll by_entries its 1 life.events end mid how (trace now_then picks)) out now picks (read.so).0 (read.so).2 how (trace now_then picks)
+                  (subst (λ (l : List Entry). TakesAll by_entries its 1 life.events (read.so).0 (trace l picks) how (trace now_then picks)) is
                   (takes its (read.so).0 picks over_it step_of_it (read.so).1 at_first))),
             )
 
             -- .. one of both
             pub went_first : {D X : Type 0} (mid last : Devices D X) (how : Result (Unit {0}) Stop) (now_then : List Entry)
                 → IsUntold how mid last now now_then ⊎ ((g : Lived) (st : Live directory.Unit) (picks : List ℕ) → IsLifeInForm g → IsStepHere g node blocks life → IsView node st → IsAtEvent g 0 st
-                → TakesAll by_lines g 1 life.events st (trace (now ++ entry.Step 0 ∷ []) picks) how (trace now_then picks))
+                → TakesAll by_entries g 1 life.events st (trace (now ++ entry.Step 0 ∷ []) picks) how (trace now_then picks))
                 → LinesSo script number life out how now_then files
             went_first mid last how now_then (inr takes) = told_first how (now ++ entry.Step 0 ∷ []) now_then refl takes
             went_first mid last how now_then (inl none) =

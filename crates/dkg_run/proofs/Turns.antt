@@ -40,7 +40,7 @@ use Rattle.dkg_lives.specs.Moving.{world_of}
 use Rattle.dkg_node.specs.Nodes.{IsEventHere, IsEventOfBlocks, IsReadyNode}
 use Rattle.dkg_around.specs.declared.held.HeldBlocks.{HeldBlocks}
 use Rattle.dkg_lives.specs.Given.{Lived}
-use Rattle.dkg_lives.specs.Ways.{Trace, Way, by_lines, by_worlds, trace}
+use Rattle.dkg_lives.specs.Ways.{Trace, Way, by_entries, by_worlds, trace}
 use Rattle.dkg_node.specs.declared.node.Node.{Node}
 use Rattle.dkg_node.proofs.Noding.{NodeState, living_in}
 use Rattle.dkg_around.proofs.Stepping.{lines_go, step_cut, step_stops, step_told, step_untold, uncut, worlds_go}
@@ -63,18 +63,18 @@ module _ (line : Entry) (its : Option cut.Cut) (number : ℕ) (f : Burn) (lit : 
 
   module _ (next : Live directory.Unit → Trace → Type 0) (out now : List Entry) (picks : List ℕ) where
     -- it stopped
-    pub stopped_lines : (stop : Stop) → (stop ≡ Cut → 0 < f.call) → Tells course (by_node_stop stop) out now → Steps by_lines line (fuse_for its number) course (trace out picks) (Err stop) (trace now picks) next
+    pub stopped_lines : (stop : Stop) → (stop ≡ Cut → 0 < f.call) → Tells course (by_node_stop stop) out now → Steps by_entries line (fuse_for its number) course (trace out picks) (Err stop) (trace now picks) next
     stopped_lines stop cuts told =
-        step_stops by_lines line (fuse_for its number) course (trace out picks) next f lit stop (trace now picks) (lines_go course (by_node_stop stop) f out now picks told (λ is. cuts (uncut stop is)))
+        step_stops by_entries line (fuse_for its number) course (trace out picks) next f lit stop (trace now picks) (lines_go course (by_node_stop stop) f out now picks told (λ is. cuts (uncut stop is)))
 
     -- its line found no memory
-    pub untold_lines : (end : Live directory.Unit) → Tells course (went end) out now → Steps by_lines line (fuse_for its number) course (trace out picks) (Err (FaultOf NoMemory)) (trace now picks) next
-    untold_lines end told = step_untold by_lines line (fuse_for its number) course (trace out picks) next f lit end (trace now picks) (lines_go course (went end) f out now picks told (λ is. absurd (went_uncut end is)))
+    pub untold_lines : (end : Live directory.Unit) → Tells course (went end) out now → Steps by_entries line (fuse_for its number) course (trace out picks) (Err (FaultOf NoMemory)) (trace now picks) next
+    untold_lines end told = step_untold by_entries line (fuse_for its number) course (trace out picks) next f lit end (trace now picks) (lines_go course (went end) f out now picks told (λ is. absurd (went_uncut end is)))
 
     -- .. or was told
     pub told_lines : (end : Live directory.Unit) → Tells course (went end) out now → (how : Result (Unit {0}) Stop) (new : Trace) → next end (trace (now ++ line ∷ []) picks)
-        → Steps by_lines line (fuse_for its number) course (trace out picks) how new next
-    told_lines end told how new more = step_told by_lines line (fuse_for its number) course (trace out picks) next f lit end (trace now picks) (lines_go course (went end) f out now picks told (λ is. absurd (went_uncut end is))) how new more
+        → Steps by_entries line (fuse_for its number) course (trace out picks) how new next
+    told_lines end told how new more = step_told by_entries line (fuse_for its number) course (trace out picks) next f lit end (trace now picks) (lines_go course (went end) f out now picks told (λ is. absurd (went_uncut end is))) how new more
 
   -- OVER WORLDS: the fuse was another before
 
@@ -111,9 +111,9 @@ module _ (line : Entry) (its : Option cut.Cut) (number : ℕ) (f : Burn) (lit : 
 -- THE LIFE IS CUT BEFORE THE STEP
 
 module _ (line : Entry) (its : Option cut.Cut) (number : ℕ) (none : fuse_for its number ≡ None) (course : Course directory.Unit NodeStop (Live directory.Unit)) (stop : Stop) (at_cut : stop ≡ Cut) where
-  pub cut_lines : (next : Live directory.Unit → Trace → Type 0) (out : List Entry) (picks : List ℕ) → Steps by_lines line (fuse_for its number) course (trace out picks) (Err stop) (trace out picks) next
-  cut_lines next out picks = subst (λ (s : Stop). Steps by_lines line (fuse_for its number) course (trace out picks) (Err s) (trace out picks) next) (sym at_cut)
-      (step_cut by_lines line (fuse_for its number) course (trace out picks) next none)
+  pub cut_lines : (next : Live directory.Unit → Trace → Type 0) (out : List Entry) (picks : List ℕ) → Steps by_entries line (fuse_for its number) course (trace out picks) (Err stop) (trace out picks) next
+  cut_lines next out picks = subst (λ (s : Stop). Steps by_entries line (fuse_for its number) course (trace out picks) (Err s) (trace out picks) next) (sym at_cut)
+      (step_cut by_entries line (fuse_for its number) course (trace out picks) next none)
 
   pub cut_worlds : (next : Live directory.Unit → World → Type 0) (files : Files) (image : Files → Type 0) → Stands files image → (out : List Entry) (s : Secrets) (f : Burn) (c : Files) → image c
       → Steps by_worlds line (fuse_for its number) course (at (moment out s f) files) (Err stop) (at (moment out s f) c) next

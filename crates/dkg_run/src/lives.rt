@@ -30,7 +30,7 @@ ghost use Rattle.dkg_node.specs.Nodes.{GoesIn, HasOpened, IsEventOfBlocks, IsOfL
 ghost use Rattle.dkg_promises.specs.Over.{over};
 ghost use Rattle.dkg_promises.specs.Promised.{DoesRun, Promised, SaysRun};
 ghost use Rattle.dkg_lives.specs.Stopped.{picks_at_end};
-ghost use Rattle.dkg_lives.specs.Ways.{by_lines, by_worlds, trace};
+ghost use Rattle.dkg_lives.specs.Ways.{by_entries, by_worlds, trace};
 
 use dkg_around::{HeldBlocks, blocks_of};
 use dkg_ceremony::{Mem, Value};
@@ -113,7 +113,7 @@ fn take_step<D: Disk, X: SecretStore>(
     // It is the relation's step with its fuse, over the lines, and over both devices, whatever image a crash leaves.
     ensures lines { (g : Lived) (st : Live directory.Unit) (picks : List ℕ) → IsStepHere g node.old source.old.blocks.now life.now → MayStep g number st
         → IsView node.old st
-        → Steps by_lines (entry.Step number) (fuse_for life.now.cut number) (step_of g number event.now st)
+        → Steps by_entries (entry.Step number) (fuse_for life.now.cut number) (step_of g number event.now st)
         (trace out.old.entries picks) result (trace out.new.entries picks)
         (λ end now. (result ≡ Ok tt) × IsView node.new end × (now ≡ trace out.new.entries picks)) }
     ensures run { IsTrue D.tells → IsTrue X.tells → (g : Lived) (st : Live directory.Unit) → IsStepHere g node.old source.old.blocks.now life.now
@@ -147,7 +147,7 @@ fn take_steps<D: Disk, X: SecretStore>(
     requires ready { IsReadyNode D.tells D.files D.image node.old devices.old }
     ensures lines { (g : Lived) (st : Live directory.Unit) (picks : List ℕ) → IsLifeInForm g → IsStepHere g node.old source.old.blocks.now life.now
         → IsView node.old st → IsAtEvent g 0 st
-        → TakesAll by_lines g 1 life.now.events st (trace out.old.entries picks) result (trace out.new.entries picks) }
+        → TakesAll by_entries g 1 life.now.events st (trace out.old.entries picks) result (trace out.new.entries picks) }
     ensures run { IsTrue D.tells → IsTrue X.tells → (g : Lived) (st : Live directory.Unit) → IsLifeInForm g
         → IsStepHere g node.old source.old.blocks.now life.now → IsView node.old st → IsAtEvent g 0 st → (c : Files) → D.image devices.new.disk.now c
         → TakesAll by_worlds g 1 life.now.events st
@@ -188,7 +188,7 @@ fn go_on<D: Disk, X: SecretStore>(
     ensures lines { IsUntold result devices.old devices.new out.old.entries out.new.entries
         ⊎ ((g : Lived) (st : Live directory.Unit) (picks : List ℕ) → IsLifeInForm g → IsStepHere g node.old source.old.blocks.now life.now
         → IsView node.old st → IsAtEvent g 0 st
-        → TakesAll by_lines g 1 life.now.events st (trace (out.old.entries ++ entry.Step 0 ∷ []) picks) result (trace out.new.entries picks)) }
+        → TakesAll by_entries g 1 life.now.events st (trace (out.old.entries ++ entry.Step 0 ∷ []) picks) result (trace out.new.entries picks)) }
     ensures run { IsUntold result devices.old devices.new out.old.entries out.new.entries
         ⊎ (IsTrue D.tells → IsTrue X.tells → (g : Lived) (st : Live directory.Unit) → IsLifeInForm g
         → IsStepHere g node.old source.old.blocks.now life.now → IsView node.old st → IsAtEvent g 0 st → (c : Files) → D.image devices.new.disk.now c
@@ -219,8 +219,8 @@ fn live<D: Disk, X: SecretStore>(
     requires here { (slice_get script.now.lives number ≡ Some life.now) × (blocks.now ≡ blocks_in script.now) }
     requires bytes { AreBytes script.now.blocks }
     // It is a life of the node, over the lines and over both devices, whatever image a crash leaves.
-    ensures lines { (seen : Held → Seen) × by_lines.reads seen × ((picks : List ℕ)
-        → LivesSo by_lines (lived script.now number life.now seen (D.files devices.old.disk.now)) (D.files devices.old.disk.now)
+    ensures lines { (seen : Held → Seen) × by_entries.reads seen × ((picks : List ℕ)
+        → LivesSo by_entries (lived script.now number life.now seen (D.files devices.old.disk.now)) (D.files devices.old.disk.now)
         (trace out.old.entries picks) result (trace out.new.entries picks)) }
     ensures run { IsTrue D.tells → IsTrue X.tells → Stands (D.files devices.old.disk.now) (D.image devices.old.disk.now) → (c : Files)
         → D.image devices.new.disk.now c
@@ -262,7 +262,7 @@ fn end_life<D: Disk, X: SecretStore>(
     requires scripted { how ≡ Err AtCut → IsSome life.now.cut }
     requires done { how ≡ Err HadFailed → ⊥ }
     ensures ends { (picks : List ℕ)
-        → EndsLife by_lines life.now how (trace out.old.entries picks) result (trace out.new.entries (picks ++ picks_at_end life.now how))
+        → EndsLife by_entries life.now how (trace out.old.entries picks) result (trace out.new.entries (picks ++ picks_at_end life.now how))
         (λ now. (result ≡ Ok tt) × (now ≡ trace out.new.entries (picks ++ picks_at_end life.now how))) }
     ensures faulted { IfErr result (λ fault. (how ≡ Err (FaultOf fault)) ⊎ (fault ≡ NoMemory)) }
     ensures narrows { (c : Files) → D.image devices.new.disk.now c → D.image devices.old.disk.now c }
@@ -304,7 +304,7 @@ fn run_life<D: Disk, X: SecretStore>(
     requires here { (slice_get script.now.lives number ≡ Some life.now) × (blocks.now ≡ blocks_in script.now) }
     requires bytes { AreBytes script.now.blocks }
     ensures lines { (added : List ℕ) × Went D.tells D.made X.made D.faults X.faults devices.old devices.new added
-        × ((picks : List ℕ) → LivesHere by_lines script.now AnyFiles number life.now (trace out.old.entries picks) result
+        × ((picks : List ℕ) → LivesHere by_entries script.now AnyFiles number life.now (trace out.old.entries picks) result
         (trace out.new.entries (picks ++ added))
         (λ now. (result ≡ Ok tt) × (now ≡ trace out.new.entries (picks ++ added)))) }
     ensures run { IsTrue D.tells → IsTrue X.tells → Stands (D.files devices.old.disk.now) (D.image devices.old.disk.now) → (c : Files)
@@ -331,7 +331,7 @@ fn run_all<D: Disk, X: SecretStore>(
 ) -> Result<(), Fault>
     requires form { IsFormOfInclusion script.now }
     ensures lines { (picks : List ℕ) × Went D.tells D.made X.made D.faults X.faults devices.old devices.new picks
-        × RunsAllSo by_lines script.now AnyFiles (trace out.old.entries []) result (trace out.new.entries picks) }
+        × RunsAllSo by_entries script.now AnyFiles (trace out.old.entries []) result (trace out.new.entries picks) }
     ensures run { IsTrue D.tells → IsTrue X.tells → Stands (D.files devices.old.disk.now) (D.image devices.old.disk.now) → (c : Files)
         → D.image devices.new.disk.now c
         → RunsAllSo by_worlds script.now (λ files. files ≡ D.files devices.old.disk.now)
@@ -360,7 +360,7 @@ fn run_all<D: Disk, X: SecretStore>(
 
 /// Tells the fault that ends a run, unless it is want of memory.
 fn tell(alloc: Global, fault: Fault, out: &mut Transcript) -> Fault
-    ensures { (picks : List ℕ) → TellsEnd by_lines (Err fault) (Err result) (trace out.old.entries picks) (trace out.new.entries picks) }
+    ensures { (picks : List ℕ) → TellsEnd by_entries (Err fault) (Err result) (trace out.old.entries picks) (trace out.new.entries picks) }
 {
     if let Fault::NoMemory = fault {
         return fault;

@@ -3,7 +3,7 @@ use Rattle.std.proofs.lemmas.Result.{err_from_is_err_and}
 use Rattle.dkg_infos.specs.declared.entry.Entry.{Entry}
 use Rattle.dkg_lives.specs.Lives.{TakesAll}
 use Rattle.dkg_lives.specs.Moving.{world_of}
-use Rattle.dkg_lives.specs.Ways.{by_lines, by_worlds, trace}
+use Rattle.dkg_lives.specs.Ways.{by_entries, by_worlds, trace}
 use Rattle.dkg_run.proofs.Going.{went_none}
 use Rattle.dkg_run.proofs.lives.go_on.Goals as goal
 
@@ -23,7 +23,7 @@ returns-in_err-push-clause-went g c =
 
 pub returns-clause-lines : goal.returns-clause-lines
 returns-clause-lines g c = inr (λ lived st picks over here view at.
-    subst (λ (l : List Entry). TakesAll by_lines lived 1 c.args.life.now.events st (trace l picks) c.take_steps.result (trace c.take_steps.new.out.entries picks))
+    subst (λ (l : List Entry). TakesAll by_entries lived 1 c.args.life.now.events st (trace l picks) c.take_steps.result (trace c.take_steps.new.out.entries picks))
     c.in_ok-push.ensures.ok (c.take_steps.ensures.lines lived st picks over here view at))
 
 pub returns-clause-run : goal.returns-clause-run

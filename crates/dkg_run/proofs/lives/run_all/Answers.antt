@@ -7,7 +7,7 @@ use Rattle.dkg_store.specs.Acts.{World}
 use Rattle.dkg_lives.specs.Given.{limits_of}
 use Rattle.dkg_lives.specs.Lives.{AnyFiles, LivesFrom}
 use Rattle.dkg_lives.specs.Moving.{world_of}
-use Rattle.dkg_lives.specs.Ways.{by_lines, by_worlds, trace}
+use Rattle.dkg_lives.specs.Ways.{by_entries, by_worlds, trace}
 use Rattle.dkg_lives.proofs.Checked.{config_caused}
 use Rattle.dkg_run.proofs.Going.{went_none, went_then}
 use Rattle.dkg_run.proofs.Lasting.{blames_behind}
@@ -59,7 +59,7 @@ returns-in_err-blocks-clause-fit g c = λ told fit. fit
 
 pub loop-i-init : goal.loop-i-init
 loop-i-init g c = record {
-  lines = ([], went_none _ _ _ _ _ g.met.D.Disk.made_none g.met.X.SecretStore.made_none _ _ refl refl, lives_first by_lines c.args.script.now AnyFiles _ _);
+  lines = ([], went_none _ _ _ _ _ g.met.D.Disk.made_none g.met.X.SecretStore.made_none _ _ refl refl, lives_first by_entries c.args.script.now AnyFiles _ _);
   run = λ disk secrets stands. lives_first by_worlds c.args.script.now _ _ _;
   stands = λ told stands. stands;
   fit = λ told fit. fit;
@@ -81,7 +81,7 @@ returns-in_err-run_life-clause-lines g c =
     rw (p.1, p.2) (
       so_far.0 ++ its.0,
       went_then g.D.Disk.tells g.D.Disk.made g.X.SecretStore.made g.D.Disk.faults g.X.SecretStore.faults g.met.D.Disk.made_more g.met.X.SecretStore.made_more _ _ _ so_far.0 its.0 so_far.1 its.1,
-      inr (c.in_ok-check_config.ensures.accepted, inr (lives_stop by_lines c.args.script.now AnyFiles c.args.script.now.lives (trace c.args.out.now.entries []) c.loop-i.i AnyFiles c.life-item.result life_is (trace c.loop-i.out.entries so_far.0) so_far.2 _ _ (its.2 so_far.0))),
+      inr (c.in_ok-check_config.ensures.accepted, inr (lives_stop by_entries c.args.script.now AnyFiles c.args.script.now.lives (trace c.args.out.now.entries []) c.loop-i.i AnyFiles c.life-item.result life_is (trace c.loop-i.out.entries so_far.0) so_far.2 _ _ (its.2 so_far.0))),
     )
 
 pub returns-in_err-run_life-clause-run : goal.returns-in_err-run_life-clause-run
@@ -110,7 +110,7 @@ loop-i-preserved g c =
       lines = (
         so_far.0 ++ its.0,
         went_then g.D.Disk.tells g.D.Disk.made g.X.SecretStore.made g.D.Disk.faults g.X.SecretStore.faults g.met.D.Disk.made_more g.met.X.SecretStore.made_more _ _ _ so_far.0 its.0 so_far.1 its.1,
-        lives_next by_lines c.args.script.now AnyFiles c.args.script.now.lives (trace c.args.out.now.entries []) c.loop-i.i AnyFiles c.life-item.result life_is (trace c.loop-i.out.entries so_far.0) so_far.2
+        lives_next by_entries c.args.script.now AnyFiles c.args.script.now.lives (trace c.args.out.now.entries []) c.loop-i.i AnyFiles c.life-item.result life_is (trace c.loop-i.out.entries so_far.0) so_far.2
             (trace c.run_life.new.out.entries (so_far.0 ++ its.0)) AnyFiles (its.2 so_far.0),
       );
       run = λ disk secrets stands.
@@ -129,7 +129,7 @@ returns-clause-lines g c =
     let all : length c.args.script.now.lives ≤ c.loop-i.i = rw (← c.as_slice-life-items.ensures) (omega (arith, c.loop-i-test.false)) in (
       so_far.0,
       so_far.1,
-      inr (c.in_ok-check_config.ensures.accepted, inr (lives_end by_lines c.args.script.now AnyFiles c.args.script.now.lives (trace c.args.out.now.entries []) c.loop-i.i AnyFiles (trace c.loop-i.out.entries so_far.0) all so_far.2)),
+      inr (c.in_ok-check_config.ensures.accepted, inr (lives_end by_entries c.args.script.now AnyFiles c.args.script.now.lives (trace c.args.out.now.entries []) c.loop-i.i AnyFiles (trace c.loop-i.out.entries so_far.0) all so_far.2)),
     )
 
 pub returns-clause-run : goal.returns-clause-run

@@ -8,7 +8,7 @@ use Rattle.dkg_store.proofs.Counts.{reached_cuts}
 use Rattle.dkg_lives.specs.Given.{step_of}
 use Rattle.dkg_lives.specs.Lives.{fuse_for}
 use Rattle.dkg_lives.specs.Moving.{world_of}
-use Rattle.dkg_lives.specs.Ways.{by_lines, trace}
+use Rattle.dkg_lives.specs.Ways.{by_entries, trace}
 use Rattle.dkg_run.proofs.Going.{went_moved, went_none, went_then}
 use Rattle.dkg_run.proofs.Starting.{fit_over, step_blames_from}
 use Rattle.dkg_around.proofs.Stepping.{step_wants}
@@ -171,7 +171,7 @@ returns-in_err-begin_step-clause-fit g c = λ told. fit_over g.D.Disk.image c.ar
 pub returns-in_err-hold-clause-lines : goal.returns-in_err-hold-clause-lines
 returns-in_err-hold-clause-lines g c = λ lived st picks here may view.
     let p = err_from_is_err_and c.from_residual-in_err-hold.result c.from_residual-in_err-hold.ensures.1 in
-    rw (p.1, p.2) (step_wants by_lines (entry.Step c.args.number) (fuse_for c.args.life.now.cut c.args.number) (step_of lived c.args.number c.args.event.now st) (trace c.args.out.now.entries picks) _ c.begin_step.new.devices.fuse c.in_ok-begin_step.ensures.lit)
+    rw (p.1, p.2) (step_wants by_entries (entry.Step c.args.number) (fuse_for c.args.life.now.cut c.args.number) (step_of lived c.args.number c.args.event.now st) (trace c.args.out.now.entries picks) _ c.begin_step.new.devices.fuse c.in_ok-begin_step.ensures.lit)
 
 pub returns-in_err-hold-clause-ready : goal.returns-in_err-hold-clause-ready
 returns-in_err-hold-clause-ready g c = let p = err_from_is_err_and c.from_residual-in_err-hold.result c.from_residual-in_err-hold.ensures.1 in rw p.1 tt

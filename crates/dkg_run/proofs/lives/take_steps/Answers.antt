@@ -9,7 +9,7 @@ use Rattle.dkg_lives.specs.Given.{step_of}
 use Rattle.dkg_lives.specs.Lives.{Steps, TakesAll, fuse_for}
 use Rattle.dkg_lives.specs.Moving.{world_of}
 use Rattle.dkg_node.specs.Nodes.{IsView}
-use Rattle.dkg_lives.specs.Ways.{by_lines, by_worlds, trace}
+use Rattle.dkg_lives.specs.Ways.{by_entries, by_worlds, trace}
 use Rattle.dkg_run.proofs.Going.{went_none, went_then}
 use Rattle.dkg_lives.proofs.LivesStand.{lines_lead, worlds_lead}
 use Rattle.dkg_run.proofs.StepsOn.{IsHere, goes_in, here_first, may_step, step_here, steps_here, taken_event}
@@ -26,7 +26,7 @@ loop-i-init g c = record {
   blocks = refl;
   went = went_none g.D.Disk.tells g.D.Disk.made g.X.SecretStore.made g.D.Disk.faults g.X.SecretStore.faults g.met.D.Disk.made_none g.met.X.SecretStore.made_none _ _ refl refl;
   fit = λ told fit. fit;
-  lines = λ lived st picks over here view at. record { now = st; so = here_first lived c.args.node.now st c.args.life.now here.life_is c.requires.begun.0 c.requires.begun.1 view at; on = takes_first by_lines lived c.args.life.now.events st (trace c.args.out.now.entries picks) };
+  lines = λ lived st picks over here view at. record { now = st; so = here_first lived c.args.node.now st c.args.life.now here.life_is c.requires.begun.0 c.requires.begun.1 view at; on = takes_first by_entries lived c.args.life.now.events st (trace c.args.out.now.entries picks) };
   run = λ disk secrets lived st over here view at. record { now = st; so = here_first lived c.args.node.now st c.args.life.now here.life_is c.requires.begun.0 c.requires.begun.1 view at; on = takes_first by_worlds lived c.args.life.now.events st (world_of g.X.SecretStore.held c.args.devices.now c.args.out.now.entries (g.D.Disk.files c.args.devices.now.disk.now)) };
 }
 
@@ -53,11 +53,11 @@ returns-in_err-take_step-clause-lines g c = λ lived st picks over here view at.
     let p = err_from_is_err_and c.from_residual.result c.from_residual.ensures.1 in
     let at_event : slice_get c.args.life.now.events c.loop-i.i ≡ Some c.at.result = c.at.ensures in
     let taken = c.loop-i.invariant.lines lived st picks over here view at in
-    let its : Steps by_lines (entry.Step (c.loop-i.i + 1)) (fuse_for c.args.life.now.cut (c.loop-i.i + 1)) (step_of lived (c.loop-i.i + 1) c.at.result taken.now) (trace c.loop-i.out.entries picks)
+    let its : Steps by_entries (entry.Step (c.loop-i.i + 1)) (fuse_for c.args.life.now.cut (c.loop-i.i + 1)) (step_of lived (c.loop-i.i + 1) c.at.result taken.now) (trace c.loop-i.out.entries picks)
     (Err c.in_err-take_step.field-0.0) (trace c.take_step.new.out.entries picks) (λ end t. (◌≡◌ {A = Result (Unit {0}) Stop} (Err c.in_err-take_step.field-0.0) (Ok tt)) × IsView c.take_step.new.node end × (t ≡ trace c.take_step.new.out.entries picks)) =
     c.in_err-take_step.ensures.lines lived taken.now picks (step_here lived c.args.node.now c.loop-i.node c.args.source.now.blocks.now c.loop-i.source.blocks.now c.args.life.now c.loop-i.invariant.of (blocks_same c.args.source.now c.loop-i.source c.loop-i.invariant.blocks) here) (may_step lived over c.loop-i.i c.at.result c.args.life.now here.life_is at_event c.loop-i.node taken.now taken.so) taken.so.view in
-    rw (p.1, p.2) (takes_stop by_lines lived c.args.life.now.events st (trace c.args.out.now.entries picks) c.loop-i.i c.at.result at_event taken.now (trace c.loop-i.out.entries picks) taken.on c.in_err-take_step.field-0.0 (trace c.take_step.new.out.entries picks) (λ end t. Unit {0})
-    (stops_with by_lines _ _ _ _ _ _ _ _ (λ end t so. not_done so.0) (steps_of by_lines lived c.args.life.now here.life_is (entry.Step (c.loop-i.i + 1)) (c.loop-i.i + 1) (step_of lived (c.loop-i.i + 1) c.at.result taken.now) (trace c.loop-i.out.entries picks) (Err c.in_err-take_step.field-0.0) (trace c.take_step.new.out.entries picks)
+    rw (p.1, p.2) (takes_stop by_entries lived c.args.life.now.events st (trace c.args.out.now.entries picks) c.loop-i.i c.at.result at_event taken.now (trace c.loop-i.out.entries picks) taken.on c.in_err-take_step.field-0.0 (trace c.take_step.new.out.entries picks) (λ end t. Unit {0})
+    (stops_with by_entries _ _ _ _ _ _ _ _ (λ end t so. not_done so.0) (steps_of by_entries lived c.args.life.now here.life_is (entry.Step (c.loop-i.i + 1)) (c.loop-i.i + 1) (step_of lived (c.loop-i.i + 1) c.at.result taken.now) (trace c.loop-i.out.entries picks) (Err c.in_err-take_step.field-0.0) (trace c.take_step.new.out.entries picks)
     (λ end t. (◌≡◌ {A = Result (Unit {0}) Stop} (Err c.in_err-take_step.field-0.0) (Ok tt)) × IsView c.take_step.new.node end × (t ≡ trace c.take_step.new.out.entries picks)) its)))
 
 pub returns-in_err-take_step-clause-run : goal.returns-in_err-take_step-clause-run
@@ -89,9 +89,9 @@ loop-i-preserved g c =
       lines = λ lived st picks over here view at.
           let taken = c.loop-i.invariant.lines lived st picks over here view at in
           let its = c.in_ok-take_step.ensures.lines lived taken.now picks (step_here lived c.args.node.now c.loop-i.node c.args.source.now.blocks.now c.loop-i.source.blocks.now c.args.life.now c.loop-i.invariant.of (blocks_same c.args.source.now c.loop-i.source c.loop-i.invariant.blocks) here) (may_step lived over c.loop-i.i c.at.result c.args.life.now here.life_is at_event c.loop-i.node taken.now taken.so) taken.so.view in
-          takes_next by_lines lived c.args.life.now.events st (trace c.args.out.now.entries picks) c.loop-i.i c.at.result at_event taken.now (trace c.loop-i.out.entries picks) taken.on (trace c.take_step.new.out.entries picks) (IsHere lived c.take_step.new.node (c.loop-i.i + 1))
-          (steps_of by_lines lived c.args.life.now here.life_is _ _ _ _ _ _ _
-          (steps_here lived over c.loop-i.i c.at.result c.args.life.now here.life_is at_event c.loop-i.node taken.now taken.so by_lines lines_lead (entry.Step (c.loop-i.i + 1)) c.take_step.new.node (trace c.loop-i.out.entries picks) (trace c.take_step.new.out.entries picks) its));
+          takes_next by_entries lived c.args.life.now.events st (trace c.args.out.now.entries picks) c.loop-i.i c.at.result at_event taken.now (trace c.loop-i.out.entries picks) taken.on (trace c.take_step.new.out.entries picks) (IsHere lived c.take_step.new.node (c.loop-i.i + 1))
+          (steps_of by_entries lived c.args.life.now here.life_is _ _ _ _ _ _ _
+          (steps_here lived over c.loop-i.i c.at.result c.args.life.now here.life_is at_event c.loop-i.node taken.now taken.so by_entries lines_lead (entry.Step (c.loop-i.i + 1)) c.take_step.new.node (trace c.loop-i.out.entries picks) (trace c.take_step.new.out.entries picks) its));
       run = λ disk secrets lived st over here view at.
           let taken = c.loop-i.invariant.run disk secrets lived st over here view at in
           let its = c.in_ok-take_step.ensures.run disk secrets lived taken.now (step_here lived c.args.node.now c.loop-i.node c.args.source.now.blocks.now c.loop-i.source.blocks.now c.args.life.now c.loop-i.invariant.of (blocks_same c.args.source.now c.loop-i.source c.loop-i.invariant.blocks) here) (may_step lived over c.loop-i.i c.at.result c.args.life.now here.life_is at_event c.loop-i.node taken.now taken.so) taken.so.view (g.D.Disk.files c.take_step.new.devices.disk.now) (g.met.D.Disk.reads c.take_step.new.devices.disk.now disk) in
@@ -107,7 +107,7 @@ pub returns-clause-lines : goal.returns-clause-lines
 returns-clause-lines g c = λ lived st picks over here view at.
     let all : length c.args.life.now.events ≤ c.loop-i.i = omega (arith, c.len-i-end.ensures, c.loop-i-test.false) in
     let taken = c.loop-i.invariant.lines lived st picks over here view at in
-    takes_end by_lines lived c.args.life.now.events st (trace c.args.out.now.entries picks) c.loop-i.i taken.now (trace c.loop-i.out.entries picks) all taken.on
+    takes_end by_entries lived c.args.life.now.events st (trace c.args.out.now.entries picks) c.loop-i.i taken.now (trace c.loop-i.out.entries picks) all taken.on
 
 pub returns-clause-run : goal.returns-clause-run
 returns-clause-run g c = λ disk secrets lived st over here view at left image.

@@ -9,7 +9,7 @@ use Rattle.dkg_lives.specs.Epochs.{IsAtEvent, IsLifeInForm}
 use Rattle.dkg_lives.specs.Given.{Lived}
 use Rattle.dkg_lives.specs.Moving.{Went, world_of}
 use Rattle.dkg_node.specs.Nodes.{IsOfLife, IsReadyNode, IsStepHere, IsView}
-use Rattle.dkg_lives.specs.Ways.{by_lines, by_worlds, trace}
+use Rattle.dkg_lives.specs.Ways.{by_entries, by_worlds, trace}
 use Rattle.dkg_around.proofs.Stepping.{TakenOn}
 use Rattle.dkg_run.proofs.StepsOn.{IsHere}
 use Rattle.dkg_run.proofs.lives.take_steps.Given as goal
@@ -24,7 +24,7 @@ invariant-loop-i g l = record {
   fit : IsTrue g.D.Disk.tells → AreFit (non_zero_u32_get l.initial.node.actor.terms.limit) (g.D.Disk.image l.initial.devices.disk.now)
       → AreFit (non_zero_u32_get l.initial.node.actor.terms.limit) (g.D.Disk.image l.devices.disk.now);
   lines : (lived : Lived) (st : Live directory.Unit) (picks : List ℕ) → IsLifeInForm lived → IsStepHere lived l.initial.node l.initial.source.blocks.now l.life → IsView l.initial.node st → IsAtEvent lived 0 st
-      → TakenOn by_lines lived l.life.events st (trace l.initial.out.entries picks) l.i (IsHere lived l.node l.i) (trace l.out.entries picks);
+      → TakenOn by_entries lived l.life.events st (trace l.initial.out.entries picks) l.i (IsHere lived l.node l.i) (trace l.out.entries picks);
   run : IsTrue g.D.Disk.tells → IsTrue g.X.SecretStore.tells → (lived : Lived) (st : Live directory.Unit) → IsLifeInForm lived → IsStepHere lived l.initial.node l.initial.source.blocks.now l.life
       → IsView l.initial.node st → IsAtEvent lived 0 st → TakenOn by_worlds lived l.life.events st
       (world_of g.X.SecretStore.held l.initial.devices l.initial.out.entries (g.D.Disk.files l.initial.devices.disk.now)) l.i (IsHere lived l.node l.i)
