@@ -262,10 +262,12 @@ pub trait Ceremony {
 
     /// A round has the parts that were asked for.
     ghost round_has: { (namespace : List ℕ) (number : ℕ) (previous : Option Output) (mode : Mode) (reveal : Reveal) (dealers players : List ℕ)
-        → IfOk (round_of namespace number previous mode reveal dealers players) (λ round. round ≡ record { namespace = namespace; number = number; previous = previous; mode = mode; reveal = reveal; dealers = dealers; players = players }) };
+        → IfOk (round_of namespace number previous mode reveal dealers players)
+        (λ round. round ≡ record { namespace = namespace; number = number; previous = previous; mode = mode; reveal = reveal; dealers = dealers; players = players }) };
 
     /// What a player acknowledges passes the check.
-    ghost acks_pass: { (round : Round) (me dealer : ℕ) (public : List ℕ) → Contains round.players me → check_ack_of round dealer public me (ack_of me round dealer public) ≡ Ok tt };
+    ghost acks_pass: { (round : Round) (me dealer : ℕ) (public : List ℕ) → Contains round.players me
+        → check_ack_of round dealer public me (ack_of me round dealer public) ≡ Ok tt };
 
     /// A round that isn't drawn up has a cause of its own: want of memory is none.
     ghost rounds_have_causes: { (namespace : List ℕ) (number : ℕ) (previous : Option Output) (mode : Mode) (reveal : Reveal) (dealers players : List ℕ)
@@ -273,7 +275,8 @@ pub trait Ceremony {
 
     /// A dealer deals just where it has a share of the previous output that is its own, or there is no previous output.
     ghost shares_are_dealt: { (round : Round) (signer : ℕ) (share : Option ℕ) (seed : List ℕ)
-        → IsOk (deal_of round signer share seed) ↔ IfSome round.previous (λ output. IsSomeAnd share (λ s. partial_public_of output signer ≡ Some (share_public_of s))) };
+        → IsOk (deal_of round signer share seed)
+        ↔ IfSome round.previous (λ output. IsSomeAnd share (λ s. partial_public_of output signer ≡ Some (share_public_of s))) };
 
     /// Else its share is refused, whatever it is.
     ghost only_shares_are_refused: { (round : Round) (signer : ℕ) (share : Option ℕ) (seed : List ℕ)
@@ -281,20 +284,24 @@ pub trait Ceremony {
 
     /// What a dealer deals passes each player's check.
     ghost deals_pass: { (round : Round) (signer : ℕ) (share : Option ℕ) (seed : List ℕ) → Contains round.dealers signer
-        → IfOk (deal_of round signer share seed) (λ dealt. (me : ℕ) → Contains round.players me → IsSomeAnd (lookup me dealt.1) (λ private. dealing_of round me signer dealt.0 private ≡ Ok tt)) };
+        → IfOk (deal_of round signer share seed)
+        (λ dealt. (me : ℕ) → Contains round.players me → IsSomeAnd (lookup me dealt.1) (λ private. dealing_of round me signer dealt.0 private ≡ Ok tt)) };
 
     /// What a dealer deals has no more coefficients than the round has players, or one.
     ghost deals_are_short: { (round : Round) (signer : ℕ) (share : Option ℕ) (seed : List ℕ)
         → IfOk (deal_of round signer share seed) (λ dealt. (n : ℕ) → 1 ≤ n → length round.players ≤ n → length dealt.0 ≤ n) };
 
     /// What a dealer signs passes the check.
-    ghost signed_pass: { (round : Round) (signer : ℕ) (public : List ℕ) (privates : List (ℕ × ℕ)) (acks : List (ℕ × List ℕ)) → Contains round.dealers signer → check_log_of round (sign_log_of signer round public privates acks) ≡ true };
+    ghost signed_pass: { (round : Round) (signer : ℕ) (public : List ℕ) (privates : List (ℕ × ℕ)) (acks : List (ℕ × List ℕ)) → Contains round.dealers signer
+        → check_log_of round (sign_log_of signer round public privates acks) ≡ true };
 
     /// Who finishes a round has the outcome that all see, or none as they do.
-    ghost finish_agrees: { (round : Round) (me : ℕ) (dealings : List (ℕ × (List ℕ × ℕ))) (logs : List (ℕ × DealerLog)) → IfOk (finish_of round me dealings logs) (λ found. option_map (λ f. f.0) found ≡ outcome_of round logs) };
+    ghost finish_agrees: { (round : Round) (me : ℕ) (dealings : List (ℕ × (List ℕ × ℕ))) (logs : List (ℕ × DealerLog))
+        → IfOk (finish_of round me dealings logs) (λ found. option_map (λ f. f.0) found ≡ outcome_of round logs) };
 
     /// A round isn't finished only where a selected log bears the player's acknowledgement and its dealing is missing.
-    ghost missing_lacks: { (round : Round) (me : ℕ) (dealings : List (ℕ × (List ℕ × ℕ))) (logs : List (ℕ × DealerLog)) → IfErr (finish_of round me dealings logs) (IsMissing (λ dealer log. bears_ack_of round dealer log me) dealings logs (selected_of round logs)) };
+    ghost missing_lacks: { (round : Round) (me : ℕ) (dealings : List (ℕ × (List ℕ × ℕ))) (logs : List (ℕ × DealerLog))
+        → IfErr (finish_of round me dealings logs) (IsMissing (λ dealer log. bears_ack_of round dealer log me) dealings logs (selected_of round logs)) };
 
     /// A finished share's public element is the one that the output has for the player.
     ghost shares_fit: { (round : Round) (me : ℕ) (dealings : List (ℕ × (List ℕ × ℕ))) (logs : List (ℕ × DealerLog)) → Contains round.players me
@@ -304,25 +311,32 @@ pub trait Ceremony {
 
 /// What a player acknowledges passes the check, of every ceremony.
 pub fn acks_pass<C: Ceremony>()
-    ensures { (round : Round) (me dealer : ℕ) (public : List ℕ) → Contains round.players me → C.check_ack_of round dealer public me (C.ack_of me round dealer public) ≡ Ok tt }
+    ensures { (round : Round) (me dealer : ℕ) (public : List ℕ) → Contains round.players me
+        → C.check_ack_of round dealer public me (C.ack_of me round dealer public) ≡ Ok tt }
 {}
 
 /// What a dealer deals and signs passes the checks, of every ceremony.
 pub fn dealers_pass<C: Ceremony>()
     ensures dealt { (round : Round) (signer : ℕ) (share : Option ℕ) (seed : List ℕ)
-        → IsOk (C.deal_of round signer share seed) ↔ IfSome round.previous (λ output. IsSomeAnd share (λ s. C.partial_public_of output signer ≡ Some (C.share_public_of s))) }
-    ensures refused { (round : Round) (signer : ℕ) (share : Option ℕ) (seed : List ℕ) → IfErr (C.deal_of round signer share seed) (λ e. e ≡ DealError.ShareRefused) }
+        → IsOk (C.deal_of round signer share seed)
+        ↔ IfSome round.previous (λ output. IsSomeAnd share (λ s. C.partial_public_of output signer ≡ Some (C.share_public_of s))) }
+    ensures refused { (round : Round) (signer : ℕ) (share : Option ℕ) (seed : List ℕ)
+        → IfErr (C.deal_of round signer share seed) (λ e. e ≡ DealError.ShareRefused) }
     ensures checked { (round : Round) (signer : ℕ) (share : Option ℕ) (seed : List ℕ) → Contains round.dealers signer
-        → IfOk (C.deal_of round signer share seed) (λ dealt. (me : ℕ) → Contains round.players me → IsSomeAnd (lookup me dealt.1) (λ private. C.dealing_of round me signer dealt.0 private ≡ Ok tt)) }
+        → IfOk (C.deal_of round signer share seed)
+        (λ dealt. (me : ℕ) → Contains round.players me → IsSomeAnd (lookup me dealt.1) (λ private. C.dealing_of round me signer dealt.0 private ≡ Ok tt)) }
     ensures short { (round : Round) (signer : ℕ) (share : Option ℕ) (seed : List ℕ)
         → IfOk (C.deal_of round signer share seed) (λ dealt. (n : ℕ) → 1 ≤ n → length round.players ≤ n → length dealt.0 ≤ n) }
-    ensures signed { (round : Round) (signer : ℕ) (public : List ℕ) (privates : List (ℕ × ℕ)) (acks : List (ℕ × List ℕ)) → Contains round.dealers signer → C.check_log_of round (C.sign_log_of signer round public privates acks) ≡ true }
+    ensures signed { (round : Round) (signer : ℕ) (public : List ℕ) (privates : List (ℕ × ℕ)) (acks : List (ℕ × List ℕ)) → Contains round.dealers signer
+        → C.check_log_of round (C.sign_log_of signer round public privates acks) ≡ true }
 {}
 
 /// Who finishes a round has the outcome that all see, and a share that fits it, of every ceremony. Who doesn't lacks a dealing.
 pub fn finishes_agree<C: Ceremony>()
-    ensures same { (round : Round) (me : ℕ) (dealings : List (ℕ × (List ℕ × ℕ))) (logs : List (ℕ × DealerLog)) → IfOk (C.finish_of round me dealings logs) (λ found. option_map (λ f. f.0) found ≡ C.outcome_of round logs) }
-    ensures missing { (round : Round) (me : ℕ) (dealings : List (ℕ × (List ℕ × ℕ))) (logs : List (ℕ × DealerLog)) → IfErr (C.finish_of round me dealings logs) (IsMissing (λ dealer log. C.bears_ack_of round dealer log me) dealings logs (C.selected_of round logs)) }
+    ensures same { (round : Round) (me : ℕ) (dealings : List (ℕ × (List ℕ × ℕ))) (logs : List (ℕ × DealerLog))
+        → IfOk (C.finish_of round me dealings logs) (λ found. option_map (λ f. f.0) found ≡ C.outcome_of round logs) }
+    ensures missing { (round : Round) (me : ℕ) (dealings : List (ℕ × (List ℕ × ℕ))) (logs : List (ℕ × DealerLog))
+        → IfErr (C.finish_of round me dealings logs) (IsMissing (λ dealer log. C.bears_ack_of round dealer log me) dealings logs (C.selected_of round logs)) }
     ensures fits { (round : Round) (me : ℕ) (dealings : List (ℕ × (List ℕ × ℕ))) (logs : List (ℕ × DealerLog)) → Contains round.players me
         → ((dealer : ℕ) → IfSome (lookup dealer dealings) (λ d. C.dealing_of round me dealer d.0 d.1 ≡ Ok tt))
         → IfOk (C.finish_of round me dealings logs) (λ found. IfSome found (λ f. C.partial_public_of f.0 me ≡ Some (C.share_public_of f.1))) }

@@ -98,7 +98,9 @@ fn privates_of(
     logs: &Map<DealerLog>,
     selected: &[Key],
 ) -> Result<Vec<Element>, FinishError>
-    ensures all { IfOk result (λ privates. (first_missing (private_in players.now me dealings.now logs.now) selected.now ≡ None) × (privates.items ≡ known_privates (private_in players.now me dealings.now logs.now) selected.now)) }
+    ensures all { IfOk result
+        (λ privates. (first_missing (private_in players.now me dealings.now logs.now) selected.now ≡ None)
+        × (privates.items ≡ known_privates (private_in players.now me dealings.now logs.now) selected.now)) }
     ensures missing { IfErr result (λ e. TellsMissingDealing (first_missing (private_in players.now me dealings.now logs.now) selected.now) e) }
 {
     let mut privates = Vec::new(alloc);
@@ -122,7 +124,9 @@ fn gather(
 ) -> Result<Vec<Element>, FinishError>
     requires player { Contains round.now.players me }
     requires chosen { selected_of round.now logs.now ≡ Some selected.now }
-    ensures all { IfOk result (λ privates. (first_that (lacks_dealing round.now me dealings.now logs.now) selected.now ≡ None) × (privates.items ≡ known_privates (private_in round.now.players me dealings.now logs.now) selected.now)) }
+    ensures all { IfOk result
+        (λ privates. (first_that (lacks_dealing round.now me dealings.now logs.now) selected.now ≡ None)
+        × (privates.items ≡ known_privates (private_in round.now.players me dealings.now logs.now) selected.now)) }
     ensures missing { IfErr result (λ e. TellsMissingDealing (first_that (lacks_dealing round.now me dealings.now logs.now) selected.now) e) }
 {
     privates_of(alloc, &round.parts().players, me, dealings, logs, selected)

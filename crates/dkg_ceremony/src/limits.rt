@@ -12,7 +12,8 @@ impl Output {
     /// An output may be read under each limit that is no less than its numbers of dealers and of players, by each
     /// version that has its mode.
     pub fn fits_limits(&self)
-        ensures { (most version : ℕ) → IsTrue (supports_of version self.now.sharing.mode) → length self.now.dealers ≤ most → length self.now.players ≤ most → OutputFits most version self.now }
+        ensures { (most version : ℕ) → IsTrue (supports_of version self.now.sharing.mode) → length self.now.dealers ≤ most → length self.now.players ≤ most
+            → OutputFits most version self.now }
     {
         let _mark = self.summary.encode_size();
         known(self);

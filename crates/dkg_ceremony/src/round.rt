@@ -84,7 +84,8 @@ impl Model for Round {
 
     ghost view = { λ r. arc_value r.drawn };
 
-    ghost invariant = { λ r. IfSome r.begun (λ b. Holds256 b.hash (to_be_bytes w32 b.player ++ domain_byte domains.Ack ∷ [] ++ round_bytes (arc_value r.drawn))) };
+    ghost invariant = { λ r. IfSome r.begun
+        (λ b. Holds256 b.hash (to_be_bytes w32 b.player ++ domain_byte domains.Ack ∷ [] ++ round_bytes (arc_value r.drawn))) };
 }
 
 /// Why no round is drawn up; of several, the first.

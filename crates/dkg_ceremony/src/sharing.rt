@@ -27,7 +27,8 @@ impl Sharing {
     /// each version that has its mode.
     #[tactic(auto, using(crate::specs::SharingLimits::sharing_fits))]
     pub fn fits_limits(&self)
-        ensures { (most version : ℕ) → IsTrue (supports_of version self.now.mode) → 1 ≤ length self.now.poly → length self.now.poly ≤ most → SharingFits most version self.now }
+        ensures { (most version : ℕ) → IsTrue (supports_of version self.now.mode) → 1 ≤ length self.now.poly → length self.now.poly ≤ most
+            → SharingFits most version self.now }
     {
         let _total = self.total;
         self.poly.fits_limits();

@@ -114,7 +114,8 @@ pub(crate) fn handle<C: Ceremony, Dir: Directory + Drop, D: Disk, X: SecretStore
     ensures acts { IsTrue D.tells → IsTrue X.tells → MakesOn D.files D.image X.held (player_answers C.dealing_of C.ack_of player.old.me player.old.round
         (map.get store.old.dealings (epoch, from)) epoch from public private) (ends (λ answer. answer) result)
         devices.old devices.new out.old.entries out.new.entries }
-    ensures tells { Said (player_answers C.dealing_of C.ack_of player.old.me player.old.round (map.get store.old.dealings (epoch, from)) epoch from public private)
+    ensures tells { Said (player_answers C.dealing_of C.ack_of player.old.me player.old.round
+        (map.get store.old.dealings (epoch, from)) epoch from public private)
         (ends (λ answer. answer) result) out.old.entries out.new.entries }
     ensures moved { Moved D.tells D.made X.made D.faults X.faults devices.old devices.new }
     ensures causes { StopsOver D.faults X.faults devices.old devices.new result }

@@ -81,10 +81,12 @@ impl Node {
             → IsWhole (entries (D.files devices.old.disk.now)) (X.held devices.old.secrets.now)
             → HoldsDealings node.store.dealings (D.image devices.new.disk.now) (X.held devices.new.secrets.now))) }
         // None is answered exactly where a recorded log bears this node's acknowledgement of a dealing that isn't there.
-        ensures none { IfOk result (λ made. IsTrue D.tells → IsTrue X.tells → is_some made ≡ not (lost_dealing (λ dealer log. C.bears_ack_of round.now dealer log me)
+        ensures none { IfOk result
+            (λ made. IsTrue D.tells → IsTrue X.tells → is_some made ≡ not (lost_dealing (λ dealer log. C.bears_ack_of round.now dealer log me)
             epoch (entries (D.files devices.old.disk.now)) (X.held devices.old.secrets.now))) }
         // An error is due to a device, a cut, want of memory, a record that is not in its grammar, or a recorded dealing that the round refuses.
-        ensures due { IfErr result (λ e. OpensDue (λ name place. IsTrue D.tells → IsCorruptAt (non_zero_u32_get limit) (D.files devices.old.disk.now) name place)
+        ensures due { IfErr result
+            (λ e. OpensDue (λ name place. IsTrue D.tells → IsCorruptAt (non_zero_u32_get limit) (D.files devices.old.disk.now) name place)
             (λ cause. NamesRefused (IsTrue D.tells × IsTrue X.tells) (C.dealing_of round.now me) epoch
             (entries (D.files devices.old.disk.now)) (X.held devices.old.secrets.now) cause)
             e (Rose (D.faults devices.old.disk.now) (D.faults devices.new.disk.now))
@@ -200,7 +202,8 @@ impl Node {
         ensures holds { IsTrue D.tells → IsTrue X.tells
             → HoldsDealings self.old.store.dealings (D.image devices.old.disk.now) (X.held devices.old.secrets.now)
             → MatchResult result (λ a. HoldsDealings self.new.store.dealings (D.image devices.new.disk.now) (X.held devices.new.secrets.now))
-            (λ e. HoldsHeard (C.dealing_of self.old.player.round self.old.player.me from) (result_ok (whole (message_at (non_zero_u32_get self.old.limit) bytes.now)))
+            (λ e. HoldsHeard (C.dealing_of self.old.player.round self.old.player.me from)
+            (result_ok (whole (message_at (non_zero_u32_get self.old.limit) bytes.now)))
             self.old.store.dealings (self.old.epoch, from) (D.image devices.new.disk.now) (X.held devices.new.secrets.now)) }
         ensures same { SameLoans devices.old devices.new }
     {

@@ -235,7 +235,8 @@ pub fn feed<
         → IsRuledBy C.round_of C.deal_of C.dealing_of C.ack_of C.check_ack_of C.sign_log_of C.bears_ack_of C.share_public_of C.partial_public_of c.rules
         → IncludesBy C.check_log_of C.outcome_of C.finish_of (P.participants_of provider.old) (P.directory_of provider.old) Dir.spelling Dir.matches_of c
         → IsSeen inclusion.old beside.inclusion → EndsWith beside (λ i. OnOk result (IsSeen inclusion.new i)) (λ more. more ≡ [])
-        (λ now. Makes D.files D.image X.held (including.feeds_request c request block (live_of beside fence life.old)) (ends_in (live_of now fence life.new) result)
+        (λ now. Makes D.files D.image X.held (including.feeds_request c request block (live_of beside fence life.old))
+        (ends_in (live_of now fence life.new) result)
         devices.old devices.new out.old.entries out.new.entries) }
     ensures tells { IsTrue P.tells → (c : Fixed Dir) (beside : Beside Dir) (fence : Readiness) → IsOf terms.now c → ReadsPlanless c
         → IsRuledBy C.round_of C.deal_of C.dealing_of C.ack_of C.check_ack_of C.sign_log_of C.bears_ack_of C.share_public_of C.partial_public_of c.rules

@@ -109,7 +109,8 @@ fn read<C: Ceremony, Dir: Directory + Drop>(
     requires placed { IsPlaced (non_zero_u64_get terms.now.blocks_per_epoch) life.now }
     ensures read { IfOk result (λ it. (c : Fixed Dir) (beside : Beside Dir) (fence : Readiness) → c.blocks_per_epoch
         ≡ non_zero_u64_get terms.now.blocks_per_epoch
-        → c.rules.check_log_of ≡ C.check_log_of → including.read_of c round.now (live_of beside fence life.now) (waiting_request_of request.now) ≡ fed_of it.1) }
+        → c.rules.check_log_of ≡ C.check_log_of
+        → including.read_of c round.now (live_of beside fence life.now) (waiting_request_of request.now) ≡ fed_of it.1) }
     // While it needs more, its ancestry goes on, and the scan stands behind what it was fed.
     ensures stands { IfOk result (λ it. it.1 ≡ Fed.Need → (request.now.ended ≡ false) × IsFed C.check_log_of round.now
         (bounds_at (non_zero_u64_get terms.now.blocks_per_epoch) (awaited_of life.now)) (option_map tip_of life.now.tip) request.now.blocks it.0) }

@@ -143,7 +143,8 @@ impl<Dir: Directory> EpochInfo<Dir> {
     pub fn max_encode_size(max: NonZeroU32) -> usize
         ensures bound { result ≡ 55 + 22 * non_zero_u32_get max + Dir.bound_of (3 * non_zero_u32_get max) }
         ensures small { result ≤ 2 ^ 62 }
-        ensures enough { (version : ℕ) → IsBound (InfoFits (λ peers. Dir.fits (Dir.config_of peers)) Dir.matches_of (non_zero_u32_get max) version) (info_spelling Dir.spelling) result }
+        ensures enough { (version : ℕ)
+            → IsBound (InfoFits (λ peers. Dir.fits (Dir.config_of peers)) Dir.matches_of (non_zero_u32_get max) version) (info_spelling Dir.spelling) result }
     {
         let most = max.get() as usize;
         55 + 22 * most + Dir::max_encode_size(3 * most)
@@ -154,7 +155,8 @@ impl<Dir: Directory> EpochInfo<Dir> {
     /// An info may be read under the limits that it keeps to.
     #[tactic(auto, using(crate::specs::InfoLimits::info_fits))]
     pub fn fits_limits(&self)
-        ensures { (most version : ℕ) → InfoWithin Dir.matches_of most version self.now → InfoFits (λ peers. Dir.fits (Dir.config_of peers)) Dir.matches_of most version self.now }
+        ensures { (most version : ℕ) → InfoWithin Dir.matches_of most version self.now
+            → InfoFits (λ peers. Dir.fits (Dir.config_of peers)) Dir.matches_of most version self.now }
     {
         let _epoch = self.epoch.0;
         self.output.fits_limits();
@@ -208,7 +210,8 @@ where
 
     ghost read_of = { λ cfg. info_at (λ peers. Dir.read_of (Dir.config_of peers)) Dir.matches_of (non_zero_u32_get cfg.0) cfg.1.0 };
 
-    ghost grammar = { λ cfg. info_grammar (λ peers. Dir.fits (Dir.config_of peers)) Dir.spelling (λ peers. Dir.read_of (Dir.config_of peers)) Dir.matches_of (λ peers. Dir.grammar (Dir.config_of peers)) (non_zero_u32_get cfg.0) cfg.1.0 };
+    ghost grammar = { λ cfg. info_grammar (λ peers. Dir.fits (Dir.config_of peers)) Dir.spelling (λ peers. Dir.read_of (Dir.config_of peers)) Dir.matches_of
+        (λ peers. Dir.grammar (Dir.config_of peers)) (non_zero_u32_get cfg.0) cfg.1.0 };
 
     fn read_cfg(
         alloc: Global,

@@ -406,7 +406,8 @@ fn find_info<Dir: Directory + Drop>(
 ) -> Mem<Option<EpochInfo<Dir>>>
 where
     Dir::Cfg: Drop,
-    ensures { IfOk result (λ found. found ≡ info_at_height height epoch (with_commitment commitment.now (whole (⟦<Block<Dir> as Read>⟧.read_of limits.now body.now)))) }
+    ensures { IfOk result (λ found. found
+        ≡ info_at_height height epoch (with_commitment commitment.now (whole (⟦<Block<Dir> as Read>⟧.read_of limits.now body.now)))) }
 {
     let block = match read_block::<Dir>(alloc, body, commitment, limits) {
         Ok(block) => block,

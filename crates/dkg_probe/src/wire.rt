@@ -187,7 +187,8 @@ impl<Dir: Directory> Message<Dir> {
     pub fn max_encode_size(_participants: u32, application: usize) -> usize
         requires { application ≤ 2 ^ 62 }
         ensures bound { result ≡ 1 + max 70 (10 + application) }
-        ensures enough { IsBound (ProbeMessageFits {Cfg = Dir.Cfg} (λ b. length (block_spelling Dir.spelling b) ≤ application)) (probe_message_spelling Dir.spelling) result }
+        ensures enough { IsBound (ProbeMessageFits {Cfg = Dir.Cfg} (λ b. length (block_spelling Dir.spelling b) ≤ application))
+            (probe_message_spelling Dir.spelling) result }
     {
         1 + (10 + application).max(70)
     }

@@ -68,7 +68,8 @@ impl Turn for Node {
     ghost use Rattle.dkg_probe.specs.declared.artifact.Artifact.{Artifact as Found};
     ghost use Rattle.dkg_infos.specs.declared.directory.Unit.{Unit as Nothing};
 
-    ghost turns = { λ before call reply after. ((answer : Option (Found Nothing)) → reply ≡ Some answer → Meets after.probe.state.known call answer) × (IsNone reply ↔ (after.stopped ≡ true)) × (before.stopped ≡ true → after ≡ before) };
+    ghost turns = { λ before call reply after. ((answer : Option (Found Nothing)) → reply ≡ Some answer → Meets after.probe.state.known call answer)
+        × (IsNone reply ↔ (after.stopped ≡ true)) × (before.stopped ≡ true → after ≡ before) };
 
     ghost same = { λ one other. one ≡ other };
 

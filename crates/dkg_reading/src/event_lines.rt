@@ -107,7 +107,8 @@ fn read_event_after(
     asked: &Asked,
     lines: &mut Lines<'_>,
 ) -> Result<Option<Event<'static>>, Stop>
-    ensures reads { (done : List AnEvent) → AreAsked done asked.now.numbers → ReadsIf is_eventful (event_line_at around.blocks around.probe done) lines.old.rest.now result lines.new.rest.now }
+    ensures reads { (done : List AnEvent) → AreAsked done asked.now.numbers
+        → ReadsIf is_eventful (event_line_at around.blocks around.probe done) lines.old.rest.now result lines.new.rest.now }
     ensures on { IfOk result (λ made. IfSome made (λ _. length lines.new.rest.now < length lines.old.rest.now)) }
 {
     let Some(line) = lines.front() else {

@@ -55,7 +55,8 @@ impl<'a> Lines<'a> {
     /// The line in front, if it is ended.
     #[inline(always)]
     pub(crate) fn front(&self) -> Option<Line<'a>>
-        ensures value { MatchOption result (front_of self.now.rest.now ≡ None) (λ line. front_of self.now.rest.now ≡ Some (line.name.now, (line.fields, line.behind.now))) }
+        ensures value { MatchOption result (front_of self.now.rest.now ≡ None)
+            (λ line. front_of self.now.rest.now ≡ Some (line.name.now, (line.fields, line.behind.now))) }
         ensures shorter { IfSome result (λ line. length line.behind.now < length self.now.rest.now) }
     {
         front(self.rest)

@@ -193,7 +193,8 @@ fn go_on<D: Disk, X: SecretStore>(
         ⊎ (IsTrue D.tells → IsTrue X.tells → (g : Lived) (st : Live directory.Unit) → IsLifeInForm g
         → IsStepHere g node.old source.old.blocks.now life.now → IsView node.old st → IsAtEvent g 0 st → (c : Files) → D.image devices.new.disk.now c
         → TakesAll by_worlds g 1 life.now.events st
-        (world_of X.held devices.old (out.old.entries ++ entry.Step 0 ∷ []) (D.files devices.old.disk.now)) result (world_of X.held devices.new out.new.entries c)) }
+        (world_of X.held devices.old (out.old.entries ++ entry.Step 0 ∷ []) (D.files devices.old.disk.now)) result
+        (world_of X.held devices.new out.new.entries c)) }
     ensures firm { OnOk result (IsTrue D.tells → Lands (D.files devices.new.disk.now) (D.image devices.new.disk.now)) }
     ensures went { Went D.tells D.made X.made D.faults X.faults devices.old devices.new [] }
     ensures causes { IfErr result (StepBlames D.tells D.faults X.faults devices.old devices.new) }

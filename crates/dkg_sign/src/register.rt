@@ -146,7 +146,8 @@ impl SigningDesk {
             → RanAll D.made disk.old disk.new fuse.old fuse.new (put_call epoch ∷ [])) }
         ensures calls { Ran D.made disk.old disk.new fuse.old fuse.new (put_call epoch ∷ []) }
         // The promise over lives: an epoch is in the record, whatever a crash leaves, before its registration is answered Ok.
-        ensures lives { IsTrue D.tells → IsAsLeft self.old (D.files disk.old) (D.image disk.old) → (deeds : List DeskDeed) → KeepsPromise deeds (D.image disk.old)
+        ensures lives { IsTrue D.tells → IsAsLeft self.old (D.files disk.old) (D.image disk.old) → (deeds : List DeskDeed)
+            → KeepsPromise deeds (D.image disk.old)
             → KeepsPromise (deeds_with_registered result epoch deeds) (D.image disk.new) × Covers self.new.current (deeds_with_registered result epoch deeds) }
     {
         if !self.judge(epoch, &info)? {

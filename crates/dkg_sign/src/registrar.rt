@@ -71,7 +71,8 @@ impl<D: Disk> DeskRegistrar<D> {
         ensures first { OnOk result (self.old.reopen ≡ false → self.new.desk ≡ self.old.desk) }
         ensures again { OnOk result (self.old.reopen ≡ true → (self.new.desk.me ≡ self.old.desk.me) × (self.new.desk.held ≡ None)) }
         ensures reads { IsTrue D.tells → OnOk result (self.old.reopen ≡ true → recorded (D.files self.old.disk) ≡ Ok self.new.desk.current) }
-        ensures shut { OnErr result (DeskStaysShut D.tells (recorded (D.files self.old.disk)) self.old.reopen self.new.reopen self.old.desk self.new.desk result) }
+        ensures shut { OnErr result
+            (DeskStaysShut D.tells (recorded (D.files self.old.disk)) self.old.reopen self.new.reopen self.old.desk self.new.desk result) }
         ensures later { D.faults self.old.disk ≤ D.faults self.new.disk }
         ensures disk { IsErrOf result DeskError.Disk → Rose (D.faults self.old.disk) (D.faults self.new.disk) }
         ensures fused { Fused DeskError.Cut DeskError.NoMemory result fuse.old fuse.new }
@@ -107,7 +108,8 @@ impl<D: Disk> DeskRegistrar<D> {
             → IsAsLeftOrShut self.new.reopen self.new.desk (D.files self.new.disk) (D.image self.new.disk) }
         ensures lives { IsTrue D.tells → IsAsLeftOrShut self.old.reopen self.old.desk (D.files self.old.disk) (D.image self.old.disk) → (deeds : List DeskDeed)
             → KeepsPromise deeds (D.image self.old.disk) → Covers self.old.desk.current deeds
-            → KeepsPromise (deeds_with_registered result epoch deeds) (D.image self.new.disk) × Covers self.new.desk.current (deeds_with_registered result epoch deeds) }
+            → KeepsPromise (deeds_with_registered result epoch deeds) (D.image self.new.disk)
+            × Covers self.new.desk.current (deeds_with_registered result epoch deeds) }
     {
         let mut fuse = Fuse::never();
         self.ready(alloc, &mut fuse)?;

@@ -33,7 +33,8 @@ fn noted_and_pruned<D: Disk, X: SecretStore, Dir: Drop>(
     requires open { IsTrue D.tells → IsOpen store.old.journal (D.files devices.old.disk.now) (D.image devices.old.disk.now) }
     ensures open { OnOk result (IsTrue D.tells → IsOpen store.new.journal (D.files devices.new.disk.now) (D.image devices.new.disk.now)) }
     ensures acts { IsTrue D.tells → IsTrue X.tells → (out : List Entry) → MadeOn D.files D.image X.held
-        (bind (noting (map.contains_key store.old.acks (epoch, dealer)) (epoch, event_spelling (events.Ack dealer ack))) (λ noted. bind (pruning epoch) (λ gone. Goes new)))
+        (bind (noting (map.contains_key store.old.acks (epoch, dealer)) (epoch, event_spelling (events.Ack dealer ack)))
+        (λ noted. bind (pruning epoch) (λ gone. Goes new)))
         (ended result) devices.old devices.new out out }
     ensures same_disk { devices.new.disk.ghost_name ≡ devices.old.disk.ghost_name }
     ensures same_secrets { devices.new.secrets.ghost_name ≡ devices.old.secrets.ghost_name }

@@ -29,7 +29,9 @@ fn kind<Dir: Directory + Drop>(
 ) -> Mem<Option<PayloadKind>>
 where
     Dir::Cfg: Drop,
-    ensures { IfOk result (λ made. made ≡ option_map kind_of (result_ok (whole (payload_at (λ peers. Dir.read_of (Dir.config_of peers)) Dir.matches_of (non_zero_u32_get cfg.now.0) cfg.now.1.0 bytes.now)))) }
+    ensures { IfOk result (λ made. made
+        ≡ option_map kind_of (result_ok
+        (whole (payload_at (λ peers. Dir.read_of (Dir.config_of peers)) Dir.matches_of (non_zero_u32_get cfg.now.0) cfg.now.1.0 bytes.now)))) }
 {
     match decode_cfg::<Payload<Dir>>(alloc, bytes, cfg) {
         Ok(Payload::DealerLog(_)) => Ok(Some(PayloadKind::Log)),

@@ -53,7 +53,8 @@ fn put_one(text: &mut Text, name: &[u8], number: u64) -> Mem<()>
 }
 
 fn put_modes(text: &mut Text, config: &ScriptConfig) -> Mem<()>
-    ensures { OnOk result (text.new ≡ text.old ++ ((codes "mode" ++ number_field (mode_number config.now.mode) ++ number_field config.now.max_mode.0) ++ 10 ∷ [])) }
+    ensures { OnOk result (text.new
+        ≡ text.old ++ ((codes "mode" ++ number_field (mode_number config.now.mode) ++ number_field config.now.max_mode.0) ++ 10 ∷ [])) }
 {
     text.put(b"mode")?;
     text.number(mode(config.mode))?;

@@ -36,13 +36,16 @@ pub trait Carries<M, A>: Turn {
         ensures { result ≡ answered reply };
 
     // Each answer meets the relation after its turn.
-    ghost carried: { (before : Self) (message : M) (reply : Self.Reply) (after : Self) (answer : A) → Self.turns before (posted message) reply after → answered reply ≡ Some answer → meets after message answer };
+    ghost carried: { (before : Self) (message : M) (reply : Self.Reply) (after : Self) (answer : A) → Self.turns before (posted message) reply after
+        → answered reply ≡ Some answer → meets after message answer };
 
     // A reply to a message has no answer exactly where its turn ended by a stop.
-    ghost answerless: { (before : Self) (message : M) (reply : Self.Reply) (after : Self) → Self.turns before (posted message) reply after → IsNone (answered reply) ↔ stopped before (posted message) reply after };
+    ghost answerless: { (before : Self) (message : M) (reply : Self.Reply) (after : Self) → Self.turns before (posted message) reply after
+        → IsNone (answered reply) ↔ stopped before (posted message) reply after };
 
     // A stop is for good.
-    ghost ends: { (before : Self) (call : Self.Call) (reply : Self.Reply) (after : Self) → Self.turns before call reply after → stopped before call reply after → HasStopped Self.turns stopped Self.told answered after };
+    ghost ends: { (before : Self) (call : Self.Call) (reply : Self.Reply) (after : Self) → Self.turns before call reply after → stopped before call reply after
+        → HasStopped Self.turns stopped Self.told answered after };
 
     // Where there is a value at all, there is one from which some message is answered.
     ghost leads_on: { Self → SomeLeadsOn Self.turns stopped posted };

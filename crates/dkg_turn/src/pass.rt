@@ -50,7 +50,8 @@ impl<T: Turn> Model for Pass<T> {
 
     ghost view = { λ p. known_of p.seat.table_id p.number p.seat.me.0 };
 
-    ghost invariant = { λ p. (p.seat.me.0.stage ≡ Idle) × (p.seat.me.1 ≡ []) × (contains_number p.seat.me.0.numbers p.number ≡ true) × (0 < p.seat.me.0.parts) };
+    ghost invariant = { λ p. (p.seat.me.0.stage ≡ Idle) × (p.seat.me.1 ≡ []) × (contains_number p.seat.me.0.numbers p.number ≡ true)
+        × (0 < p.seat.me.0.parts) };
 }
 
 impl<T: Turn> Pass<T> {

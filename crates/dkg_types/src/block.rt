@@ -293,7 +293,9 @@ impl<Dir: Directory> Block<Dir> {
     /// A bound, in bytes, of the encoding of a block among at most `max` participants.
     pub fn max_encode_size(max: NonZeroU32) -> usize
         ensures bound { result ≡ 165 + 22 * non_zero_u32_get max + Dir.bound_of (3 * non_zero_u32_get max) }
-        ensures enough { (version : ℕ) → IsBound (BlockFits (PayloadFits (λ peers. Dir.fits (Dir.config_of peers)) Dir.matches_of (non_zero_u32_get max) version) Dir.spelling) (block_spelling Dir.spelling) result }
+        ensures enough { (version : ℕ)
+            → IsBound (BlockFits (PayloadFits (λ peers. Dir.fits (Dir.config_of peers)) Dir.matches_of (non_zero_u32_get max) version) Dir.spelling)
+            (block_spelling Dir.spelling) result }
     {
         109 + Payload::<Dir>::max_encode_size(max)
     }
@@ -386,7 +388,8 @@ impl<Dir: Directory + Drop> Value for Block<Dir> {
 
 /// What a block carries may be read under the limits that it keeps to.
 fn carried_fits<Dir: Directory>(payload: &Apart<Dir>)
-    ensures { (most version : ℕ) → FlaggedFits (PayloadWithin Dir.matches_of most version) payload.now → FlaggedFits (PayloadFits (λ peers. Dir.fits (Dir.config_of peers)) Dir.matches_of most version) payload.now }
+    ensures { (most version : ℕ) → FlaggedFits (PayloadWithin Dir.matches_of most version) payload.now
+        → FlaggedFits (PayloadFits (λ peers. Dir.fits (Dir.config_of peers)) Dir.matches_of most version) payload.now }
 {
     match payload.get() {
         None => {}
@@ -397,7 +400,8 @@ fn carried_fits<Dir: Directory>(payload: &Apart<Dir>)
 impl<Dir: Directory> Parts<Dir> {
     #[tactic(auto, using(crate::specs::Within::block_fits))]
     fn fits_limits(&self)
-        ensures { (most version : ℕ) → BlockWithin Dir.matches_of most version self.now → BlockFits (PayloadFits (λ peers. Dir.fits (Dir.config_of peers)) Dir.matches_of most version) Dir.spelling self.now }
+        ensures { (most version : ℕ) → BlockWithin Dir.matches_of most version self.now
+            → BlockFits (PayloadFits (λ peers. Dir.fits (Dir.config_of peers)) Dir.matches_of most version) Dir.spelling self.now }
     {
         self.context.fits_limits();
         let _parent = size_of_digest(&self.parent);
@@ -504,7 +508,8 @@ fn read_payload<Dir: Directory + Drop>(
 ) -> Result<Payload<Dir>, CodecError>
 where
     Dir::Cfg: Drop,
-    ensures { Reads (block_payload_at (λ peers. Dir.read_of (Dir.config_of peers)) Dir.matches_of (non_zero_u32_get cfg.now.0) cfg.now.1.0 input.old) result input.new }
+    ensures { Reads (block_payload_at (λ peers. Dir.read_of (Dir.config_of peers)) Dir.matches_of
+        (non_zero_u32_get cfg.now.0) cfg.now.1.0 input.old) result input.new }
 {
     Payload::read_cfg(alloc, input, cfg)
 }
@@ -517,7 +522,8 @@ fn read_flagged<Dir: Directory + Drop>(
 ) -> Result<Option<Payload<Dir>>, CodecError>
 where
     Dir::Cfg: Drop,
-    ensures { Reads (flagged_at (block_payload_at (λ peers. Dir.read_of (Dir.config_of peers)) Dir.matches_of (non_zero_u32_get cfg.now.0) cfg.now.1.0) input.old) result input.new }
+    ensures { Reads (flagged_at
+        (block_payload_at (λ peers. Dir.read_of (Dir.config_of peers)) Dir.matches_of (non_zero_u32_get cfg.now.0) cfg.now.1.0) input.old) result input.new }
 {
     match read_byte(input)? {
         0 => Ok(None),
@@ -542,9 +548,13 @@ where
 
     ghost fits = { λ cfg. BlockFits (PayloadFits (λ peers. Dir.fits (Dir.config_of peers)) Dir.matches_of (non_zero_u32_get cfg.0) cfg.1.0) Dir.spelling };
 
-    ghost read_of = { λ cfg. block_at Dir.spelling (block_payload_at (λ peers. Dir.read_of (Dir.config_of peers)) Dir.matches_of (non_zero_u32_get cfg.0) cfg.1.0) };
+    ghost read_of = { λ cfg. block_at Dir.spelling
+        (block_payload_at (λ peers. Dir.read_of (Dir.config_of peers)) Dir.matches_of (non_zero_u32_get cfg.0) cfg.1.0) };
 
-    ghost grammar = { λ cfg. block_grammar (PayloadFits (λ peers. Dir.fits (Dir.config_of peers)) Dir.matches_of (non_zero_u32_get cfg.0) cfg.1.0) Dir.spelling (block_payload_at (λ peers. Dir.read_of (Dir.config_of peers)) Dir.matches_of (non_zero_u32_get cfg.0) cfg.1.0) (held_grammar (λ peers. Dir.fits (Dir.config_of peers)) Dir.spelling (λ peers. Dir.read_of (Dir.config_of peers)) Dir.matches_of (λ peers. Dir.grammar (Dir.config_of peers)) (non_zero_u32_get cfg.0) cfg.1.0) };
+    ghost grammar = { λ cfg. block_grammar (PayloadFits (λ peers. Dir.fits (Dir.config_of peers)) Dir.matches_of (non_zero_u32_get cfg.0) cfg.1.0) Dir.spelling
+        (block_payload_at (λ peers. Dir.read_of (Dir.config_of peers)) Dir.matches_of (non_zero_u32_get cfg.0) cfg.1.0)
+        (held_grammar (λ peers. Dir.fits (Dir.config_of peers)) Dir.spelling (λ peers. Dir.read_of (Dir.config_of peers)) Dir.matches_of
+        (λ peers. Dir.grammar (Dir.config_of peers)) (non_zero_u32_get cfg.0) cfg.1.0) };
 
     fn read_cfg(
         alloc: Global,

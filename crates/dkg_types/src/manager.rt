@@ -103,7 +103,9 @@ pub trait AddressedPeerManager: Provider {
         primary: Map<Address>,
         secondary: Map<Address>,
     ) -> Mem<()>
-        ensures ok { IsTrue Self.tells → OnOk result ((n : ℕ) → Self.sets self.new n ≡ with_set (Self.sets self.old) id (record { primary = keys_of primary; secondary = keys_of secondary }) n) }
+        ensures ok { IsTrue Self.tells
+            → OnOk result ((n : ℕ) → Self.sets self.new n
+            ≡ with_set (Self.sets self.old) id (record { primary = keys_of primary; secondary = keys_of secondary }) n) }
         ensures addresses { IsTrue Self.tells → OnOk result ((n : ℕ) → reached self.new n ≡ with_set (reached self.old) id (primary, secondary) n) }
         ensures err { IsTrue Self.tells → OnErr result ((n : ℕ) → Self.sets self.new n ≡ Self.sets self.old n) }
         ensures same { IsTrue Self.tells → OnErr result ((n : ℕ) → reached self.new n ≡ reached self.old n) };
@@ -244,7 +246,9 @@ impl<M: AddressedPeerManager> Manager for AddressableManager<M> {
         // A refusal keeps what each peer's address was, too.
         ensures same { IsTrue M.tells → OnErr result ((n : ℕ) → M.reached self.new.manager n ≡ M.reached self.old.manager n) }
         // The addresses that the manager is handed are those of the directory.
-        ensures addresses { IsTrue M.tells → OnOk result ((n : ℕ) → M.reached self.new.manager n ≡ with_set (M.reached self.old.manager) epoch (addresses_from directory.now peers.primary, addresses_from directory.now peers.secondary) n) }
+        ensures addresses { IsTrue M.tells
+            → OnOk result ((n : ℕ) → M.reached self.new.manager n
+            ≡ with_set (M.reached self.old.manager) epoch (addresses_from directory.now peers.primary, addresses_from directory.now peers.secondary) n) }
     {
         let primary = addresses_of(alloc, directory, &peers.primary)?;
         let secondary = addresses_of(alloc, directory, &peers.secondary)?;

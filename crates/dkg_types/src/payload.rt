@@ -61,7 +61,8 @@ fn read_info<Dir: Directory + Drop>(
 ) -> Result<EpochInfo<Dir>, CodecError>
 where
     Dir::Cfg: Drop,
-    ensures { Reads (payload_info_at (λ peers. Dir.read_of (Dir.config_of peers)) Dir.matches_of (non_zero_u32_get cfg.now.0) cfg.now.1.0 input.old) result input.new }
+    ensures { Reads (payload_info_at (λ peers. Dir.read_of (Dir.config_of peers)) Dir.matches_of
+        (non_zero_u32_get cfg.now.0) cfg.now.1.0 input.old) result input.new }
 {
     EpochInfo::read_cfg(alloc, input, cfg)
 }
@@ -71,7 +72,9 @@ impl<Dir: Directory> Payload<Dir> {
     pub fn max_encode_size(max: NonZeroU32) -> usize
         ensures bound { result ≡ 56 + 22 * non_zero_u32_get max + Dir.bound_of (3 * non_zero_u32_get max) }
         ensures small { result ≤ 2 ^ 62 + 1 }
-        ensures enough { (version : ℕ) → IsBound (PayloadFits (λ peers. Dir.fits (Dir.config_of peers)) Dir.matches_of (non_zero_u32_get max) version) (payload_spelling Dir.spelling) result }
+        ensures enough { (version : ℕ)
+            → IsBound (PayloadFits (λ peers. Dir.fits (Dir.config_of peers)) Dir.matches_of (non_zero_u32_get max) version)
+            (payload_spelling Dir.spelling) result }
     {
         1 + EpochInfo::<Dir>::max_encode_size(max)
     }
@@ -80,7 +83,8 @@ impl<Dir: Directory> Payload<Dir> {
 impl<Dir: Directory> Payload<Dir> {
     /// A payload may be read under the limits that it keeps to.
     pub fn fits_limits(&self)
-        ensures { (most version : ℕ) → PayloadWithin Dir.matches_of most version self.now → PayloadFits (λ peers. Dir.fits (Dir.config_of peers)) Dir.matches_of most version self.now }
+        ensures { (most version : ℕ) → PayloadWithin Dir.matches_of most version self.now
+            → PayloadFits (λ peers. Dir.fits (Dir.config_of peers)) Dir.matches_of most version self.now }
     {
         match self {
             Payload::DealerLog(signed) => signed.fits_limits(),
@@ -136,7 +140,8 @@ where
 
     ghost read_of = { λ cfg. payload_at (λ peers. Dir.read_of (Dir.config_of peers)) Dir.matches_of (non_zero_u32_get cfg.0) cfg.1.0 };
 
-    ghost grammar = { λ cfg. payload_grammar (λ peers. Dir.fits (Dir.config_of peers)) Dir.spelling (λ peers. Dir.read_of (Dir.config_of peers)) Dir.matches_of (λ peers. Dir.grammar (Dir.config_of peers)) (non_zero_u32_get cfg.0) cfg.1.0 };
+    ghost grammar = { λ cfg. payload_grammar (λ peers. Dir.fits (Dir.config_of peers)) Dir.spelling (λ peers. Dir.read_of (Dir.config_of peers)) Dir.matches_of
+        (λ peers. Dir.grammar (Dir.config_of peers)) (non_zero_u32_get cfg.0) cfg.1.0 };
 
     #[tactic(auto, unfolding(crate::specs::PayloadCodes::payload_after))]
     fn read_cfg(

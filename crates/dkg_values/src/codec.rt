@@ -105,7 +105,8 @@ impl<'a> Reader<'a> {
     pub fn take(&mut self, count: usize) -> Result<&'a [u8], CodecError>
         ensures enough { count ≤ length self.old → IfOk result (λ piece. piece.now ≡ take count self.old) }
         ensures rest { OnOk result (self.new ≡ drop count self.old) }
-        ensures short { MatchResult result (λ _. count ≤ length self.old) (λ e. (length self.old < count) × (e ≡ CodecError.EndOfBuffer) × (self.new ≡ self.old)) }
+        ensures short { MatchResult result (λ _. count ≤ length self.old)
+            (λ e. (length self.old < count) × (e ≡ CodecError.EndOfBuffer) × (self.new ≡ self.old)) }
     {
         if self.left.len() < count {
             return Err(CodecError::EndOfBuffer);

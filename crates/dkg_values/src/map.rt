@@ -151,7 +151,8 @@ impl<V> Map<V> {
 impl<V: EncodeSize> Map<V> {
     /// A map has a size where its values have one each, of at most 2^30 bytes.
     pub fn has_size(&self)
-        ensures { (each : ℕ) → each ≤ 2 ^ 30 → AllByRecursion (λ v. length (V.spelling v) ≤ each) (values_of self.now) → AllByRecursion V.can_size (values_of self.now) → MapSizes V.spelling V.can_size self.now }
+        ensures { (each : ℕ) → each ≤ 2 ^ 30 → AllByRecursion (λ v. length (V.spelling v) ≤ each) (values_of self.now)
+            → AllByRecursion V.can_size (values_of self.now) → MapSizes V.spelling V.can_size self.now }
     {
         let _pairs = self.as_slice();
     }
@@ -160,7 +161,8 @@ impl<V: EncodeSize> Map<V> {
 impl<V: Read> Map<V> {
     /// A map may be read under each limits that its length keeps to, where its values may.
     pub fn fits_limits(&self)
-        ensures { (cfg : V.Cfg) (least most : ℕ) → least ≤ length self.now → length self.now ≤ most → AllByRecursion (V.fits cfg) (values_of self.now) → MapFits (V.fits cfg) least most self.now }
+        ensures { (cfg : V.Cfg) (least most : ℕ) → least ≤ length self.now → length self.now ≤ most → AllByRecursion (V.fits cfg) (values_of self.now)
+            → MapFits (V.fits cfg) least most self.now }
     {
         let _pairs = self.as_slice();
     }
@@ -205,7 +207,8 @@ impl<V: EncodeSize> EncodeSize for Map<V> {
     fn encode_size(&self) -> usize
         requires { MapSizes V.spelling V.can_size self.now }
         ensures size { result ≡ length (map_spelling V.spelling self.now) }
-        ensures limit { (most each : ℕ) → length self.now ≤ most → AllByRecursion (λ v. length (V.spelling v) ≤ each) (values_of self.now) → result ≤ 10 + 4 * most + most * each }
+        ensures limit { (most each : ℕ) → length self.now ≤ most → AllByRecursion (λ v. length (V.spelling v) ≤ each) (values_of self.now)
+            → result ≤ 10 + 4 * most + most * each }
     {
         let mut size = 2 * uint_size(u64::from(self.len())) + 4 * self.pairs.len();
         for (_, value) in &self.pairs {

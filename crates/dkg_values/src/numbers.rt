@@ -104,9 +104,14 @@ impl Element {
 /// Keys, epochs, heights and elements are equal where their numbers are; the first three are ordered as these, and
 /// hashed as these.
 pub fn numbers_compare()
-    ensures keys { (a b : ℕ) → (⟦<Key as PartialEq>⟧.eq a b ≡ (a == b)) × (⟦<Key as PartialOrd>⟧.partial_cmp a b ≡ Some (nat_cmp a b)) × (⟦<Key as Ord>⟧.cmp a b ≡ nat_cmp a b) × (⟦<Key as Hash>⟧.hash_input a ≡ fed.u32 a) }
-    ensures epochs { (a b : ℕ) → (⟦<Epoch as PartialEq>⟧.eq a b ≡ (a == b)) × (⟦<Epoch as PartialOrd>⟧.partial_cmp a b ≡ Some (nat_cmp a b)) × (⟦<Epoch as Ord>⟧.cmp a b ≡ nat_cmp a b) × (⟦<Epoch as Hash>⟧.hash_input a ≡ fed.u64 a) }
-    ensures heights { (a b : ℕ) → (⟦<Height as PartialEq>⟧.eq a b ≡ (a == b)) × (⟦<Height as PartialOrd>⟧.partial_cmp a b ≡ Some (nat_cmp a b)) × (⟦<Height as Ord>⟧.cmp a b ≡ nat_cmp a b) × (⟦<Height as Hash>⟧.hash_input a ≡ fed.u64 a) }
+    ensures keys { (a b : ℕ) → (⟦<Key as PartialEq>⟧.eq a b ≡ (a == b)) × (⟦<Key as PartialOrd>⟧.partial_cmp a b ≡ Some (nat_cmp a b))
+        × (⟦<Key as Ord>⟧.cmp a b ≡ nat_cmp a b) × (⟦<Key as Hash>⟧.hash_input a ≡ fed.u32 a) }
+    ensures epochs { (a b : ℕ)
+        → (⟦<Epoch as PartialEq>⟧.eq a b ≡ (a == b)) × (⟦<Epoch as PartialOrd>⟧.partial_cmp a b ≡ Some (nat_cmp a b)) × (⟦<Epoch as Ord>⟧.cmp a b ≡ nat_cmp a b)
+        × (⟦<Epoch as Hash>⟧.hash_input a ≡ fed.u64 a) }
+    ensures heights { (a b : ℕ)
+        → (⟦<Height as PartialEq>⟧.eq a b ≡ (a == b)) × (⟦<Height as PartialOrd>⟧.partial_cmp a b ≡ Some (nat_cmp a b))
+        × (⟦<Height as Ord>⟧.cmp a b ≡ nat_cmp a b) × (⟦<Height as Hash>⟧.hash_input a ≡ fed.u64 a) }
     ensures elements { (a b : ℕ) → ⟦<Element as PartialEq>⟧.eq a b ≡ (a == b) }
 {}
 

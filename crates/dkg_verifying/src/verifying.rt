@@ -220,7 +220,8 @@ pub fn answer_by<
     ensures acts { IsTrue D.tells → IsTrue X.tells → IsTrue P.tells → (c : Fixed Dir) (st : Live Dir) → IsOf terms.now c → ReadsPlanless c
         → IncludesBy C.check_log_of C.outcome_of C.finish_of (P.participants_of provider.old) (P.directory_of provider.old) Dir.spelling Dir.matches_of c
         → st.participation.current ≡ store.old.current → st.inclusion.cached ≡ option_map cached_of cache.old
-        → EndsCaching cache.new st (λ now. Makes D.files D.image X.held (including.artifact c (checked_result_of verified.now) st (including.answers_request c request))
+        → EndsCaching cache.new st
+        (λ now. Makes D.files D.image X.held (including.artifact c (checked_result_of verified.now) st (including.answers_request c request))
         (ends_in (telling request now) result) devices.old devices.new out.old.entries out.new.entries) }
     ensures tells { IsTrue P.tells → (c : Fixed Dir) (st : Live Dir) → IsOf terms.now c → ReadsPlanless c
         → IncludesBy C.check_log_of C.outcome_of C.finish_of (P.participants_of provider.old) (P.directory_of provider.old) Dir.spelling Dir.matches_of c
