@@ -163,16 +163,16 @@ module _ (s : Setting) (ends : List (Option CutAt)) (whole : IsWholePast s ends)
     pub opening_records : (m now : Notes RecordedLog) → AreNoted s (begun_before s cuts l) (WasSeen s ends l) m → ((key : ℕ × ℕ) → b 0 < key.0 + 2 → get now key ≡ get m key) → IsRecording s ends l life cuts 0 now
     opening_records m now noted same = record {
       noted = first;
-      below = λ takes_part round known height low. by_place takes_part round known height low (cases_lt height (midpoint n (e 0)));
+      below = λ takes_part round known height low. by_order takes_part round known height low (cases_lt height (midpoint n (e 0)));
     }
       where
         first : AreNoted s (b 0) (Saw s ends l life 0) now
         first = noted_same s (begun_before s cuts l) (b 0) (WasSeen s ends l) (Saw s ends l life 0) m now (begun_more s reshares cuts l life 0 life_is) (saw_first s ends l life) same noted
 
-        by_place : life_follows s l life (e 0) ≡ false → (round : Round) → round_at s (e 0) ≡ Some round → (height : ℕ) → height < h 0 → (height < midpoint n (e 0)) ⊎ (midpoint n (e 0) ≤ height)
+        by_order : life_follows s l life (e 0) ≡ false → (round : Round) → round_at s (e 0) ≡ Some round → (height : ℕ) → height < h 0 → (height < midpoint n (e 0)) ⊎ (midpoint n (e 0) ≤ height)
             → HasThoseIn s (e 0) round now height
-        by_place takes_part round known height low (inl early) = has_none s (e 0) round now height (inl early)
-        by_place takes_part round known height low (inr late) = first.all (e 0) height round (current 0) known (inl (whole.missed l height life life_is takes_part late low))
+        by_order takes_part round known height low (inl early) = has_none s (e 0) round now height (inl early)
+        by_order takes_part round known height low (inr late) = first.all (e 0) height round (current 0) known (inl (whole.missed l height life life_is takes_part late low))
 
     -- A STEP, from a state over devices that note this
 
@@ -306,11 +306,11 @@ module _ (s : Setting) (ends : List (Option CutAt)) (whole : IsWholePast s ends)
 
           -- while including it lies from the midpoint on,
           pub late : st.participation.stage ≡ Includes → midpoint n (e i) ≤ block.height
-          late stage = by_place (cases_lt block.height (midpoint n (e i)))
+          late stage = by_order (cases_lt block.height (midpoint n (e i)))
             where
-              by_place : (block.height < midpoint n (e i)) ⊎ (midpoint n (e i) ≤ block.height) → midpoint n (e i) ≤ block.height
-              by_place (inl low) = absurd (let wrong : ◌≡◌ {A = Stage} Deals Includes = sym (deals round there (let high = is_high in omega (arith, high, low))) ∙ stage in cc)
-              by_place (inr high) = high
+              by_order : (block.height < midpoint n (e i)) ⊎ (midpoint n (e i) ≤ block.height) → midpoint n (e i) ≤ block.height
+              by_order (inl low) = absurd (let wrong : ◌≡◌ {A = Stage} Deals Includes = sym (deals round there (let high = is_high in omega (arith, high, low))) ∙ stage in cc)
+              by_order (inr high) = high
 
           -- .. and below the last one, unless it is that
           pub not_last : is_last_height C block.height ≡ false → block.height < last n (e i)
@@ -413,7 +413,7 @@ module _ (s : Setting) (ends : List (Option CutAt)) (whole : IsWholePast s ends)
             -- what it brings is there
             its_here : life_follows s l life (e i) ≡ false → b (suc i) < e i + 2 → (round : Round) → round_at s (e i) ≡ Some round → HasThoseIn s (e i) round now block.height
             unfolding at_step
-            its_here part left round known = by_place (cases_lt block.height (midpoint n (e i))) (cases_lt block.height (last n (e i)))
+            its_here part left round known = by_order (cases_lt block.height (midpoint n (e i))) (cases_lt block.height (last n (e i)))
               where
                 own : (x : Round) × (st.participation.round ≡ Some x)
                 own = its_round part
@@ -459,10 +459,10 @@ module _ (s : Setting) (ends : List (Option CutAt)) (whole : IsWholePast s ends)
                 by_judged late below (inl is) = passed is
                 by_judged late below (inr is) = applied_so_far late below is behind
 
-                by_place : (block.height < midpoint n (e i)) ⊎ (midpoint n (e i) ≤ block.height) → (block.height < last n (e i)) ⊎ (last n (e i) ≤ block.height) → HasThoseIn s (e i) round now block.height
-                by_place (inl low) place = has_none s (e i) round now block.height (inl low)
-                by_place (inr late) (inl below) = by_judged late below judged
-                by_place (inr late) (inr high) = has_none s (e i) round now block.height (inr high)
+                by_order : (block.height < midpoint n (e i)) ⊎ (midpoint n (e i) ≤ block.height) → (block.height < last n (e i)) ⊎ (last n (e i) ≤ block.height) → HasThoseIn s (e i) round now block.height
+                by_order (inl low) _ = has_none s (e i) round now block.height (inl low)
+                by_order (inr late) (inl below) = by_judged late below judged
+                by_order (inr late) (inr high) = has_none s (e i) round now block.height (inr high)
 
             saw_all : (epoch height : ℕ) (round : Round) → b (suc i) < epoch + 2 → round_at s epoch ≡ Some round → Saw s ends l life (suc i) epoch height → HasThoseIn s epoch round now height
             saw_all epoch height round left known (inl seen) = block_notes.all epoch height round left known (inl seen)
@@ -505,11 +505,11 @@ module _ (s : Setting) (ends : List (Option CutAt)) (whole : IsWholePast s ends)
             below_next part (inr first) round known height low = has_none s (e (suc i)) round now height (inl (omega (arith, first, low)))
             below_next part (inl same) round known height low =
                 subst (λ (x : ℕ). HasThoseIn s x round now height) (sym same)
-                (by_place (subst (λ (x : ℕ). life_follows s l life x ≡ false) same part) (subst (λ (x : ℕ). b (suc i) < x + 2) same (current (suc i))) (subst (λ (x : ℕ). round_at s x ≡ Some round) same known) (cases_lt height (h i)))
+                (by_order (subst (λ (x : ℕ). life_follows s l life x ≡ false) same part) (subst (λ (x : ℕ). b (suc i) < x + 2) same (current (suc i))) (subst (λ (x : ℕ). round_at s x ≡ Some round) same known) (cases_lt height (h i)))
               where
-                by_place : life_follows s l life (e i) ≡ false → b (suc i) < e i + 2 → round_at s (e i) ≡ Some round → (height < h i) ⊎ (h i ≤ height) → HasThoseIn s (e i) round now height
-                by_place part left known (inl before) = has_more s (e i) round m now height (λ dealer. some_stays (e i, dealer) left) (recording.below part round known height before)
-                by_place part left known (inr high) = by_height (cases_lt height block.height)
+                by_order : life_follows s l life (e i) ≡ false → b (suc i) < e i + 2 → round_at s (e i) ≡ Some round → (height < h i) ⊎ (h i ≤ height) → HasThoseIn s (e i) round now height
+                by_order part left known (inl before) = has_more s (e i) round m now height (λ dealer. some_stays (e i, dealer) left) (recording.below part round known height before)
+                by_order part left known (inr high) = by_height (cases_lt height block.height)
                   where
                     own : (x : Round) × (st.participation.round ≡ Some x)
                     own = its_round part
