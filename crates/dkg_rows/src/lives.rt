@@ -1,7 +1,7 @@
 //! Lives that `run_lives` runs for who has read a script already: one is cut inside a device call, and the next one finds what was written before.
 ghost use Rattle.dkg_script.specs.Inclusion.{IsFormOfInclusion};
 
-use crate::texts::{DEALING, OUTPUT, RESTORED, SET_UP, life, text};
+use crate::texts::{DEALING, RESTORED, SET_UP, life, text};
 use dkg_infos::{Fault, Transcript};
 use dkg_journal::MemoryDisk;
 use dkg_run::run_lives;
@@ -45,6 +45,12 @@ fn told_of_a_cut(alloc: Global) -> Result<Vec<u8>, Fail> {
 #[test]
 fn lives_are_run_without_a_source_and_a_sink(rt: HostRuntime) -> Result<(), Fail> {
     let alloc = rt.alloc();
+<<<<<<< HEAD
+=======
+    // A dealing's step makes six calls that change a device, of which the fifth writes the record's gate; pick 0 keeps that.
+    let events = text(alloc, &[DEALING, "cut 1 5 0\nstop 0\nlife 9\nheld 0\n"])?;
+    let script = life(alloc, events.as_str())?;
+>>>>>>> 4f8c2101c6acff7d6dc64ada5c8b1a97b2b7a9d5
     let wanted = text(
         alloc,
         &[
