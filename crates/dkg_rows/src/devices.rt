@@ -38,32 +38,24 @@ fn lives_to<D: Disk, X: SecretStore>(
     )
 }
 
-<<<<<<< HEAD
-/// Fails where a life over a segment of epoch 0 with these bytes doesn't end in this fault.
-fn faults_over<D: Disk, X: SecretStore>(
+/// The same for a life with the dealing, where the segment of epoch 0 has these bytes.
+fn hears_on<D: Disk, X: SecretStore>(
     alloc: Global,
     disk: &mut D,
     secrets: &mut X,
     bytes: &[u8],
-    line: &str,
+    status: u8,
+    lines: &[&str],
 ) -> Result<(), Fail> {
     disk.install(alloc, Name::Segment(0), bytes)?;
-    lives_to(alloc, OUTPUT, "", disk, secrets, 4, &[line])
+    lives_to(alloc, DEALING, disk, secrets, status, lines)
 }
 
 /// .. over memory.
-fn faults_by(alloc: Global, bytes: &[u8], line: &str) -> Result<(), Fail> {
-=======
-/// That of a life with the dealing, over a disk whose segment of epoch 0 has these bytes.
 fn hears_over(alloc: Global, bytes: &[u8], status: u8, lines: &[&str]) -> Result<(), Fail> {
->>>>>>> 4f8c2101c6acff7d6dc64ada5c8b1a97b2b7a9d5
     let mut disk = MemoryDisk::new(alloc);
     let mut secrets = MemorySecrets::new(alloc);
-<<<<<<< HEAD
-    faults_over(alloc, &mut disk, &mut secrets, bytes, line)
-=======
-    lives_to(alloc, DEALING, &mut disk, &mut secrets, status, lines)
->>>>>>> 4f8c2101c6acff7d6dc64ada5c8b1a97b2b7a9d5
+    hears_on(alloc, &mut disk, &mut secrets, bytes, status, lines)
 }
 
 #[test]
@@ -84,11 +76,11 @@ fn nothing_is_left<D: Disk, X: SecretStore>(
     secrets: &mut X,
 ) -> Result<(), Fail> {
     let lines = ["opened 0 0\n", SET_UP, "fault 2\n"];
-    lives_to(alloc, OUTPUT, DEALING, disk, secrets, 5, &lines)?;
+    lives_to(alloc, DEALING, disk, secrets, 5, &lines)?;
     disk.crash(0);
     secrets.crash(0);
     let lines = ["opened 0 0\n", SET_UP, "done\n"];
-    lives_to(alloc, OUTPUT, "", disk, secrets, 0, &lines)
+    lives_to(alloc, "", disk, secrets, 0, &lines)
 }
 
 #[test]
@@ -97,33 +89,19 @@ fn a_failed_sync_leaves_nothing(rt: HostRuntime) -> Result<(), Fail> {
     // An opening calls barrier and list, and the dealing then install, write_at and sync: its gate stays closed.
     let mut disk = MemoryDisk::failing(alloc, vec![in alloc; 5]?);
     let mut secrets = MemorySecrets::new(alloc);
-<<<<<<< HEAD
     nothing_is_left(alloc, &mut disk, &mut secrets)
 }
 
-/// Fails where a run over devices without files, the next one over them, or one whose round refuses what they hold, doesn't end as it has to.
+/// Fails where a run over devices without files, or the next one over them, doesn't end as it has to.
 fn later_runs_go_on<D: Disk, X: SecretStore>(
     alloc: Global,
     disk: &mut D,
     secrets: &mut X,
 ) -> Result<(), Fail> {
     let lines = ["opened 0 0\n", SET_UP, ANSWERED, "done\n"];
-    lives_to(alloc, OUTPUT, DEALING, disk, secrets, 0, &lines)?;
+    lives_to(alloc, DEALING, disk, secrets, 0, &lines)?;
     let lines = ["opened 0 1\n", RESTORED, SET_UP, "done\n"];
-    lives_to(alloc, OUTPUT, "", disk, secrets, 0, &lines)?;
-    // Of another output key 2 holds another share, so the round refuses the dealing.
-    let refused = "committed 0 -\nregistered 0 member\nfault 17 1 0 2\n";
-    let lines = ["opened 0 1\n", RESTORED, refused];
-    let other = "03000600010002";
-    lives_to(alloc, other, "", disk, secrets, 4, &lines)
-=======
-    let lines = ["opened 0 0\n", SET_UP, "fault 2\n"];
-    lives_to(alloc, DEALING, &mut disk, &mut secrets, 5, &lines)?;
-    disk.crash(0);
-    secrets.crash(0);
-    let lines = ["opened 0 0\n", SET_UP, "done\n"];
-    lives_to(alloc, "", &mut disk, &mut secrets, 0, &lines)
->>>>>>> 4f8c2101c6acff7d6dc64ada5c8b1a97b2b7a9d5
+    lives_to(alloc, "", disk, secrets, 0, &lines)
 }
 
 #[test]
@@ -131,12 +109,5 @@ fn a_later_run_goes_on_over_the_same_devices(rt: HostRuntime) -> Result<(), Fail
     let alloc = rt.alloc();
     let mut disk = MemoryDisk::new(alloc);
     let mut secrets = MemorySecrets::new(alloc);
-<<<<<<< HEAD
     later_runs_go_on(alloc, &mut disk, &mut secrets)
-=======
-    let lines = ["opened 0 0\n", SET_UP, ANSWERED, "done\n"];
-    lives_to(alloc, DEALING, &mut disk, &mut secrets, 0, &lines)?;
-    let lines = ["opened 0 1\n", RESTORED, SET_UP, "done\n"];
-    lives_to(alloc, "", &mut disk, &mut secrets, 0, &lines)
->>>>>>> 4f8c2101c6acff7d6dc64ada5c8b1a97b2b7a9d5
 }

@@ -38,19 +38,13 @@ fn told(alloc: Global, text: &str) -> Result<Vec<u8>, Fail> {
 fn told_of_a_cut(alloc: Global) -> Result<Vec<u8>, Fail> {
     // A dealing's step makes six calls that change a device, of which the fifth writes the record's gate; pick 0 keeps that.
     let events = text(alloc, &[DEALING, "cut 1 5 0\nstop 0\nlife 9\nheld 0\n"])?;
-    let script = life(alloc, OUTPUT, events.as_str())?;
+    let script = life(alloc, events.as_str())?;
     told(alloc, script.as_str())
 }
 
 #[test]
 fn lives_are_run_without_a_source_and_a_sink(rt: HostRuntime) -> Result<(), Fail> {
     let alloc = rt.alloc();
-<<<<<<< HEAD
-=======
-    // A dealing's step makes six calls that change a device, of which the fifth writes the record's gate; pick 0 keeps that.
-    let events = text(alloc, &[DEALING, "cut 1 5 0\nstop 0\nlife 9\nheld 0\n"])?;
-    let script = life(alloc, events.as_str())?;
->>>>>>> 4f8c2101c6acff7d6dc64ada5c8b1a97b2b7a9d5
     let wanted = text(
         alloc,
         &[

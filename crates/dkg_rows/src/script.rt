@@ -16,13 +16,7 @@ fn scripts_with_addresses_are_not_run(rt: HostRuntime) -> Result<(), Fail> {
     let none = text(alloc, &[HEAD, "end\n"])?;
     assert_eq!(rt; refused(alloc, none.as_str()), Some(ReadError::Unsupported));
     // An info without a directory is none then.
-<<<<<<< HEAD
-    let some = script(alloc, OUTPUT, "")?;
-    assert_eq!(rt; refused(alloc, some.as_str()), Some(ReadError::Bad { place: 45 }));
-=======
     let some = script(alloc, "")?;
-    let error = read_in_form(alloc, some.as_bytes(), true).err();
-    assert_eq!(rt; error, Some(ReadError::Bad { place: 45 }));
->>>>>>> 4f8c2101c6acff7d6dc64ada5c8b1a97b2b7a9d5
+    assert_eq!(rt; refused(alloc, some.as_str()), Some(ReadError::Bad { place: 45 }));
     Ok(())
 }
