@@ -192,7 +192,6 @@ def members(size):
     return epochs(size, 100, early_life)
 
 
-# Its name, how a script of a size is made, the least of the four sizes, and the exponent of growth that is still well.
 def whole(size):
     """So many epochs of 100 dealers, whose logs blocks carry."""
     return whole_scripts.whole(sys.modules[__name__], size, 100, 0)
@@ -203,12 +202,18 @@ def asked(size):
     return whole_scripts.whole(sys.modules[__name__], size, 100, 5)
 
 
+def offers(size):
+    """So many epochs in which the node deals, and offers its dealing to three others behind each of six blocks, since nobody acknowledges it."""
+    return whole_scripts.whole(sys.modules[__name__], 1, 4, 0, size)
+
+
 def waiting(size):
     """So many requests that wait while the node deals, each of which is fed one block."""
     events = [*(f"info {i}" for i in range(size)), *(f"feed {i} 6" for i in range(size)), *(f"final {i}" for i in range(5))]
     return text(header(FEW, 8) + [f"block {i} {i - 1} 0 -" for i in range(1, 8)] + life(events))
 
 
+# Its name, how a script of a size is made, the least of the four sizes, and the exponent of growth that is still well.
 KINDS = [
     ("repeats", repeats, 8_000, 1.05),
     ("refusals", refusals, 8_000, 1.05),
@@ -224,6 +229,7 @@ KINDS = [
     ("members", members, 5, 1.05),
     ("whole", whole, 1, 1.05),
     ("asked", asked, 1, 1.05),
+    ("offers", offers, 60, 1.05),
     ("waiting", waiting, 500, 1.05),
 ]
 

@@ -70,34 +70,39 @@ def output_bytes(tools, keys, polynomial, summary):
     return summary + b"\x00" + tools.uint(len(keys)) + tools.polynomial_bytes(polynomial) + members + members + tools.set_bytes(())
 
 
-def info(tools, epoch, keys, output):
+def info(tools, epoch, keys, output, failed=False):
     members = tools.set_bytes(keys)
-    return (b"\x01\x00" + tools.uint(epoch) + output + members + members).hex()
+    return (bytes([1, failed]) + tools.uint(epoch) + output + members + members).hex()
 
 
-def whole(tools, size, dealers, requests):
-    """So many epochs, each in a life of its own. Behind the last log come so many requests for the next info, each fed the blocks down to the midpoint."""
+def whole(tools, size, dealers, requests, failing=0):
+    """So many epochs, each in a life of its own. Behind the last log come so many requests for the next info, each fed the blocks down to the midpoint.
+
+    Then so many failing ones: nobody deals but this node, and nobody acknowledges what it offers behind each block below the midpoint.
+    """
     keys = tuple(range(1, dealers + 1))
     half = dealers + 2
     count = 2 * half
-    named = [f"players {epoch} {' '.join(map(str, keys))}" for epoch in range(2, size + 2)]
+    named = [f"players {epoch} {' '.join(map(str, keys))}" for epoch in range(2, size + failing + 2)]
     polynomial = [int.from_bytes(sha(be64(7), b"\x01", be32(i))[:2], "big") % FIELD for i in range(tools.quorum(dealers))]
     output = output_bytes(tools, keys, polynomial, bytes(8))
     blocks, lives, asked = [f"block 0 - 0 {info(tools, 0, keys, output)}"], [], 0
-    for number in range(size):
+    for number in range(size + failing):
+        failed = number >= size
         epoch = Epoch(tools, number, keys, output, polynomial)
-        dealt = {key: epoch.dealt(key, sha(be32(key), be64(number))) for key in keys if key != ME}
+        dealt = {key: epoch.dealt(key, sha(be32(key), be64(number))) for key in keys if key != ME and not failed}
         logs = {key: epoch.log(key, public) for key, (public, _) in dealt.items()}
         own, _ = epoch.dealt(ME, sha(be64(9), be64(number)))
         peers = [f"peer {key} {(bytes(1) + tools.polynomial_bytes(public) + privates[ME - 1].to_bytes(2, 'big')).hex()}" for key, (public, privates) in dealt.items()]
-        peers += [f"peer {key} 01{epoch.ack(key, ME, own).hex()}" for key in keys if key != ME and number > 0]
-        polynomial, output = epoch.output({key: public for key, (public, _) in dealt.items()})
+        peers += [f"peer {key} 01{epoch.ack(key, ME, own).hex()}" for key in keys if key != ME and number > 0 and not failed]
+        if not failed:
+            polynomial, output = epoch.output({key: public for key, (public, _) in dealt.items()})
         first = number * count
         events = []
         for at in range(count):
             height, dealer = first + at, at - half + 2
             if height > 0:
-                payload = info(tools, number + 1, keys, output) if at == count - 1 else logs.get(dealer, "-")
+                payload = info(tools, number + 1, keys, output, failed) if at == count - 1 else logs.get(dealer, "-")
                 blocks.append(f"block {height} {height - 1} 0 {payload}")
             events.append(f"final {height}")
             if at == 1:

@@ -1,7 +1,7 @@
 //! What a run finds on devices that another run left, and what it blames them for.
 
 use crate::runs::runs_to;
-use crate::texts::{ANSWERED, DEALING, OUTPUT, RESTORED, SET_UP, life, text};
+use crate::texts::{ANSWERED, DEALING, RESTORED, SET_UP, life, text};
 use dkg_journal::{Disk, MemoryDisk};
 use dkg_store::{MemorySecrets, SecretStore};
 use dkg_values::Name;
@@ -12,19 +12,21 @@ use std::test::Fail;
 const SHORT_LENGTH: [u8; 18] = *b"\x01\0\0\0\x0b\0\0\0\0\x02\x03\0\x0f\0\x07\0\x01\0";
 
 /// A segment that ends within its record.
-const SHORT_RECORD: [u8; 10] = *b"\x01\0\0\0\x0c\0\0\0\0\x02";
+const SHORT_RECORD: [u8; 6] = *b"\x01\0\0\0\x09\x05";
+
+/// A segment whose record is whole, and is no event.
+const NO_EVENT: [u8; 6] = *b"\x01\0\0\0\x01\x05";
 
 /// Fails where a script of one life with these events doesn't end with this status over these devices, or writes other lines than these in a row.
 fn lives_to<D: Disk, X: SecretStore>(
     alloc: Global,
-    output: &str,
     events: &str,
     disk: &mut D,
     secrets: &mut X,
     status: u8,
     lines: &[&str],
 ) -> Result<(), Fail> {
-    let script = life(alloc, output, events)?;
+    let script = life(alloc, events)?;
     let lines = text(alloc, lines)?;
     runs_to(
         alloc,
@@ -36,30 +38,35 @@ fn lives_to<D: Disk, X: SecretStore>(
     )
 }
 
-/// Fails where a life over a segment of epoch 0 with these bytes doesn't end in this fault.
-fn faults_over<D: Disk, X: SecretStore>(
+/// The same for a life with the dealing, where the segment of epoch 0 has these bytes.
+fn hears_on<D: Disk, X: SecretStore>(
     alloc: Global,
     disk: &mut D,
     secrets: &mut X,
     bytes: &[u8],
-    line: &str,
+    status: u8,
+    lines: &[&str],
 ) -> Result<(), Fail> {
     disk.install(alloc, Name::Segment(0), bytes)?;
-    lives_to(alloc, OUTPUT, "", disk, secrets, 4, &[line])
+    lives_to(alloc, DEALING, disk, secrets, status, lines)
 }
 
 /// .. over memory.
-fn faults_by(alloc: Global, bytes: &[u8], line: &str) -> Result<(), Fail> {
+fn hears_over(alloc: Global, bytes: &[u8], status: u8, lines: &[&str]) -> Result<(), Fail> {
     let mut disk = MemoryDisk::new(alloc);
     let mut secrets = MemorySecrets::new(alloc);
-    faults_over(alloc, &mut disk, &mut secrets, bytes, line)
+    hears_on(alloc, &mut disk, &mut secrets, bytes, status, lines)
 }
 
 #[test]
-fn a_record_that_is_not_whole_is_a_fault(rt: HostRuntime) -> Result<(), Fail> {
+fn an_open_record_is_whole_and_an_event(rt: HostRuntime) -> Result<(), Fail> {
     let alloc = rt.alloc();
-    faults_by(alloc, &SHORT_LENGTH, "fault 4 segment 0 16\n")?;
-    faults_by(alloc, &SHORT_RECORD, "fault 4 segment 0 0\n")
+    hears_over(alloc, &SHORT_LENGTH, 4, &["fault 4 segment 0 16\n"])?;
+    hears_over(alloc, &SHORT_RECORD, 4, &["fault 4 segment 0 0\n"])?;
+    hears_over(alloc, &NO_EVENT, 4, &["fault 4 segment 0 0\n"])?;
+    // A gate of 7 isn't open, so nothing is recorded there.
+    let lines = ["opened 0 0\n", SET_UP, ANSWERED, "done\n"];
+    hears_over(alloc, &[7], 0, &lines)
 }
 
 /// Fails where a disk whose fifth call fails, which is a sync, has the dealing behind a crash.
@@ -69,11 +76,11 @@ fn nothing_is_left<D: Disk, X: SecretStore>(
     secrets: &mut X,
 ) -> Result<(), Fail> {
     let lines = ["opened 0 0\n", SET_UP, "fault 2\n"];
-    lives_to(alloc, OUTPUT, DEALING, disk, secrets, 5, &lines)?;
+    lives_to(alloc, DEALING, disk, secrets, 5, &lines)?;
     disk.crash(0);
     secrets.crash(0);
     let lines = ["opened 0 0\n", SET_UP, "done\n"];
-    lives_to(alloc, OUTPUT, "", disk, secrets, 0, &lines)
+    lives_to(alloc, "", disk, secrets, 0, &lines)
 }
 
 #[test]
@@ -85,21 +92,16 @@ fn a_failed_sync_leaves_nothing(rt: HostRuntime) -> Result<(), Fail> {
     nothing_is_left(alloc, &mut disk, &mut secrets)
 }
 
-/// Fails where a run over devices without files, the next one over them, or one whose round refuses what they hold, doesn't end as it has to.
+/// Fails where a run over devices without files, or the next one over them, doesn't end as it has to.
 fn later_runs_go_on<D: Disk, X: SecretStore>(
     alloc: Global,
     disk: &mut D,
     secrets: &mut X,
 ) -> Result<(), Fail> {
     let lines = ["opened 0 0\n", SET_UP, ANSWERED, "done\n"];
-    lives_to(alloc, OUTPUT, DEALING, disk, secrets, 0, &lines)?;
+    lives_to(alloc, DEALING, disk, secrets, 0, &lines)?;
     let lines = ["opened 0 1\n", RESTORED, SET_UP, "done\n"];
-    lives_to(alloc, OUTPUT, "", disk, secrets, 0, &lines)?;
-    // Of another output key 2 holds another share, so the round refuses the dealing.
-    let refused = "committed 0 -\nregistered 0 member\nfault 17 1 0 2\n";
-    let lines = ["opened 0 1\n", RESTORED, refused];
-    let other = "03000600010002";
-    lives_to(alloc, other, "", disk, secrets, 4, &lines)
+    lives_to(alloc, "", disk, secrets, 0, &lines)
 }
 
 #[test]

@@ -1,7 +1,7 @@
 //! Lives that `run_lives` runs for who has read a script already: one is cut inside a device call, and the next one finds what was written before.
 ghost use Rattle.dkg_script.specs.Inclusion.{IsFormOfInclusion};
 
-use crate::texts::{DEALING, OUTPUT, RESTORED, SET_UP, life, text};
+use crate::texts::{DEALING, RESTORED, SET_UP, life, text};
 use dkg_infos::{Fault, Transcript};
 use dkg_journal::MemoryDisk;
 use dkg_run::run_lives;
@@ -38,7 +38,7 @@ fn told(alloc: Global, text: &str) -> Result<Vec<u8>, Fail> {
 fn told_of_a_cut(alloc: Global) -> Result<Vec<u8>, Fail> {
     // A dealing's step makes six calls that change a device, of which the fifth writes the record's gate; pick 0 keeps that.
     let events = text(alloc, &[DEALING, "cut 1 5 0\nstop 0\nlife 9\nheld 0\n"])?;
-    let script = life(alloc, OUTPUT, events.as_str())?;
+    let script = life(alloc, events.as_str())?;
     told(alloc, script.as_str())
 }
 

@@ -1,6 +1,6 @@
 //! Scripts that a script's own rows can't be: `dkg_replay` has the rest.
 
-use crate::texts::{HEAD, OUTPUT, script, text};
+use crate::texts::{HEAD, script, text};
 use dkg_script::{ReadError, read_in_form};
 use std::alloc::Global;
 use std::test::Fail;
@@ -16,7 +16,7 @@ fn scripts_with_addresses_are_not_run(rt: HostRuntime) -> Result<(), Fail> {
     let none = text(alloc, &[HEAD, "end\n"])?;
     assert_eq!(rt; refused(alloc, none.as_str()), Some(ReadError::Unsupported));
     // An info without a directory is none then.
-    let some = script(alloc, OUTPUT, "")?;
+    let some = script(alloc, "")?;
     assert_eq!(rt; refused(alloc, some.as_str()), Some(ReadError::Bad { place: 45 }));
     Ok(())
 }

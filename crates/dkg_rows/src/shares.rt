@@ -1,7 +1,7 @@
 //! Runs over secrets that hold a share of epoch 0 before, which a script can't give.
 
 use crate::runs::runs_to;
-use crate::texts::{OUTPUT, life};
+use crate::texts::life;
 use dkg_ceremony::Share;
 use dkg_journal::{Disk, MemoryDisk};
 use dkg_store::{MemorySecrets, SecretStore};
@@ -35,7 +35,7 @@ fn runs_with(alloc: Global, share: u16, script: &str, status: u8, lines: &str) -
 #[test]
 fn a_share_of_another_output_is_refused(rt: HostRuntime) -> Result<(), Fail> {
     let alloc = rt.alloc();
-    let text = life(alloc, OUTPUT, "")?;
+    let text = life(alloc, "")?;
     runs_with(
         alloc,
         8,

@@ -6,8 +6,8 @@ use std::test::Fail;
 /// A script's lines before its first block.
 pub const HEAD: &str = "dkg 1\nme 1\nblocks 8\nlimit 4\nmode 0 0\nspace -\n";
 
-/// The output of epoch 0: the polynomial 5 + x + 2x².
-pub const OUTPUT: &str = "03000500010002";
+/// The polynomial of epoch 0's output, 5 + x + 2x².
+const POLYNOMIAL: &str = "03000500010002";
 
 /// The keys 1 to 4, which share it.
 const KEYS: &str = "0400000001000000020000000300000004";
@@ -30,19 +30,19 @@ pub fn text(alloc: Global, pieces: &[&str]) -> Result<String, Fail> {
     Ok(pieces.join(alloc, "")?)
 }
 
-/// A script whose epoch 0 has this output, with these lines behind its first block.
-pub fn script(alloc: Global, output: &str, rest: &str) -> Result<String, Fail> {
+/// A script with these lines behind its first block.
+pub fn script(alloc: Global, rest: &str) -> Result<String, Fail> {
     let info = "block 0 - 0 01000000000000000000000004";
     text(
         alloc,
         &[
-            HEAD, info, output, KEYS, KEYS, "00", KEYS, KEYS, "\n", rest, "end\n",
+            HEAD, info, POLYNOMIAL, KEYS, KEYS, "00", KEYS, KEYS, "\n", rest, "end\n",
         ],
     )
 }
 
 /// A script of one life with these events, each line ended.
-pub fn life(alloc: Global, output: &str, events: &str) -> Result<String, Fail> {
+pub fn life(alloc: Global, events: &str) -> Result<String, Fail> {
     let lines = text(alloc, &["life 9\nheld 0\n", events, "stop 0\n"])?;
-    script(alloc, output, lines.as_str())
+    script(alloc, lines.as_str())
 }

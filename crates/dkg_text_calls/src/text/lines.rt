@@ -1,12 +1,11 @@
-//! The lines of entries, and of faults, that no row of `dkg_replay` has in its transcript: those of what isn't run yet, and of what a script can't bring about.
+//! The lines of entries, and of faults, that no row of `dkg_replay` has: those of what isn't run yet, and of what neither a script nor a probe can bring about.
 
 use dkg_ceremony::{Blob, Epoch, Height, Key, Name, RoundError};
 use dkg_infos::{
-    AnswerLine, BlockedWhy, ConfigCause, Entry, Fault, LocalCause, ParticipantsCause,
-    ParticipantsError, PreparedLine, Verdict, Why,
+    AnswerLine, ConfigCause, Entry, Fault, LocalCause, ParticipantsCause, ParticipantsError,
+    PreparedLine, Verdict, Why,
 };
 use dkg_text::print_of;
-use dkg_values::Shared;
 use std::alloc::Global;
 use std::process::Abort;
 use std::test::Fail;
@@ -18,30 +17,8 @@ fn show(rt: &(impl Abort + AllocGlobal), entries: &[Entry], lines: &str) -> Resu
     Ok(())
 }
 
-const PEER: Key = Key(9);
-
 /// Entries that have no bytes.
-const WORDS: [Entry; 16] = [
-    Entry::Blocked {
-        peer: PEER,
-        why: BlockedWhy::Reply,
-    },
-    Entry::Blocked {
-        peer: PEER,
-        why: BlockedWhy::Member,
-    },
-    Entry::Blocked {
-        peer: PEER,
-        why: BlockedWhy::Invalid,
-    },
-    Entry::Blocked {
-        peer: PEER,
-        why: BlockedWhy::Boundary,
-    },
-    Entry::Blocked {
-        peer: PEER,
-        why: BlockedWhy::Block,
-    },
+const WORDS: [Entry; 11] = [
     Entry::Answer {
         request: 3,
         answer: AnswerLine::Unavailable(Why::Terminal),
@@ -74,11 +51,6 @@ fn entries_have_words(rt: HostRuntime) -> Result<(), Fail> {
         entries.push(entry)?;
     }
     let lines = "\
-blocked 9 reply
-blocked 9 member
-blocked 9 invalid
-blocked 9 boundary
-blocked 9 block
 answer 3 unavailable terminal
 answer 3 unavailable held
 answer 3 none
@@ -118,22 +90,11 @@ fn proposed(alloc: Global) -> Result<Entry, Fail> {
     Ok(Entry::Proposed { block })
 }
 
-fn sent_to_all(alloc: Global) -> Result<Entry, Fail> {
-    let bytes = blob(alloc)?;
-    Ok(Entry::Sent { to: None, bytes })
-}
-
 /// No bytes to one peer.
 fn sent_to_one(alloc: Global) -> Entry {
     let bytes = Blob::new(Vec::new(alloc));
     let to = Some(Key(4));
     Entry::Sent { to, bytes }
-}
-
-fn artifact(alloc: Global) -> Result<Entry, Fail> {
-    let info = blob(alloc)?;
-    let floor = Shared::of(alloc, blob(alloc)?)?;
-    Ok(Entry::Artifact { info, floor })
 }
 
 /// Puts an entry of each kind that has bytes.
@@ -142,9 +103,7 @@ fn push_bytes(alloc: Global, entries: &mut Vec<Entry>) -> Result<(), Fail> {
     entries.push(call(alloc)?)?;
     entries.push(prepared(alloc)?)?;
     entries.push(proposed(alloc)?)?;
-    entries.push(sent_to_all(alloc)?)?;
     entries.push(sent_to_one(alloc))?;
-    entries.push(artifact(alloc)?)?;
     Ok(())
 }
 
@@ -157,14 +116,12 @@ completed 00abff
 call 1 next 1 4
 prepared 00abff
 proposed 00abff
-sent all 00abff
 sent 4 -
-artifact 00abff 00abff
 ";
     show(&rt, &entries, lines)
 }
 
-const FAULTS: [Fault; 20] = [
+const FAULTS: [Fault; 19] = [
     Fault::Disk,
     Fault::Secrets,
     Fault::Corrupt {
@@ -197,10 +154,6 @@ const FAULTS: [Fault; 20] = [
     Fault::InvalidParticipants(ParticipantsCause::Refused(ParticipantsError::UnknownReshareDealer)),
     Fault::InvalidParticipants(ParticipantsCause::Round(RoundError::DealersNotPrevious)),
     Fault::DirectoryMismatch { epoch: Epoch(2) },
-    Fault::LocalState(LocalCause::StoredDealing {
-        epoch: Epoch(3),
-        dealer: Key(2),
-    }),
     Fault::LocalState(LocalCause::NoShare),
     Fault::LocalState(LocalCause::OutcomeOmitted),
     Fault::FinalBlockMissing,
@@ -229,7 +182,6 @@ fault 15 4
 fault 15 5
 fault 15 8 4
 fault 16 2
-fault 17 1 3 2
 fault 17 4
 fault 17 5
 fault 18
