@@ -5,6 +5,7 @@ pub mod Fault
 pub mod Forms
 pub mod Help
 pub mod Lines
+pub mod Message
 pub mod Names
 pub mod Notes
 pub mod Own
