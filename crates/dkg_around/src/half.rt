@@ -159,9 +159,11 @@ impl Half {
         requires next { block.now.height ≡ last (non_zero_u64_get blocks_per_epoch) epoch
             → (last (non_zero_u64_get blocks_per_epoch) (epoch + 1) < 2 ^ 64) × (is_ready fence.old.ready (epoch + 1) ≡ true) }
         requires active { (self.old.halted ≡ false) × (self.old.entered ≡ Some epoch) }
-        ensures speaks { (c : Fixed directory.Unit) (st : Live directory.Unit) → c.blocks_per_epoch ≡ non_zero_u64_get blocks_per_epoch → HasOrchestratorHalf self.old st
+        ensures speaks { (c : Fixed directory.Unit) (st : Live directory.Unit) → c.blocks_per_epoch ≡ non_zero_u64_get blocks_per_epoch
+            → HasOrchestratorHalf self.old st
             → MayGoOn c fence.old block.now epoch st
-            → Speaks (delivered_in c block.now st (Some epoch)) (ends_on (with_orchestrator_half self.new fence.new st) result) out.old.entries out.new.entries }
+            → Speaks (delivered_in c block.now st (Some epoch)) (ends_on (with_orchestrator_half self.new fence.new st) result)
+            out.old.entries out.new.entries }
         ensures settled { OnOk result (IsSettled (non_zero_u64_get blocks_per_epoch) self.new) }
         ensures causes { IfErr result (λ stop. IsCaused stop ⊥ ⊥ ⊥) }
     {
@@ -193,7 +195,8 @@ impl Half {
         out: &mut Transcript,
     ) -> Result<(), Stop>
         requires range { MayPass (non_zero_u64_get blocks_per_epoch) self.old fence.old.ready block.now.height }
-        ensures speaks { (c : Fixed directory.Unit) (st : Live directory.Unit) → c.blocks_per_epoch ≡ non_zero_u64_get blocks_per_epoch → HasOrchestratorHalf self.old st
+        ensures speaks { (c : Fixed directory.Unit) (st : Live directory.Unit) → c.blocks_per_epoch ≡ non_zero_u64_get blocks_per_epoch
+            → HasOrchestratorHalf self.old st
             → st.orchestrator.fence ≡ fence.old
             → ((epoch : ℕ) → self.old.halted ≡ false → self.old.entered ≡ Some epoch → MayGoOn c fence.old block.now epoch st)
             → Speaks (bind (takes_delivered c block.now st) (λ half. acked_at block.now.height half.answer half.live))
