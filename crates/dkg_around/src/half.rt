@@ -162,8 +162,8 @@ impl Half {
         ensures speaks { (c : Fixed directory.Unit) (st : Live directory.Unit) → c.blocks_per_epoch ≡ non_zero_u64_get blocks_per_epoch
             → HasOrchestratorHalf self.old st
             → MayGoOn c fence.old block.now epoch st
-            → Speaks (delivered_in c block.now st (Some epoch))
-            (ends_on (with_orchestrator_half self.new fence.new st) result) out.old.entries out.new.entries }
+            → Speaks (delivered_in c block.now st (Some epoch)) (ends_on (with_orchestrator_half self.new fence.new st) result)
+            out.old.entries out.new.entries }
         ensures settled { OnOk result (IsSettled (non_zero_u64_get blocks_per_epoch) self.new) }
         ensures causes { IfErr result (λ stop. IsCaused stop ⊥ ⊥ ⊥) }
     {

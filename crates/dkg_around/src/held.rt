@@ -1,5 +1,5 @@
 //! The blocks that a life's source holds.
-ghost use Rattle.std.specs.Prelude.{◌≡◌, ◌==◌, ◌++◌, ◌∷◌, [], IfOk, OnOk, find, option_and_then, option_map, slice_get};
+ghost use Rattle.std.specs.Prelude.{◌≡◌, ◌==◌, ◌++◌, ◌∷◌, [], IfOk, OnErr, OnOk, find, option_and_then, option_map, slice_get};
 ghost use Rattle.std.specs.Option.{option_copied};
 ghost use Rattle.std.specs.Str.{bytes_eq};
 ghost use Rattle.dkg_script.specs.Blocks.{anchor_number};
@@ -96,6 +96,7 @@ impl<'a> HeldBlocks<'a> {
         ensures blocks { self.new.blocks ≡ self.old.blocks }
         ensures anchor { self.new.anchor ≡ self.old.anchor }
         ensures numbers { OnOk result (self.new.numbers.items ≡ self.old.numbers.items ++ number ∷ []) }
+        ensures kept { OnErr result (self.new.numbers.items ≡ self.old.numbers.items) }
     {
         Ok(self.numbers.push(number)?)
     }

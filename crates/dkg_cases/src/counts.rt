@@ -1,4 +1,6 @@
 //! What is printed: a line a form, and each case that differs.
+ghost use Rattle.std.specs.Prelude.{◌≡◌};
+ghost use Rattle.dkg_cases.specs.Counts.{all_agree, no_case, with_case, with_cases};
 
 use crate::cases::Case;
 use std::alloc::Global;
@@ -13,7 +15,9 @@ pub struct Count {
 
 impl Count {
     /// No case yet.
-    pub fn new() -> Count {
+    pub fn new() -> Count
+        ensures { result ≡ no_case }
+    {
         Count {
             cases: 0,
             differ: 0,
@@ -21,21 +25,28 @@ impl Count {
     }
 
     /// Counts a case. (A count at its last value stays there.)
-    pub fn take(&mut self, agrees: bool) {
+    pub fn take(&mut self, agrees: bool)
+        ensures { self.new ≡ with_case self.old agrees }
+    {
         self.cases = self.cases.saturating_add(1);
-        if !agrees {
-            self.differ = self.differ.saturating_add(1);
+        if agrees {
+            return;
         }
+        self.differ = self.differ.saturating_add(1);
     }
 
     /// Adds another count.
-    pub fn add(&mut self, other: &Count) {
+    pub fn add(&mut self, other: &Count)
+        ensures { self.new ≡ with_cases self.old other.now }
+    {
         self.cases = self.cases.saturating_add(other.cases);
         self.differ = self.differ.saturating_add(other.differ);
     }
 
     /// Whether there were cases, and none differs.
-    pub fn is_clean(&self) -> bool {
+    pub fn is_clean(&self) -> bool
+        ensures { result ≡ all_agree self.now }
+    {
         self.cases != 0 && self.differ == 0
     }
 }

@@ -8,6 +8,8 @@ use crate::source::{Failed, Source};
 use std::io;
 
 /// Standard input, or any other reader. A read that was interrupted is made again.
+///
+/// Its clauses don't say when a read succeeds, since that is known to the reader alone: a source that always fails meets them too.
 #[derive(Drop)]
 pub struct StdSource<R> {
     reader: R,
@@ -80,6 +82,8 @@ impl<R: io::Read> Source for StdSource<R> {
 
 /// Standard output, or any other writer. A write that was interrupted is made again, and one that takes nothing of a
 /// piece that has bytes is a failure.
+///
+/// Its clauses don't say when a write succeeds, since that is known to the writer alone: a sink that always fails meets them too.
 #[derive(Drop)]
 pub struct StdSink<W> {
     writer: W,

@@ -2,14 +2,14 @@
 ghost use Rattle.dkg_journal.specs.Table.{contents, RowsImage};
 ghost use Rattle.dkg_run.specs.Fresh.{AreFresh};
 
-use dkg_journal::MemoryDisk;
-use dkg_store::MemorySecrets;
+use dkg_journal::SureDisk;
+use dkg_store::SureSecrets;
 use std::alloc::Global;
 
-/// An empty disk and an empty secret store in memory, which never fail. They meet what a run asks of its devices, whatever the
-/// script.
-pub fn fresh_devices(alloc: Global) -> (MemoryDisk, MemorySecrets)
-    ensures fresh { AreFresh (contents result.0.disk.files) (RowsImage result.0.disk.files) result.1.held }
+/// An empty disk and an empty secret store in memory, of the types that never fail: their counts of failures are always 0, so that no run over them ends in one.
+/// They meet what a run asks of its devices, whatever the script.
+pub fn fresh_devices(alloc: Global) -> (SureDisk, SureSecrets)
+    ensures fresh { AreFresh (contents result.0.files) (RowsImage result.0.files) result.1.held }
 {
-    (MemoryDisk::new(alloc), MemorySecrets::new(alloc))
+    (SureDisk::new(alloc), SureSecrets::new(alloc))
 }

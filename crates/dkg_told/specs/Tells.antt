@@ -5,7 +5,7 @@ use Rattle.dkg_infos.specs.declared.entry.Entry.TheVariants as entry
 use Rattle.dkg_outside.specs.declared.status.Status.{Status}
 use Rattle.dkg_outside.specs.declared.status.Status.TheVariants as status
 use Rattle.dkg_words.specs.Bad.{bad_text}
-use Rattle.dkg_words.specs.Fault.{IsFaultLine}
+use Rattle.dkg_words.specs.Fault.{fault_text}
 use Rattle.dkg_words.specs.Help.{help_text}
 use Rattle.dkg_words.specs.Own.{own_text}
 use Rattle.dkg_words.specs.Chain.{IsChainWarning}
@@ -19,7 +19,7 @@ pub record Warns (text words : List ℕ) : Type 0 where
 
 -- the line of a device's failure, which is the last entry
 abbrev pub LastTold : (text : List ℕ) → List Entry → (last : Option Entry) → (words : List ℕ) → Type 0
-LastTold text entries (Some (entry.Fault fault)) words = IsFaultLine text entries fault words
+LastTold text entries (Some (entry.Fault fault)) words = words ≡ fault_text text entries fault
 LastTold text entries _ words = words ≡ codes "a device failed" ++ 10 ∷ []
 
 abbrev pub DeviceTold : (text : List ℕ) → List Entry → (words : List ℕ) → Type 0
@@ -30,7 +30,7 @@ abbrev pub TellsByStatus : Status → (text : List ℕ) → List Entry → (word
 TellsByStatus status.Done text entries words = Warns text words
 TellsByStatus (status.BadScript place) text entries words = words ≡ bad_text text place
 TellsByStatus status.Unsupported text entries words = words ≡ unsupported_text text
-TellsByStatus (status.Fault fault) text entries words = IsFaultLine text entries fault words
+TellsByStatus (status.Fault fault) text entries words = words ≡ fault_text text entries fault
 TellsByStatus status.Device text entries words = DeviceTold text entries words
 TellsByStatus status.Usage text entries words = words ≡ help_text
 TellsByStatus status.NoMemory text entries words = words ≡ codes "memory ran out" ++ 10 ∷ []

@@ -1,5 +1,5 @@
 -- What is said of a run that a fault ended.
-use Rattle.std.specs.Prelude.{ℕ, ◌≡◌, List, [], ◌∷◌, ◌++◌, Option, Some, None, codes, decimal}
+use Rattle.std.specs.Prelude.{ℕ, List, [], ◌∷◌, ◌++◌, Option, Some, None, codes, decimal}
 use Rattle.dkg_infos.specs.declared.entry.Entry.{Entry}
 use Rattle.dkg_infos.specs.declared.entry.Entry.TheVariants as entry
 use Rattle.dkg_infos.specs.declared.fault.Fault.{Fault}
@@ -7,6 +7,7 @@ use Rattle.dkg_infos.specs.Faults.{fault_number}
 use Rattle.dkg_words.specs.declared.fault.Spot.{Spot}
 use Rattle.dkg_words.specs.declared.fault.Step.{Step}
 use Rattle.dkg_words.specs.Before.{counted_up}
+use Rattle.dkg_words.specs.Message.{fault_words}
 use Rattle.dkg_words.specs.Seek.{place_of_step}
 use Rattle.dkg_words.specs.Told.{line_told}
 
@@ -49,7 +50,10 @@ place_told text None = []
 abbrev pub spot_told : List ℕ → Spot → List ℕ
 spot_told text spot = step_told spot.step ++ place_told text spot.place
 
--- the spot of the step in hand, some message, and the fault's number
-pub record IsFaultLine (text : List ℕ) (entries : List Entry) (fault : Fault) (line : List ℕ) : Type 0 where
-  pub message : List ℕ
-  pub parts : line ≡ spot_told text (spot_of text (behind_entries entries)) ++ codes ": " ++ message ++ codes " (fault " ++ decimal (fault_number fault) ++ codes ")\n"
+-- a fault's message and its number
+abbrev pub fault_told : Fault → List ℕ
+fault_told fault = codes ": " ++ fault_words fault ++ codes " (fault " ++ decimal (fault_number fault) ++ codes ")\n"
+
+-- the spot of the step in hand, and the fault
+abbrev pub fault_text : List ℕ → List Entry → Fault → List ℕ
+fault_text text entries fault = spot_told text (spot_of text (behind_entries entries)) ++ fault_told fault

@@ -5,6 +5,7 @@ pub mod Fault
 pub mod Forms
 pub mod Help
 pub mod Lines
+pub mod Message
 pub mod Names
 pub mod Notes
 pub mod Own
@@ -13,3 +14,5 @@ pub mod Shown
 pub mod Stages
 pub mod Told
 pub mod Unsupported
+pub mod Turns
+pub mod Unbuilt

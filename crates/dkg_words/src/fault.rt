@@ -1,8 +1,9 @@
 //! The line that is said of a run that a fault ended.
 ghost use Rattle.std.specs.Prelude.{◌≡◌, ◌++◌, ◌+◌, IfOk, OnOk};
-ghost use Rattle.dkg_words.specs.Fault.{IsFaultLine, behind_entries, behind_entry, spot_of, spot_told, step_told};
+ghost use Rattle.dkg_words.specs.Fault.{behind_entries, behind_entry, fault_text, fault_told, spot_of, spot_told, step_told};
 
 use crate::bad::put_line;
+use crate::message::put_message;
 use crate::put::{put, put_number};
 use crate::seek::step_place;
 use dkg_infos::{Entry, Fault};
@@ -97,17 +98,22 @@ fn put_spot(out: &mut Vec<u8>, text: &[u8], spot: Spot) -> Mem<()>
     Ok(())
 }
 
+fn put_fault(out: &mut Vec<u8>, fault: &Fault) -> Mem<()>
+    ensures { OnOk result (out.new.items ≡ out.old.items ++ fault_told fault.now) }
+{
+    put(out, b": ")?;
+    put_message(out, fault)?;
+    put(out, b" (fault ")?;
+    put_number(out, u64::from(fault.number()))?;
+    put(out, b")\n")
+}
+
 /// What is said of a run that a fault ended: the life, the step and its line, the fault's message and its number.
 pub fn fault_line(alloc: Global, text: &[u8], entries: &[Entry], fault: &Fault) -> Mem<Vec<u8>>
-    ensures { IfOk result (λ line. IsFaultLine text.now entries.now fault.now line.items) }
+    ensures { IfOk result (λ line. line.items ≡ fault_text text.now entries.now fault.now) }
 {
     let mut out = Vec::new(alloc);
     put_spot(&mut out, text, spot_at(text, behind_all(entries)))?;
-    let message = format!(in alloc; "{fault}")?;
-    put(&mut out, b": ")?;
-    put(&mut out, message.as_bytes())?;
-    put(&mut out, b" (fault ")?;
-    put_number(&mut out, u64::from(fault.number()))?;
-    put(&mut out, b")\n")?;
+    put_fault(&mut out, fault)?;
     Ok(out)
 }

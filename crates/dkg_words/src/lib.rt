@@ -9,6 +9,7 @@ mod chain;
 mod fault;
 mod forms;
 mod lines;
+mod message;
 mod names;
 mod notes;
 mod own;
