@@ -105,14 +105,16 @@ pub fn case_of(bytes: &[u8]) -> Option<(Case<'_>, &[u8])>
     let head = head_of(line)?;
     let (script, rest) = parted_at(rest, head.script)?;
     let (transcript, rest) = parted_at(rest, head.transcript)?;
-    let Ok(name) = str::from_utf8(head.name) else {
-        return None;
-    };
-    let case = Case {
-        name,
-        status: head.status,
-        script,
-        transcript,
-    };
-    Some((case, rest))
+    match str::from_utf8(head.name) {
+        Ok(name) => {
+            let case = Case {
+                name,
+                status: head.status,
+                script,
+                transcript,
+            };
+            Some((case, rest))
+        }
+        Err(_) => None,
+    }
 }
