@@ -7,7 +7,9 @@ ghost use Rattle.dkg_told.specs.Tells.{DeviceTold, TellsByStatus, TellsOf, Warns
 use dkg_infos::Entry;
 use dkg_outside::Status;
 use dkg_values::{Mem, NoMemory};
-use dkg_words::{bad_line, chain_warning, fault_line, help, own_warning, sentence, unsupported_line};
+use dkg_words::{
+    bad_line, chain_warning, fault_line, help, own_warning, sentence, unsupported_line,
+};
 use std::alloc::Global;
 
 /// The warnings of a script that was run to its end.

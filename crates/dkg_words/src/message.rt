@@ -53,12 +53,7 @@ fn put_file(out: &mut Vec<u8>, name: Name) -> Mem<()>
 fn put_corrupt(out: &mut Vec<u8>, name: Name, place: u64) -> Mem<()>
     ensures { OnOk result (out.new.items ≡ out.old.items ++ fault_words (Fault.Corrupt name place)) }
 {
-    put_around(
-        out,
-        b"no record in its grammar at ",
-        place,
-        b" of ",
-    )?;
+    put_around(out, b"no record in its grammar at ", place, b" of ")?;
     put_file(out, name)
 }
 
@@ -155,10 +150,7 @@ fn put_local(out: &mut Vec<u8>, cause: &LocalCause) -> Mem<()>
             b"the player keeps another dealing of this node for epoch ",
             epoch.0,
         ),
-        LocalCause::NoShare => put(
-            out,
-            b"the ceremony succeeded and gave this node no share",
-        ),
+        LocalCause::NoShare => put(out, b"the ceremony succeeded and gave this node no share"),
         LocalCause::OutcomeOmitted => put(out, b"the final block omits the outcome"),
     }
 }
