@@ -128,7 +128,8 @@ fn put_known(
 ) -> Option<()> {
     put(told, ">known ", epoch_and_view(alloc, floor)?.as_str())?;
     told.push(' ').ok()?;
-    told.push_str(epoch_and_view(alloc, finalization)?.as_str()).ok()
+    told.push_str(epoch_and_view(alloc, finalization)?.as_str())
+        .ok()
 }
 
 /// The floor that a probe knows, and the finalization of the block whose info it knows.
