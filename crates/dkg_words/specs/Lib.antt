@@ -14,5 +14,3 @@ pub mod Shown
 pub mod Stages
 pub mod Told
 pub mod Unsupported
-pub mod Turns
-pub mod Unbuilt
