@@ -76,11 +76,7 @@ fn dealings_there<X: SecretStore>(
 }
 
 /// Which of the filled store's keys are there: shares 0, 1, 2, seeds 0, 1, 3, private halves (0, 5), (0, 7), (1, 3), (3, 1).
-fn there<X: SecretStore>(
-    alloc: Global,
-    secrets: &mut X,
-    list: &mut String,
-) -> Result<(), Fail> {
+fn there<X: SecretStore>(alloc: Global, secrets: &mut X, list: &mut String) -> Result<(), Fail> {
     shares_there(alloc, secrets, list)?;
     seeds_there(alloc, secrets, list)?;
     dealings_there(alloc, secrets, list)
