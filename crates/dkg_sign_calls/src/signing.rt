@@ -135,15 +135,7 @@ fn signed(alloc: Global) -> Result<Signature, Fail> {
     let info = material(alloc, Some(8))?;
     let mut partials = partials_of_others(alloc)?;
     let mut disk = SureDisk::new(alloc);
-    register_sign_and_combine(
-        alloc,
-        &mut disk,
-        ME,
-        Epoch(7),
-        info,
-        MESSAGE,
-        &mut partials,
-    )
+    register_sign_and_combine(alloc, &mut disk, ME, Epoch(7), info, MESSAGE, &mut partials)
 }
 
 #[test]
