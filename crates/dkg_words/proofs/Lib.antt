@@ -1,4 +1,5 @@
 pub mod Joined
+pub mod Numbered
 pub mod Over
 pub mod Parts
 pub mod Some
