@@ -4,6 +4,12 @@ use Rattle.dkg_words.specs.Message.{fault_words}
 use Rattle.dkg_words.proofs.Numbered.{around_same, around_two_same}
 use Rattle.dkg_words.proofs.message.put_message.Goals as goal
 
+pub returns-in-DetachedBlock : goal.returns-in-DetachedBlock
+returns-in-DetachedBlock c =
+    around_same c.put_around.result c.put_around.new.out.items c.args.out.now.items (codes "the block at height ") (codes " has another parent than the tip")
+    c.height-in-DetachedBlock.inside.0 c.in-DetachedBlock.height (fault_words c.args.fault.now) c.height-in-DetachedBlock.view_is (ap fault_words c.in-DetachedBlock.is)
+    c.put_around.ensures
+
 pub returns-in-SkippedHeight : goal.returns-in-SkippedHeight
 returns-in-SkippedHeight c =
     around_two_same c.put_around_two.result c.put_around_two.new.out.items c.args.out.now.items (codes "a block at height ") (codes ", where height ") (codes " is awaited")
