@@ -41,11 +41,19 @@ fn finalized(alloc: Global, parent: Digest, height: u64) -> Result<Message<Unit>
     Ok(Message::Finalized(bare(alloc, parent, height)?))
 }
 
-/// The height of the block that doesn't fit, by which a step ended.
-fn detached(ended: Result<(), Stop>) -> Result<u64, Fail> {
+/// The height of a block that doesn't fit, where one ended a step.
+fn detached(ended: &Result<(), Stop>) -> Option<u64> {
     match ended {
-        Err(Stop::Fault(Fault::DetachedBlock { height })) => Ok(height.0),
-        _ => Err(Fail::from("a detached block is taken")),
+        Err(Stop::Fault(Fault::DetachedBlock { height })) => Some(height.0),
+        _ => None,
+    }
+}
+
+/// That height. Fails where a step ended otherwise.
+fn detached_height(ended: Result<(), Stop>) -> Result<u64, Fail> {
+    match detached(&ended) {
+        Some(height) => Ok(height),
+        None => Err(Fail::from("a detached block is taken")),
     }
 }
 
@@ -141,7 +149,7 @@ fn taken<
     went(ended, "not taken")?;
     let apart = finalized(alloc, parent, 2)?;
     let ended = step(alloc, actor, devices, source, apart, fence, out);
-    let height = detached(ended)?;
+    let height = detached_height(ended)?;
     let late = dealing(alloc)?;
     let ended = step(alloc, actor, devices, source, late, fence, out);
     refused(ended)?;
