@@ -99,7 +99,7 @@ fn head_of(line: &[u8]) -> Option<Head<'_>>
 pub fn case_of(bytes: &[u8]) -> Option<(Case<'_>, &[u8])>
     ensures { MatchOption result (IfSome (case_at bytes.now) (λ made. ¬ IsUtf8 made.name))
         (λ made. case_at bytes.now
-            ≡ Some (case_made made.0.name.now made.0.status made.0.script.now made.0.transcript.now made.1.now)) }
+        ≡ Some (case_made made.0.name.now made.0.status made.0.script.now made.0.transcript.now made.1.now)) }
 {
     let (line, rest) = cut(bytes, b'\n')?;
     let head = head_of(line)?;
