@@ -17,6 +17,9 @@ fn scripts_with_addresses_are_not_run(rt: HostRuntime) -> Result<(), Fail> {
     assert_eq!(rt; refused(alloc, none.as_str()), Some(ReadError::Unsupported));
     // An info without a directory is none then.
     let some = script(alloc, "")?;
-    assert_eq!(rt; refused(alloc, some.as_str()), Some(ReadError::Bad { place: 45 }));
+    assert_eq!(rt;
+        refused(alloc, some.as_str()),
+        Some(ReadError::Bad { place: 45 })
+    );
     Ok(())
 }
