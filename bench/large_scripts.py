@@ -12,7 +12,7 @@ sys.path.insert(0, os.path.dirname(os.path.abspath(__file__)))
 import whole_scripts
 
 FIELD = 65_521
-FEW = (1, 2, 3, 4)
+FOUR = (1, 2, 3, 4)
 ME = 1
 SEVEN = (1, 2, 3, 4, 5, 6, 7)
 
@@ -57,7 +57,7 @@ def info_of(dealers, players, polynomial, epoch=0, outcome=0):
 
 def info(dealers):
     """The same for few players, by the polynomial 5 + x."""
-    return info_of(dealers, FEW, [5, 1] + [0] * (quorum(len(dealers)) - 2))
+    return info_of(dealers, FOUR, [5, 1] + [0] * (quorum(len(dealers)) - 2))
 
 
 def dealing(point, salt, wrong):
@@ -88,11 +88,11 @@ def life(events):
 
 
 def repeats(size):
-    return text(header(FEW, 8) + life([f"peer 2 {dealing(2, 1, 0)}"] * size))
+    return text(header(FOUR, 8) + life([f"peer 2 {dealing(2, 1, 0)}"] * size))
 
 
 def refusals(size):
-    return text(header(FEW, 8) + life([f"peer 2 {dealing(2, i, 1)}" for i in range(size)]))
+    return text(header(FOUR, 8) + life([f"peer 2 {dealing(2, i, 1)}" for i in range(size)]))
 
 
 def dealers(size):
@@ -108,7 +108,7 @@ def restarts(size):
 
 def early_blocks(size):
     """So many blocks after block 0, each with the one before as its parent, all below the midpoint."""
-    return header(FEW, 2 * size + 4) + [f"block {i} {i - 1} 0 -" for i in range(1, size + 1)]
+    return header(FOUR, 2 * size + 4) + [f"block {i} {i - 1} 0 -" for i in range(1, size + 1)]
 
 
 def blocks(size):
@@ -172,20 +172,20 @@ def following_life(epoch, peers):
 
 
 def lives(size):
-    return epochs(size, len(FEW), early_life)
+    return epochs(size, len(FOUR), early_life)
 
 
 def quiet(size):
-    return epochs(size, len(FEW), lambda epoch, _: early_life(epoch, []))
+    return epochs(size, len(FOUR), lambda epoch, _: early_life(epoch, []))
 
 
 def failures(size):
     """The same of ceremonies that failed, so that each life seeks a share of an epoch below, and finds none."""
-    return epochs(size, len(FEW), lambda epoch, _: early_life(epoch, []), 1)
+    return epochs(size, len(FOUR), lambda epoch, _: early_life(epoch, []), 1)
 
 
 def follows(size):
-    return epochs(size, len(FEW), following_life)
+    return epochs(size, len(FOUR), following_life)
 
 
 def members(size):
@@ -210,7 +210,7 @@ def offers(size):
 def waiting(size):
     """So many requests that wait while the node deals, each of which is fed one block."""
     events = [*(f"info {i}" for i in range(size)), *(f"feed {i} 6" for i in range(size)), *(f"final {i}" for i in range(5))]
-    return text(header(FEW, 8) + [f"block {i} {i - 1} 0 -" for i in range(1, 8)] + life(events))
+    return text(header(FOUR, 8) + [f"block {i} {i - 1} 0 -" for i in range(1, 8)] + life(events))
 
 
 # Its name, how a script of a size is made, the least of the four sizes, and the exponent of growth that is still well.
