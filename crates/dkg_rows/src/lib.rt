@@ -6,7 +6,11 @@
 #[cfg(test)]
 mod devices;
 #[cfg(test)]
+mod failing;
+#[cfg(test)]
 mod lives;
+#[cfg(test)]
+mod pieces;
 #[cfg(test)]
 mod runs;
 #[cfg(test)]

@@ -69,7 +69,7 @@ fn failing_sink(alloc: Global, call: u64) -> Result<MemorySink, Fail> {
 }
 
 /// Fails where the words of a row don't end as it says.
-fn ends_as(alloc: Global, script: &str, row: (&str, u64, u64, u8, &str)) -> Result<(), Fail> {
+pub fn ends_as(alloc: Global, script: &str, row: (&str, u64, u64, u8, &str)) -> Result<(), Fail> {
     let (words, read, write, status, lines) = row;
     let mut source = failing_source(alloc, script, read)?;
     let mut sink = failing_sink(alloc, write)?;

@@ -7,10 +7,10 @@ use std::test::Fail;
 pub const HEAD: &str = "dkg 1\nme 1\nblocks 8\nlimit 4\nmode 0 0\nspace -\n";
 
 /// The polynomial of epoch 0's output, 5 + x + 2x².
-const POLYNOMIAL: &str = "03000500010002";
+pub const POLYNOMIAL: &str = "03000500010002";
 
 /// The keys 1 to 4, which share it.
-const KEYS: &str = "0400000001000000020000000300000004";
+pub const KEYS: &str = "0400000001000000020000000300000004";
 
 /// Key 2's dealing to key 1: 15 + 7x + x², whose value at key 1's point is 23.
 pub const DEALING: &str = "peer 2 0003000f000700010017\n";
