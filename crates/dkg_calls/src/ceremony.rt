@@ -111,54 +111,76 @@ pub(crate) fn followed_round(alloc: Global) -> Result<Round, Fail> {
     worked_round(alloc, Some(&previous))
 }
 
+/// A dealer's number, its public half, its private half to key 1, and what the check answers.
+const CHECKED: [(u32, &[u8], u16, Option<DealingError>); 6] = [
+    (2, &[3, 0, 15, 0, 7, 0, 1], 23, None),
+    (
+        2,
+        &[3, 0, 15, 0, 7, 0, 1],
+        45,
+        Some(DealingError::InvalidDealerShare),
+    ),
+    (
+        9,
+        &[2, 0, 15, 0, 7],
+        22,
+        Some(DealingError::UnexpectedDealer),
+    ),
+    (
+        2,
+        &[2, 0, 16, 0, 7],
+        22,
+        Some(DealingError::InvalidCommitmentDegree),
+    ),
+    (
+        2,
+        &[3, 0, 16, 0, 7, 0, 1],
+        24,
+        Some(DealingError::MismatchedReshareCommitment),
+    ),
+    (
+        2,
+        &[3, 0, 16, 0, 7, 0, 1],
+        23,
+        Some(DealingError::MismatchedReshareCommitment),
+    ),
+];
+
+/// What the check in a round answers to a dealing.
 fn dealing_fault(
     alloc: Global,
+    round: &Round,
     dealer: u32,
     bytes: &[u8],
     value: u16,
 ) -> Result<Option<DealingError>, Fail> {
-    let round = followed_round(alloc)?;
     let public = public(alloc, bytes)?;
-    Ok(check(&StandCeremony, &round, dealer, &public, value))
+    Ok(check(&StandCeremony, round, dealer, &public, value))
 }
 
 #[test]
 fn dealings_are_checked(rt: HostRuntime) -> Result<(), Fail> {
-    let rows: [(u32, &[u8], u16, Option<DealingError>); 6] = [
-        (2, &[3, 0, 15, 0, 7, 0, 1], 23, None),
-        (
-            2,
-            &[3, 0, 15, 0, 7, 0, 1],
-            45,
-            Some(DealingError::InvalidDealerShare),
-        ),
-        (
-            9,
-            &[2, 0, 15, 0, 7],
-            22,
-            Some(DealingError::UnexpectedDealer),
-        ),
-        (
-            2,
-            &[2, 0, 16, 0, 7],
-            22,
-            Some(DealingError::InvalidCommitmentDegree),
-        ),
-        (
-            2,
-            &[3, 0, 16, 0, 7, 0, 1],
-            24,
-            Some(DealingError::MismatchedReshareCommitment),
-        ),
-        (
-            2,
-            &[3, 0, 16, 0, 7, 0, 1],
-            23,
-            Some(DealingError::MismatchedReshareCommitment),
-        ),
-    ];
-    for (dealer, bytes, value, want) in rows {
-        let fault = dealing_fault(rt.alloc(), dealer, bytes, value)?;
+    let round = followed_round(rt.alloc())?;
+    for (dealer, bytes, value, want) in CHECKED {
+        let fault = dealing_fault(rt.alloc(), &round, dealer, bytes, value)?;
+        is_at(&rt, fault, want, (value, dealer));
+    }
+    Ok(())
+}
+
+/// Notes so many checks that a round knows the values at all dealers' points.
+fn note_many(alloc: Global, round: &mut Round) {
+    for _ in 0..1_000 {
+        round.note_check(alloc);
+    }
+}
+
+#[test]
+fn dealings_are_checked_behind_many_others(rt: HostRuntime) -> Result<(), Fail> {
+    let mut round = followed_round(rt.alloc())?;
+    note_many(rt.alloc(), &mut round);
+    for (dealer, bytes, value, want) in CHECKED {
+        let fault = dealing_fault(rt.alloc(), &round, dealer, bytes, value)?;
         is_at(&rt, fault, want, (value, dealer));
     }
     Ok(())

@@ -22,7 +22,7 @@ use dkg_values::{Element, Key, Map, Mark, Mem, Set, Value};
 use std::alloc::Global;
 
 /// A polynomial of zeros.
-fn zeros(alloc: Global, count: u32) -> Mem<Vec<Element>>
+pub(crate) fn zeros(alloc: Global, count: u32) -> Mem<Vec<Element>>
     ensures { IfOk result (λ sum. sum.items ≡ replicate count 0) }
 {
     let mut sum = Vec::new(alloc);

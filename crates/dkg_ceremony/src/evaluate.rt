@@ -1,13 +1,13 @@
 //! Polynomials at the points of participants.
 //!
 //! The stand-in ceremony checks dealings with them, and a signing desk partials. A participant's point is its index, from 0, and one.
-ghost use Rattle.std.specs.Prelude.{◌≡◌, ℕ, ◌+◌, ◌<◌, ◌≤◌, ◌^◌, drop, length, slice_index};
-ghost use Rattle.dkg_ceremony.specs.Polynomials.{eight_powers, value_at};
+ghost use Rattle.std.specs.Prelude.{◌≡◌, ℕ, ◌+◌, ◌<◌, ◌≤◌, ◌^◌, List, drop, length, slice_index};
+ghost use Rattle.dkg_ceremony.specs.Polynomials.{AreValues, eight_powers, value_at};
 ghost use Rattle.dkg_ceremony.specs.Dealings.{fits_at, reshares};
 ghost use Rattle.dkg_values.specs.Rising.{index_of};
 
-use crate::output::Output;
 use crate::public::Public;
+use crate::round::Round;
 use dkg_values::{Element, Key, Set};
 
 /// The powers of a point, from the first to the eighth, modulo 65,521.
@@ -60,13 +60,12 @@ fn eight_more(elements: &[Element], i: usize, powers: &[u64; 8], value: u64) -> 
     (front + powers[7] * value) % 65521
 }
 
-/// A polynomial's value, modulo 65,521, at the point of an index, from 0, among participants.
+/// The value of a polynomial with these coefficients, modulo 65,521, at the point of an index, from 0, among participants.
 #[tactic(auto, using(crate::specs::PolynomialLaws::value_end))]
-pub fn value_of(poly: &Public, index: u32) -> u32
-    ensures value { result ≡ value_at poly.now (index + 1) }
+pub(crate) fn value_among(elements: &[Element], index: u32) -> u32
+    ensures value { result ≡ value_at elements.now (index + 1) }
     ensures below { result < 65521 }
 {
-    let elements = poly.as_slice();
     let point = u64::from(index) + 1;
     let mut value = 0u64;
     let mut i = elements.len();
@@ -84,6 +83,14 @@ pub fn value_of(poly: &Public, index: u32) -> u32
     value as u32
 }
 
+/// A polynomial's value, modulo 65,521, at the point of an index, from 0, among participants.
+pub fn value_of(poly: &Public, index: u32) -> u32
+    ensures value { result ≡ value_at poly.now (index + 1) }
+    ensures below { result < 65521 }
+{
+    value_among(poly.as_slice(), index)
+}
+
 /// Whether a value is the polynomial's at the point of one of the keys.
 pub(crate) fn fits(keys: &Set, key: Key, poly: &Public, value: Element) -> bool
     ensures { result ≡ fits_at (index_of key keys.now) poly.now value }
@@ -94,15 +101,29 @@ pub(crate) fn fits(keys: &Set, key: Key, poly: &Public, value: Element) -> bool
     }
 }
 
-/// Whether a dealer deals again what it holds of the previous output.
-pub(crate) fn is_reshare(previous: &Option<Output>, dealer: Key, public: &Public) -> bool
-    ensures { result ≡ reshares previous.now dealer public.now }
+/// The same, where the values at the points of all of the keys are known.
+fn fits_known(keys: &Set, key: Key, values: &[Element], value: Element) -> bool
+    requires { length values.now ≡ length keys.now }
+    ensures { (poly : List ℕ) → AreValues values.now poly (length keys.now) → result ≡ fits_at (index_of key keys.now) poly value }
 {
-    match previous {
+    match keys.position(key) {
+        None => false,
+        Some(index) => value == values[index as usize],
+    }
+}
+
+/// Whether a dealer deals again what it holds of the previous output.
+pub(crate) fn is_reshare(round: &Round, dealer: Key, public: &Public) -> bool
+    ensures { result ≡ reshares round.now.previous dealer public.now }
+{
+    match &round.parts().previous {
         None => true,
         Some(output) => match public.as_slice() {
             [] => false,
-            [first, ..] => fits(&output.players, dealer, &output.sharing.poly, *first),
+            [first, ..] => match round.held() {
+                Some(values) => fits_known(&output.players, dealer, values, *first),
+                None => fits(&output.players, dealer, &output.sharing.poly, *first),
+            },
         },
     }
 }

@@ -15,6 +15,7 @@ mod limits;
 mod log_entries;
 mod log_entry;
 mod log_mark;
+mod many;
 mod mode;
 mod output;
 mod phase;

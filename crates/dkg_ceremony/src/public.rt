@@ -110,7 +110,7 @@ impl Short {
 
     fn as_slice(&self) -> &[Element]
         ensures items { result.now ≡ self.now }
-        ensures few { length result.now ≤ 6 }
+        ensures bound { length result.now ≤ 6 }
     {
         let (elements, _zeros) = self.elements.split_at(self.count as usize);
         elements

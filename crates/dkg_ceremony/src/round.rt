@@ -1,27 +1,33 @@
 //! What one round of a ceremony is about, and its bytes, which marks bind.
 //!
 //! A ceremony draws up a round, and each of its other calls takes one. The bytes are written once, when it is drawn up.
-ghost use Rattle.std.specs.Prelude.{◌≡◌, ◌∷◌, [], ◌+◌, ◌++◌, ◌^◌, ◌≤◌, ◌↔◌, IfOk, OnOk, IsTrue};
+ghost use Rattle.std.specs.Prelude.{◌≡◌, ◌∷◌, [], ◌+◌, ◌++◌, ◌^◌, ◌≤◌, ◌↔◌, IfOk, IfSome, OnOk, IsTrue, length};
 ghost use Rattle.std.specs.Int.{w32, to_be_bytes};
 ghost use Rattle.std.specs.Option.{option_copied};
 ghost use Rattle.sha2.specs.Hashers.{Holds256};
 ghost use Rattle.dkg_ceremony.specs.declared.sign.Domain.TheVariants as domains;
 ghost use Rattle.dkg_ceremony.specs.Marks.{domain_byte, mark_of as mark_from};
+ghost use Rattle.dkg_ceremony.specs.Polynomials.{AreValues};
 ghost use Rattle.dkg_ceremony.specs.Rounds.{round_bytes, previous_bytes};
 ghost use Rattle.dkg_ceremony.specs.declared.round.RoundError.TheVariants.{NoMemory as NoMemoryLeft};
 
+use crate::many::values_of;
 use crate::mode::{Mode, Reveal, byte_of_mode, byte_of_reveal};
 use crate::output::Output;
 use crate::sign::{Domain, hash_behind, mark_behind};
 use bytes::{BufMut, BytesMut};
 use dkg_values::{
-    Blob, EncodeSize, Key, Mark, Mem, NoMemory, Set, Value, Write, uint_size, write_uint,
+    Blob, Element, EncodeSize, Key, Mark, Mem, NoMemory, Set, Value, Write, uint_size, write_uint,
 };
 use sha2::Sha256;
 use std::alloc::{AllocError, AllocFailed, Global};
 use std::marker::Model;
 use std::sync::Arc;
 use thiserror::Error;
+
+/// From how many checks on the values at all points are worth their making, which takes as long as about so many: for a polynomial with coefficients for
+/// two thirds of the players, the remainders as long as 700, and the values 350. So the checks take no more than about twice the time that they need.
+const MANY_CHECKS: u32 = 1_000;
 
 /// Who deals to whom, after which output, under which name and number.
 #[derive(Drop)]
@@ -68,16 +74,21 @@ impl Model for Drawn {
 pub struct Round {
     drawn: Arc<Drawn, Global>,
     begun: Option<Begun>,
+    /// How many checks of dealings were noted.
+    checks: u32,
+    /// The values of the previous output's polynomial at the points of its players, once so many checks were noted.
+    held: Option<Vec<Element>>,
 }
 
 impl Model for Round {
-    ghost use Rattle.std.specs.Prelude.{◌∷◌, [], ◌++◌, IfSome};
+    ghost use Rattle.std.specs.Prelude.{◌∷◌, [], ◌++◌, IfSome, length};
     ghost use Rattle.std.specs.Arc.{arc_value};
     ghost use Rattle.std.specs.Int.{w32, to_be_bytes};
     ghost use Rattle.sha2.specs.Hashers.{Holds256};
     ghost use Rattle.dkg_ceremony.specs.declared.round.RoundParts.{RoundParts};
     ghost use Rattle.dkg_ceremony.specs.declared.sign.Domain.TheVariants as domains;
     ghost use Rattle.dkg_ceremony.specs.Marks.{domain_byte};
+    ghost use Rattle.dkg_ceremony.specs.Polynomials.{AreValues};
     ghost use Rattle.dkg_ceremony.specs.Rounds.{round_bytes};
 
     ghost Value = { RoundParts };
@@ -85,7 +96,8 @@ impl Model for Round {
     ghost view = { λ r. arc_value r.drawn };
 
     ghost invariant = { λ r. IfSome r.begun
-        (λ b. Holds256 b.hash (to_be_bytes w32 b.player ++ domain_byte domains.Ack ∷ [] ++ round_bytes (arc_value r.drawn))) };
+        (λ b. Holds256 b.hash (to_be_bytes w32 b.player ++ domain_byte domains.Ack ∷ [] ++ round_bytes (arc_value r.drawn)))
+        × IfSome r.held (λ values. IfSome (arc_value r.drawn).previous (λ o. AreValues values.items o.sharing.poly (length o.players))) };
 }
 
 /// Why no round is drawn up; of several, the first.
@@ -178,6 +190,8 @@ impl Value for Round {
         Ok(Round {
             drawn: Arc::try_clone(&self.drawn)?,
             begun: None,
+            checks: 0,
+            held: None,
         })
     }
 
@@ -246,6 +260,8 @@ impl Round {
         Ok(Round {
             drawn: Arc::new(alloc, Drawn { parts, bytes })?,
             begun: None,
+            checks: 0,
+            held: None,
         })
     }
 
@@ -278,6 +294,36 @@ impl Round {
         if !self.has_begun(player) {
             let hash = self.hash_of(player, Domain::Ack);
             self.begun = Some(Begun { player, hash });
+        }
+    }
+
+    /// Notes that a dealing was checked. From so many checks on the values at all dealers' points are known, and a check looks at one of them.
+    ///
+    /// Where memory is short it goes without.
+    pub fn note_check(&mut self, alloc: Global)
+        ensures { self.new ≡ self.old }
+    {
+        self.checks = self.checks.saturating_add(1);
+        if self.checks == MANY_CHECKS {
+            self.held = self.values(alloc);
+        }
+    }
+
+    /// The values of the previous output's polynomial at the points of its players.
+    fn values(&self, alloc: Global) -> Option<Vec<Element>>
+        ensures { IfSome result (λ values. IfSome self.now.previous (λ o. AreValues values.items o.sharing.poly (length o.players))) }
+    {
+        let output = self.parts().previous.as_ref()?;
+        values_of(alloc, &output.sharing.poly, output.players.len()).ok()
+    }
+
+    /// What each player of the previous output holds in public, where that is known.
+    pub(crate) fn held(&self) -> Option<&[Element]>
+        ensures { IfSome result (λ values. IfSome self.now.previous (λ o. AreValues values.now o.sharing.poly (length o.players))) }
+    {
+        match &self.held {
+            Some(values) => Some(values),
+            None => None,
         }
     }
 

@@ -180,7 +180,7 @@ impl Ceremony for StandCeremony {
         if public.as_slice().len() != quorum(round.parts().players.len()) as usize {
             return Err(DealingError::InvalidCommitmentDegree);
         }
-        if !is_reshare(&round.parts().previous, dealer, public) {
+        if !is_reshare(round, dealer, public) {
             return Err(DealingError::MismatchedReshareCommitment);
         }
         if !fits(&round.parts().players, me, public, private.0) {

@@ -77,7 +77,7 @@ pub(crate) fn is_valid_log(alloc: Global, round: &Round, dealer: Key, log: &Deal
     let players = round.parts().players.len();
     let entries = log.entries.as_slice();
     if log.public.as_slice().len() != quorum(players) as usize
-        || !is_reshare(&round.parts().previous, dealer, &log.public)
+        || !is_reshare(round, dealer, &log.public)
         || entries.len() != players as usize
         || revealed(entries) > max_faults(players) as usize
     {

@@ -1,4 +1,4 @@
--- What a step does, in its order: lines that it says, operations on the devices, calls of what is outside of the node, and how it ends.
+-- What a step does, in its order: entries that it says, operations on the devices, calls of what is outside of the node, and how it ends.
 use Rattle.std.specs.Prelude.{ℕ, List, [], ◌∷◌, Option, Some, None}
 use Rattle.dkg_infos.specs.declared.entry.Entry.{Entry}
 use Rattle.dkg_types.specs.declared.finalization.Finalization.{Finalization}

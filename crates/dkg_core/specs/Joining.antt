@@ -10,7 +10,7 @@ use Rattle.dkg_store.specs.Acts.{Held, World, by_want}
 use Rattle.dkg_core.specs.Courses.{Course, Say, CallOutside, Goes, Stops, EndsSo, Tracks, Activates, Deed, CalledOutside, deeds_of}
 use Rattle.dkg_core.specs.Transcripts.{with_out}
 
--- A line said is a line said, and peers that are tracked are the call by which the checkpoint is activated, with its directory. Ends and faults are
+-- An entry said is an entry said, and peers that are tracked are the call by which the checkpoint is activated, with its directory. Ends and faults are
 -- those that the node names so.
 abbrev pub joined_course : {Dir F G S T : Type 0} → (directory : Dir) → (F → G) → (S → T) → ProbeActs F S → Course Dir G T
 joined_course directory fault end (of_probe.Say line acts) = Say line (joined_course directory fault end acts)
@@ -31,7 +31,7 @@ tracked_by (CalledOutside (Activates epoch peers directory) ∷ deeds) sets = tr
 tracked_by (CalledOutside (Tracks epoch peers directory) ∷ deeds) sets = tracked_by deeds (with_set sets epoch peers)
 tracked_by (deed ∷ deeds) sets = tracked_by deeds sets
 
--- WHATEVER RUNS AS A PROBE'S ACTS runs as the joined course: over any devices, which it leaves as they were with the fuse, and with the same lines.
+-- WHATEVER RUNS AS A PROBE'S ACTS runs as the joined course: over any devices, which it leaves as they were with the fuse, and with the same entries.
 abbrev pub ProbesJoin : (Dir F G S T : Type 0) → Type 0
 ProbesJoin Dir F G S T = (directory : Dir) (fault : F → G) (end : S → T) (acts : ProbeActs F S) (ended : of_probe.ProbeEnded F S) (w : World) (new : List Entry)
     → ProbeRuns acts ended w.out new → EndsSo (joined_course directory fault end acts) (probe_ended_as fault end ended) w (with_out new w)

@@ -1,4 +1,4 @@
--- Laws of steps: what holds of each line, each operation and the end of acts, whatever the devices hold.
+-- Laws of steps: what holds of each entry, each operation and the end of acts, whatever the devices hold.
 use Rattle.std.specs.Prelude.{true, ℕ, List, [], ◌∷◌, ◌++◌, IsSome, ◌-◌, ◌+◌, ◌≤◌, ◌≡◌, ◌⊎◌, Option, Some, None, Ok}
 use Rattle.std.specs.Option.{option_map_or}
 use Rattle.dkg_types.specs.Blocks.{Block}
@@ -25,7 +25,7 @@ use Rattle.dkg_core.specs.Live.{Live, Dealer, Plays, Deals, Message, Mailed, Pee
 use Rattle.dkg_core.specs.Core.{opening, step}
 use Rattle.dkg_core.specs.Setup.{setup}
 
--- A law: what it says of a line, of an operation and of an end, each behind what was said, done and called before it (the newest first).
+-- A law: what it says of an entry, of an operation and of an end, each behind what was said, done and called before it (the newest first).
 pub record Law (Dir S : Type 0) : Type 1 where
   pub line : List (Deed Dir) → Entry → Type 0
   pub operation : List (Deed Dir) → Operation → Type 0
@@ -40,7 +40,7 @@ Holds law past (Ask f) = (h : Held) → Holds law past (f h)
 Holds law past (Goes end) = law.end past end
 Holds law past (Stops fault) = Unit {0}
 
--- What each line and each operation that keeps the law leaves as it was: whether the operation is done, or torn by some cause.
+-- What each entry and each operation that keeps the law leaves as it was: whether the operation is done, or torn by some cause.
 pub record LawKeeps {Dir S : Type 0} (law : Law Dir S) (P : World → Type 0) : Type 0 where
   pub said : (past : List (Deed Dir)) (w : World) (line : Entry) → law.line past line → P w → P (says w line)
   pub done : (past : List (Deed Dir)) (w : World) (op : Operation) → law.operation past op → P w → P (does w op)
@@ -59,7 +59,7 @@ PrunesAtMost most past (Changes (PutShare epoch share)) = Unit {0}
 PrunesAtMost most past (Changes (PutSeed epoch seed)) = Unit {0}
 PrunesAtMost most past op = ⊥
 
--- a line of the node's own: not those by which a life is opened, a step is counted or cut, and a fault is told
+-- an entry of the node's own: not one by which a life is opened, a step is counted or cut, or a fault is told
 abbrev pub IsQuiet : Entry → Type 0
 IsQuiet (Opened life restored) = ⊥
 IsQuiet (Cut step call) = ⊥
@@ -92,7 +92,7 @@ OpeningOperation most past (OnDisk (PutsPlan bytes)) = Unit {0}
 OpeningOperation most past (OnDisk ClearsPlan) = Unit {0}
 OpeningOperation most past op = PrunesAtMost most past op
 
--- the line with what was restored, as the first thing behind the barrier and the journal's opening
+-- the entry with what was restored, as the first thing behind the barrier and the journal's opening
 abbrev pub OpeningEntry : {Dir : Type 0} → Fixed Dir → List (Deed Dir) → Entry → Type 0
 OpeningEntry c past (Opened life restored) = (life ≡ c.life) × (past ≡ DidOperation (OnDisk (Opens c.opening_calls)) ∷ DidOperation (OnDisk Bars) ∷ [])
 OpeningEntry c past line = IsSilent past line

@@ -1,4 +1,4 @@
--- The lines that acts say, whatever the devices tell.
+-- The entries that acts say, whatever the devices tell.
 use Rattle.std.specs.Prelude.{◌≡◌, ◌⊎◌, ◌++◌, ◌∷◌, [], List}
 use Rattle.dkg_infos.specs.declared.entry.Entry.{Entry}
 use Rattle.dkg_store.specs.Acts.{Acts, Say, Do, Ask, Goes, Stops, Ended, went, stopped, broken, Held, World, Runs}
@@ -38,6 +38,6 @@ pub record Said {F S : Type 0} (acts : Acts F S) (ended : Ended F S) (old new : 
   pub added : new ≡ old ++ lines
   pub by : SaysBy acts ended lines
 
--- A RUN SAYS the lines of its acts.
+-- A RUN SAYS the entries of its acts.
 abbrev pub RunsSay : Type 0 → Type 0 → Type 0
 RunsSay F S = (acts : Acts F S) (ended : Ended F S) (w new : World) → Runs acts ended w new → Said acts ended w.out new.out

@@ -148,7 +148,7 @@ fn filled_by(alloc: Global, logs: Map<DealerLog>, others: &Map<DealerLog>) -> Me
     Map::from_any(alloc, pairs)
 }
 
-/// Answers a request by the logs that were found for it: from the cache, from the kept result, or by a new verification (`asks_for`).
+/// Answers a request by the logs that were found for it: from the cache, from the kept result, or by a new verification (`asks_for_by`).
 fn ask_for<
     C: Ceremony + Drop,
     P: ParticipantsProvider<Dir = Dir>,

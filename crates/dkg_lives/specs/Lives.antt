@@ -110,7 +110,7 @@ pub record BeganNone (script : Script) (result : Result (Unit {0}) Fault) (Same 
   pub why : (result ≡ Err NoMemory) ⊎ ((fault : Fault) × (refused_config script ≡ Some fault) × (result ≡ Err fault))
   pub same : Same
 
--- the line of the fault that ended the lives, which want of memory has not
+-- the entry of the fault that ended the lives, which want of memory has not
 abbrev pub TellsEnd : {W : Type 0} → Way W → (its answered : Result (Unit {0}) Fault) → W → W → Type 0
 TellsEnd way (Ok done) answered mid new = (answered ≡ Ok tt) × (new ≡ mid)
 TellsEnd way (Err fault) answered mid new =

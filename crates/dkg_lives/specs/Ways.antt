@@ -1,4 +1,4 @@
--- Ways in which a course may have gone: over all that the devices hold, and over the lines alone.
+-- Ways in which a course may have gone: over all that the devices hold, and over the entries alone.
 use Rattle.std.specs.Prelude.{ℕ, ◌<◌, ◌≡◌, ◌++◌, ◌∷◌, [], List, None}
 use Rattle.dkg_journal.specs.Burn.{Burn}
 use Rattle.dkg_journal.specs.Names.{Files}
@@ -15,8 +15,8 @@ use Rattle.dkg_life.specs.Planless.{seen_planless}
 use Rattle.dkg_life.specs.declared.stop.Stop.{Stop}
 use Rattle.dkg_lives.specs.Ended.{by_node_stop}
 
--- A WAY: how a course may have gone with a fuse, how a line is added, how both devices stop with a pick, what the reads of a life may give, which files a life
--- begins with, and how an opening goes whose journal isn't in its grammar.
+-- A WAY: how a course may have gone with a fuse, how an entry is added, how both devices stop with a pick, what the reads of a life may give,
+-- which files a life begins with, and how an opening goes whose journal isn't in its grammar.
 pub record Way (W : Type 0) : Type 1 where
   pub goes : Course directory.Unit NodeStop (Live directory.Unit) → Ended NodeStop (Live directory.Unit) → Burn → W → W → Type 0
   pub says : W → Entry → W
@@ -61,7 +61,7 @@ pub record Trace : Type 0 where
 abbrev pub trace : List Entry → (picks : List ℕ) → Trace
 trace out picks = record { out = out; picks = picks }
 
--- over lines alone, of any devices: a cut is the fuse's
+-- over entries alone, of any devices: a cut is the fuse's
 abbrev pub by_entries : Way Trace
 by_entries = record {
   goes = λ course ended f t now. Said (on_devices course) ended t.out now.out × (now.picks ≡ t.picks) × (ended ≡ broken by_cut → 0 < f.call);

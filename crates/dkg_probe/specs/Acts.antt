@@ -1,4 +1,4 @@
--- What a step does, as acts in their order: lines that it says, peers that it has tracked, and how it ends. A probe has no devices, so there are no
+-- What a step does, as acts in their order: entries that it says, peers that it has tracked, and how it ends. A probe has no devices, so there are no
 -- acts on them; and it has a manager, so there is one for that.
 use Rattle.std.specs.Prelude.{◌≡◌, ◌⊎◌, ℕ, ◌<◌, [], ◌∷◌, ◌++◌, length, take, List, Option, Result, Ok, Err}
 use Rattle.dkg_infos.specs.declared.entry.Entry.{Entry}
@@ -20,7 +20,7 @@ probe_bind (Track epoch peers acts) next = Track epoch peers (probe_bind acts ne
 probe_bind (Goes end) next = next end
 probe_bind (Stops fault) next = Stops fault
 
--- these lines, and then the acts
+-- these entries, and then the acts
 abbrev pub says_all : {F S : Type 0} → List Entry → ProbeActs F S → ProbeActs F S
 says_all [] acts = acts
 says_all (line ∷ lines) acts = Say line (says_all lines acts)
@@ -46,14 +46,14 @@ ProbeSpeaks (Track epoch peers acts) = ProbeSpeaks acts
 ProbeSpeaks (Goes end) = ⊥
 ProbeSpeaks (Stops fault) = ⊥
 
--- The first of them were run. The last line is said by nobody who doesn't go through.
+-- The first of them were run. The last entry is said by nobody who doesn't go through.
 abbrev pub ProbeBreaks : {F S : Type 0} → ProbeActs F S → List Entry → List Entry → Type 0
 ProbeBreaks (Say line acts) out new = (new ≡ out) ⊎ (ProbeSpeaks acts × ProbeBreaks acts (out ++ line ∷ []) new)
 ProbeBreaks (Track epoch peers acts) out new = ProbeBreaks acts out new
 ProbeBreaks (Goes end) out new = new ≡ out
 ProbeBreaks (Stops fault) out new = new ≡ out
 
--- the first lines were said, but for the last ones
+-- the first entries were said, but for the last ones
 abbrev pub IsFront : List Entry → List Entry → List Entry → Type 0
 IsFront lines out new = (count : ℕ) × (count < length lines) × (new ≡ out ++ take count lines)
 
@@ -80,7 +80,7 @@ abbrev pub ManagerTracks : {F S E : Type 0} → ProbeActs F S → Result (Unit {
 ManagerTracks acts (Ok u) old new = (n : ℕ) → new n ≡ tracked_after acts old n
 ManagerTracks acts (Err e) old new = ((n : ℕ) → new n ≡ old n) ⊎ ((n : ℕ) → new n ≡ tracked_after acts old n)
 
--- P of each line that is said and of the acts behind it, and Q where peers are tracked
+-- P of each entry that is said and of the acts behind it, and Q where peers are tracked
 abbrev pub Each : {F S : Type 0} → (Entry → ProbeActs F S → Type 0) → (Q : Type 0) → ProbeActs F S → Type 0
 Each P Q (Say line acts) = P line acts × Each P Q acts
 Each P Q (Track epoch peers acts) = Q × Each P Q acts

@@ -17,12 +17,12 @@ pub record IsOfOneEpoch {Dir : Type 0} (spelling : Dir → List ℕ) (info floor
   pub floor_is : floor ≡ finalization_spelling at
   pub same : of.epoch ≡ at.epoch
 
--- of a line that tells an artifact
+-- of an entry that tells an artifact
 abbrev pub OfOneEpoch : {Dir : Type 0} → (Dir → List ℕ) → Entry → Type 0
 OfOneEpoch spelling (Artifact info floor) = IsOfOneEpoch spelling info floor
 OfOneEpoch spelling line = Unit {0}
 
--- of a line that tells an artifact: it is the one that is known
+-- of an entry that tells an artifact: it is the one that is known
 abbrev pub TellsKnown : {Dir : Type 0} → (Dir → List ℕ) → Option (Known Dir) → Entry → Type 0
 TellsKnown spelling None (Artifact info floor) = ⊥
 TellsKnown spelling (Some known) (Artifact info floor) = (info ≡ payload_spelling spelling (info_payload known.info)) × (floor ≡ finalization_spelling known.floor)

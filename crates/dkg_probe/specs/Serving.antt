@@ -33,7 +33,7 @@ AnswersAsker c source peer asked (Sent (Some to) bytes) = (to ≡ peer) × ((r :
 AnswersAsker c source peer asked (Blocked from why.Reply) = (from ≡ peer) × ((e : CodecError) × (request_of asked ≡ Err e))
 AnswersAsker c source peer asked line = ⊥
 
--- of a line that is said at an event: there is none but at a peer's message
+-- of an entry that is said at an event: there is none but at a peer's message
 abbrev pub Serves : {Dir : Type 0} → ProbeFixed Dir → ProbeSource Dir → Event → Entry → Type 0
 Serves c source Subscribe line = ⊥
 Serves c source Unsubscribe line = ⊥

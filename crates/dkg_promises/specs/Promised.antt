@@ -23,7 +23,7 @@ use Rattle.dkg_promises.specs.Refusals.{BlamesOnlySkips}
 use Rattle.dkg_promises.specs.SharesStand.{CommitsEach, CommitsExactly, CommitsFit}
 use Rattle.dkg_lives.specs.Ways.{by_entries, trace}
 
--- THE ENTRIES are those of a node run of the script, whatever the devices tell: a step that is ended early gives a front of its lines. Each life's end
+-- THE ENTRIES are those of a node run of the script, whatever the devices tell: a step that is ended early gives a front of its entries. Each life's end
 -- stopped both devices, each with its pick. (`out` and `new` are the transcript before and behind.)
 pub record SaysRun (script : Script) (o : DevicesAround) (out : List Entry) (result : Result (Unit {0}) Fault) (new : List Entry) : Type 0 where
   pub picks : List ℕ

@@ -1,4 +1,4 @@
--- What a call does, as acts in their order: lines that it says, operations that it does on the devices, reads that it asks for, and how it ends.
+-- What a call does, as acts in their order: entries that it says, operations that it does on the devices, reads that it asks for, and how it ends.
 use Rattle.std.specs.Prelude.{◌≡◌, ◌⊎◌, ◌≤◌, ℕ, ◌∷◌, [], ◌++◌, List, Option}
 use Rattle.dkg_journal.specs.Burn.{Burn}
 use Rattle.dkg_journal.specs.Fuse.{burnt, Reached}

@@ -235,6 +235,7 @@ fn ready_answer<C: Ceremony>(
     ensures round { round.new ≡ round.old }
     ensures memory { IfErr result (λ e. e ≡ StoreError.NoMemory) }
 {
+    round.note_check(alloc);
     round.begin_acks(signer.public_key());
     let ack = ceremony.ack(alloc, signer, round, dealer, public)?;
     let told = public.copy(alloc)?;

@@ -160,25 +160,28 @@ fn listed(alloc: Global, dealings: &PairMap<(Public, Private)>) -> Mem<Vec<Resto
 
 /// The first dealer, of an epoch's recorded dealings, that the check refuses.
 fn first_refused<C: Ceremony>(
+    alloc: Global,
     ceremony: &C,
     dealings: &PairMap<(Public, Private)>,
     epoch: Epoch,
     me: Key,
     round: &Round,
-) -> Option<Key>
+) -> Mem<Option<Key>>
     requires { Contains round.now.players me }
-    ensures { result ≡ first_refused (C.dealing_of round.now me) (of_epoch epoch dealings.now) }
+    ensures { IfOk result (λ first. first ≡ first_refused (C.dealing_of round.now me) (of_epoch epoch dealings.now)) }
 {
+    let mut noting = round.copy(alloc)?;
     for ((_, dealer), (public, private)) in dealings.of_epoch(epoch.0) {
         let dealer = Key(*dealer);
         if ceremony
-            .check_dealing(round, me, dealer, public, private)
+            .check_dealing(&noting, me, dealer, public, private)
             .is_err()
         {
-            return Some(dealer);
+            return Ok(Some(dealer));
         }
+        noting.note_check(alloc);
     }
-    None
+    Ok(None)
 }
 
 /// Pairs whose keys rise, as a map.
@@ -590,7 +593,7 @@ impl<Dir: Drop> Store<Dir> {
         if has_orphan(alloc, ceremony, &self.dealings, epoch, me, round, logs)? {
             return Ok(None);
         }
-        if let Some(dealer) = first_refused(ceremony, &self.dealings, epoch, me, round) {
+        if let Some(dealer) = first_refused(alloc, ceremony, &self.dealings, epoch, me, round)? {
             return Err(StoreError::LocalState(LocalCause::StoredDealing { epoch, dealer }));
         }
         let dealings = copy_of_epoch(alloc, &self.dealings, epoch)?;
