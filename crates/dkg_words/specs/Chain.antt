@@ -51,7 +51,8 @@ place_behind place line = counted_up (min (place + length line) (2 ^ 64 - 1))
 -- the blocks of the block lines from a place on, one line behind another, of so many lines at most
 unfoldable pub block_lines : (text : List ℕ) → (most place : ℕ) → List Block
 block_lines text zero place = []
-block_lines text (suc most) place = option_map_or (λ line. line_block place line ∷ block_lines text most (place_behind place line)) (block_line_from text place) []
+block_lines text (suc most) place =
+    option_map_or (λ line. line_block place line ∷ block_lines text most (place_behind place line)) (block_line_from text place) []
 
 abbrev pub blocks_from : (text : List ℕ) → Option ℕ → List Block
 blocks_from text (Some place) = block_lines text (length text) place
