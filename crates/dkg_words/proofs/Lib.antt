@@ -1,5 +1,10 @@
+pub mod BlockLines
+pub mod Chains
+pub mod Counted
+pub mod Counting
+pub mod Fronts
 pub mod Joined
+pub mod Marks
 pub mod Numbered
 pub mod Over
 pub mod Parts
-pub mod Some

@@ -13,4 +13,5 @@ pub mod Seek
 pub mod Shown
 pub mod Stages
 pub mod Told
+pub mod Turns
 pub mod Unsupported
