@@ -217,7 +217,7 @@ def waiting(size):
 KINDS = [
     ("repeats", repeats, 8_000, 1.05),
     ("refusals", refusals, 8_000, 1.05),
-    ("dealers", dealers, 80, 1.6),
+    ("dealers", dealers, 320, 1.05),
     ("restarts", restarts, 10, 1.05),
     ("blocks", blocks, 4_000, 1.05),
     ("mixed", mixed, 3_000, 1.05),
